@@ -1,0 +1,23 @@
+use Rattle.std.proofs.Common.{◌≡◌, ◌-◌, ◌≤◌, vec_len, IfSome, IsTrue}
+use Rattle.loft_base.specs.Outside.{IsNextPlace}
+use Rattle.loft_base.proofs.Reading.{IsFront}
+use Rattle.loft_base.proofs.whole.read_whole.Given as goal
+
+abbrev pub invariant-loop-whole : goal.invariant-loop-whole
+invariant-loop-whole g l = record {
+  asked : IsTrue (g.F.Files.may_ask l.files l.name);
+  place : IsNextPlace l.at (g.F.Files.place l.files);
+  within : l.at ≤ l.limit;
+  read : vec_len l.whole ≡ l.at;
+  buffer : vec_len l.buffer ≡ 16384;
+  whole : IfSome (g.F.Files.contents l.files l.name) (IsFront l.whole.items l.at);
+  never_falls : g.F.Files.faults l.initial.files ≤ g.F.Files.faults l.files;
+  no_fault : IsTrue (g.F.Files.never_fails l.initial.files l.name) → g.F.Files.faults l.files ≡ g.F.Files.faults l.initial.files;
+  same_contents : g.F.Files.contents l.files ≡ g.F.Files.contents l.initial.files;
+  same_names : g.F.Files.may_ask l.files ≡ g.F.Files.may_ask l.initial.files;
+  same_sure : g.F.Files.never_fails l.files ≡ g.F.Files.never_fails l.initial.files;
+  same_refused : g.F.Files.always_fails l.files ≡ g.F.Files.always_fails l.initial.files;
+}
+
+abbrev pub decreases-loop-whole : goal.decreases-loop-whole
+decreases-loop-whole g l = l.limit - l.at
