@@ -1,0 +1,10 @@
+pub mod Cuts
+pub mod Laws
+pub mod Numbers
+pub mod Pieces
+pub mod Readings
+pub mod Runs
+pub mod Signs
+pub mod Spelled
+pub mod Steps
+pub mod Words

@@ -1,0 +1,9 @@
+pub mod Bytes
+pub mod Cut
+pub mod Fits
+pub mod Front
+pub mod Scan
+pub mod Sign
+pub mod Symbol
+pub mod Tokens
+pub mod Word

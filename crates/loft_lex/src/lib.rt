@@ -1,0 +1,60 @@
+//! The tokens of a LOFT source (docs/LANGUAGE.md, "Tokens").
+#![tactic(auto)]
+
+mod front;
+mod sign;
+#[cfg(test)]
+mod tests;
+mod token;
+mod word;
+
+ghost use Rattle.std.specs.Prelude.{◌≡◌, ◌≤◌, ◌↔◌, Ok, All, IfOk, IfErr, length};
+ghost use Rattle.loft_lex.specs.Tokens.{Found, tokens, IsFirstFault, Rising};
+ghost use Rattle.loft_lex.specs.Cut.{Cut};
+ghost use Rattle.loft_lex.specs.Fits.{Fits};
+
+use crate::front::{Step, next_step};
+pub use sign::Sign;
+use std::alloc::Global;
+pub use token::{LexError, Token, TokenKind, Tokens};
+pub use word::Word;
+
+/// The most bytes that a text may have: 4 MiB.
+pub const MAX_TEXT_LEN: usize = 4194304;
+
+/// The tokens of a text.
+///
+/// # Errors
+///
+/// The first lexical fault of the text in reading order and its place; `NoMemory` where there was no
+/// memory for the tokens, whatever the text is.
+pub fn lex(alloc: Global, text: &[u8]) -> Result<Tokens, LexError>
+    requires { length text.now ≤ MAX_TEXT_LEN }
+    ensures found { IfOk result (λ ts. tokens text.now ≡ Ok ts) }
+    ensures fault { IfErr result (IsFirstFault text.now) }
+    ensures fits { IfOk result (All (Fits text.now)) }
+    ensures rising { IfOk result (Rising 0) }
+
+    // What is found is the one way to cut the text, as the page of the language says it.
+    ensures cut { (found : Found) → (tokens text.now ≡ found) ↔ Cut text.now found }
+{
+    let mut items = Vec::new(alloc);
+    let mut at = 0;
+    while at < text.len() {
+        let (_, rest) = text.split_at(at);
+        match next_step(rest) {
+            Step::Gap(more) => at += more + 1,
+            Step::Piece { kind, more } => {
+                let to = at + (more + 1);
+                items.push(Token {
+                    kind,
+                    from: at as u32,
+                    to: to as u32,
+                })?;
+                at = to;
+            }
+            Step::Fault(error) => return Err(error.behind(at as u32)),
+        }
+    }
+    Ok(Tokens::new(items))
+}
