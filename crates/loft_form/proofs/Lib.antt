@@ -1,0 +1,7 @@
+pub mod Sound
+pub mod Eats
+pub mod Clear
+pub mod Complete
+pub mod Lists
+pub mod Inside
+pub mod Stopping

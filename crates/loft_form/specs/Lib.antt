@@ -1,0 +1,4 @@
+pub mod Form
+pub mod Spells
+pub mod Reading
+pub mod Stops

@@ -1,0 +1,12 @@
+//! Where and why reading stops.
+
+/// Why a list of symbols stops to be of a form. A place is told by how many symbols are left there, so 0 is the end.
+#[derive(Clone, Copy, Debug, PartialEq, Eq)]
+pub enum Fault {
+    /// No symbol that may stand here.
+    Expected(usize),
+    /// A symbol that opens one nesting more than may be open.
+    TooDeep(usize),
+    /// A symbol that begins one thing more than the limit allows.
+    TooMany { left: usize, limit: u32 },
+}
