@@ -1,0 +1,30 @@
+-- Counting the declarations of a kind counts their names.
+use Rattle.std.proofs.Common.{◌≡◌, Bool, cond, ◌+◌, List, [], ◌∷◌, length, refl, arith}
+use Rattle.std.specs.List.{count_by}
+use Rattle.std.proofs.lemmas.List.Sums.{sum_by-cons}
+use Rattle.loft_tree.specs.declared.program.Item.{Item}
+use Rattle.loft_tree.specs.declared.program.Item.TheVariants as item
+use Rattle.loft_tree.specs.View.{source_of}
+use Rattle.loft_tree.specs.Small.{schedulers, modules, starts}
+use Rattle.loft_tree.specs.Kinds.{is_scheduler, is_module, is_start}
+
+one_more : (p : Item → Bool) (i : Item) (is : List Item) → count_by p (i ∷ is) ≡ cond (p i) 1 0 + count_by p is
+one_more p i is = sum_by-cons (λ x. cond (p x) 1 0) i is
+
+pub schedulers_counted : (items : List Item) → count_by is_scheduler items ≡ length (schedulers (source_of items))
+schedulers_counted [] = refl
+schedulers_counted (item.Scheduler name ∷ is) = omega (arith, one_more is_scheduler (item.Scheduler name) is, schedulers_counted is)
+schedulers_counted (item.Module head body ∷ is) = omega (arith, one_more is_scheduler (item.Module head body) is, schedulers_counted is)
+schedulers_counted (item.Start s m ∷ is) = omega (arith, one_more is_scheduler (item.Start s m) is, schedulers_counted is)
+
+pub modules_counted : (items : List Item) → count_by is_module items ≡ length (modules (source_of items))
+modules_counted [] = refl
+modules_counted (item.Scheduler name ∷ is) = omega (arith, one_more is_module (item.Scheduler name) is, modules_counted is)
+modules_counted (item.Module head body ∷ is) = omega (arith, one_more is_module (item.Module head body) is, modules_counted is)
+modules_counted (item.Start s m ∷ is) = omega (arith, one_more is_module (item.Start s m) is, modules_counted is)
+
+pub starts_counted : (items : List Item) → count_by is_start items ≡ length (starts (source_of items))
+starts_counted [] = refl
+starts_counted (item.Scheduler name ∷ is) = omega (arith, one_more is_start (item.Scheduler name) is, starts_counted is)
+starts_counted (item.Module head body ∷ is) = omega (arith, one_more is_start (item.Module head body) is, starts_counted is)
+starts_counted (item.Start s m ∷ is) = omega (arith, one_more is_start (item.Start s m) is, starts_counted is)
