@@ -1,0 +1,6 @@
+pub mod Lexeme
+pub mod Language
+pub mod Grammar
+pub mod Source
+pub mod View
+pub mod Parsing
