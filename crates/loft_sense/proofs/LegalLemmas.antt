@@ -1,0 +1,258 @@
+-- The histories of choices are the legal ones.
+use Rattle.std.proofs.Common.{◌≡◌, ◌<◌, Bool, true, false, List, [], ◌∷◌, ◌++◌, map, length, refl, sym, ◌∙◌, ap, subst, Option, Some, None, Ok, append_assoc, append-nil}
+use Rattle.std.proofs.lemmas.Bool.{lt-ltb, ltb-true}
+use Rattle.std.specs.Prelude.{◌↔◌, if◌then◌else◌, not, ◌&&◌, ◌||◌, nat_lt}
+use Rattle.loft_base.specs.declared.ids.SchedId.{SchedId}
+use Rattle.loft_sense.specs.declared.order.Order.{Order}
+use Rattle.loft_sense.specs.declared.order.Sent.{Sent}
+use Rattle.loft_sense.specs.declared.limits.Limits.{Limits}
+use Rattle.loft_sense.specs.Machine.{Prog, heads}
+use Rattle.loft_sense.specs.Instant.{Replayed, replay}
+use Rattle.loft_sense.specs.History.{Entry, Take, Give, Pick, Post, Client, Choice, TakeBy, GiveBy, PickBy, PostBy, ClientBy, choice_of, same_scheduler, log, in_instant, is_open, waiting, replayed, has_turn, sent_last, entry_of, with_entry, hist_on, hist}
+use Rattle.loft_sense.specs.Legal.{Actor, Scheduler, actor_of, same_actor, of, AtEach, TakesAll, TakeTurns, IsDue, IsFaithful, IsDeclared, IsLegal}
+use Rattle.loft_sense.proofs.HistoryLemmas.{is_same, same_self, take_allowed, give_allowed, from_first, same_history}
+
+same_head : {a b : Entry} {xs ys : List Entry} → a ∷ xs ≡ b ∷ ys → a ≡ b
+same_head e = cc
+
+same_rest : {a b : Entry} {xs ys : List Entry} → a ∷ xs ≡ b ∷ ys → xs ≡ ys
+same_rest e = cc
+
+none_inside : {Q : Type 0} (before : List Entry) (e : Entry) (behind : List Entry) → [] ≡ before ++ e ∷ behind → Q
+none_inside [] e behind q = cc
+none_inside (b ∷ before) e behind q = cc
+
+-- what holds at each entry holds so behind one more entry, where it holds at that
+at_each-append : (P : List Entry → Entry → Type 0) (h : List Entry) (e : Entry) → AtEach P h → P h e → AtEach P (h ++ e ∷ [])
+at_each-append P [] e each now [] f behind q = subst (P []) (same_head q) now
+at_each-append P [] e each now (b ∷ before) f behind q = none_inside before f behind (same_rest q)
+at_each-append P (d ∷ h) e each now [] f behind q = subst (P []) (same_head q) (each [] d h refl)
+at_each-append P (d ∷ h) e each now (b ∷ before) f behind q =
+    subst (λ (c : Entry). P (c ∷ before) f) (same_head q)
+    (at_each-append (λ (l : List Entry). P (d ∷ l)) h e (λ l g k r. each (d ∷ l) g k (ap (λ (m : List Entry). d ∷ m) r)) now before f behind (same_rest q))
+
+-- nothing holds of no entry
+at_each_none : (P : List Entry → Entry → Type 0) → AtEach P []
+at_each_none P before e behind q = none_inside before e behind q
+
+of-append : (a : Actor) (xs ys : List Entry) → of a (xs ++ ys) ≡ of a xs ++ of a ys
+of-append a [] ys = refl
+of-append a (e ∷ xs) ys = one (same_actor a (actor_of e)) e (of a (xs ++ ys)) (of a xs) (of a ys) (of-append a xs ys)
+  where
+    one : (b : Bool) (e : Entry) (zs xs ys : List Entry) → zs ≡ xs ++ ys → (if b then e ∷ zs else zs) ≡ (if b then e ∷ xs else xs) ++ ys
+    one true e zs xs ys q = ap (λ (l : List Entry). e ∷ l) q
+    one false e zs xs ys q = q
+
+-- a scheduler's log is that of its own entries
+log_own : (s : SchedId) (h : List Entry) → log s (of (Scheduler s) h) ≡ log s h
+log_own s [] = refl
+log_own s (Take q batch ∷ es) = taken (same_scheduler s q) refl (log_own s es)
+  where
+    taken : (b : Bool) → same_scheduler s q ≡ b → log s (of (Scheduler s) es) ≡ log s es
+        → log s (if b then Take q batch ∷ of (Scheduler s) es else of (Scheduler s) es) ≡ (if b then batch ∷ log s es else log s es)
+    taken true is e = ap (λ (c : Bool). if c then batch ∷ log s (of (Scheduler s) es) else log s (of (Scheduler s) es)) is ∙ ap (λ (l : List (List Order)). batch ∷ l) e
+    taken false is e = e
+log_own s (Give q sent ∷ es) = given (same_scheduler s q) (log_own s es)
+  where
+    given : (b : Bool) → log s (of (Scheduler s) es) ≡ log s es → log s (if b then Give q sent ∷ of (Scheduler s) es else of (Scheduler s) es) ≡ log s es
+    given true e = e
+    given false e = e
+log_own s (Pick w job ∷ es) = log_own s es
+log_own s (Post w sent ∷ es) = log_own s es
+log_own s (Client c sent ∷ es) = log_own s es
+
+replayed_own : (x : Prog) (limits : Limits) (s : SchedId) (h : List Entry) → replayed x limits s (of (Scheduler s) h) ≡ replayed x limits s h
+replayed_own x limits s h = ap (replay x limits s) (log_own s h)
+
+-- an entry of these turns comes next
+turns_taken : (b : Bool) (s q : SchedId) (batch : List Order) (es l k : List Entry) (was : Bool)
+    → ((now : Bool) → TakeTurns now l → TakeTurns (in_instant s now es) k → TakeTurns now (l ++ k))
+    → TakeTurns was (if b then Take q batch ∷ l else l) → TakeTurns (in_instant s (b || was) es) k → TakeTurns was ((if b then Take q batch ∷ l else l) ++ k)
+turns_taken true s q batch es l k true on turns next = absurd turns
+turns_taken true s q batch es l k false on turns next = on true turns next
+turns_taken false s q batch es l k was on turns next = on was turns next
+
+turns_given : (b : Bool) (s q : SchedId) (sent : List Sent) (es l k : List Entry) (was : Bool)
+    → ((now : Bool) → TakeTurns now l → TakeTurns (in_instant s now es) k → TakeTurns now (l ++ k))
+    → TakeTurns was (if b then Give q sent ∷ l else l) → TakeTurns (in_instant s (not b && was) es) k → TakeTurns was ((if b then Give q sent ∷ l else l) ++ k)
+turns_given true s q sent es l k true on turns next = on false turns next
+turns_given true s q sent es l k false on turns next = absurd turns
+turns_given false s q sent es l k was on turns next = on was turns next
+
+turns-append : (s : SchedId) (h k : List Entry) (was : Bool) → TakeTurns was (of (Scheduler s) h) → TakeTurns (in_instant s was h) k → TakeTurns was (of (Scheduler s) h ++ k)
+turns-append s [] k was turns next = next
+turns-append s (Take q batch ∷ es) k was turns next = turns_taken (same_scheduler s q) s q batch es (of (Scheduler s) es) k was (turns-append s es k) turns next
+turns-append s (Give q sent ∷ es) k was turns next = turns_given (same_scheduler s q) s q sent es (of (Scheduler s) es) k was (turns-append s es k) turns next
+turns-append s (Pick w job ∷ es) k was turns next = turns-append s es k was turns next
+turns-append s (Post w sent ∷ es) k was turns next = turns-append s es k was turns next
+turns-append s (Client c sent ∷ es) k was turns next = turns-append s es k was turns next
+
+-- what has to hold of an entry that comes next in a scheduler's own list
+record CanFollow (x : Prog) (limits : Limits) (s : SchedId) (h : List Entry) (e : Entry) : Type 0 where
+  pub turn : TakeTurns (is_open s h) (e ∷ [])
+  pub due : IsDue x limits s (of (Scheduler s) h) e
+
+faithful_more : (x : Prog) (limits : Limits) (s : SchedId) (h : List Entry) (e : Entry) → IsFaithful x limits s (of (Scheduler s) h) → CanFollow x limits s h e → IsFaithful x limits s (of (Scheduler s) h ++ e ∷ [])
+faithful_more x limits s h e f next = record {
+  turns = turns-append s h (e ∷ []) false f.turns next.turn;
+  due = at_each-append (IsDue x limits s) (of (Scheduler s) h) e f.due next.due;
+}
+
+-- another's entry leaves a scheduler's list as it was
+faithful_one : (x : Prog) (limits : Limits) (s : SchedId) (h : List Entry) (e : Entry) (own : Bool) → IsFaithful x limits s (of (Scheduler s) h) → (own ≡ true → CanFollow x limits s h e)
+    → IsFaithful x limits s (of (Scheduler s) h ++ (if own then e ∷ [] else []))
+faithful_one x limits s h e true f next = faithful_more x limits s h e f (next refl)
+faithful_one x limits s h e false f next = subst (IsFaithful x limits s) (sym (append-nil (of (Scheduler s) h))) f
+
+-- a scheduler's entry, which can follow in its own list
+faithful_next : (x : Prog) (limits : Limits) (q s : SchedId) (h : List Entry) (e : Entry) → IsFaithful x limits q (of (Scheduler q) h) → actor_of e ≡ Scheduler s → CanFollow x limits s h e
+    → IsFaithful x limits q (of (Scheduler q) (h ++ e ∷ []))
+faithful_next x limits q s h e f mine next =
+    subst (IsFaithful x limits q) (sym (of-append (Scheduler q) h (e ∷ [])))
+    (faithful_one x limits q h e (same_actor (Scheduler q) (actor_of e)) f (λ own.
+    subst (λ (r : SchedId). CanFollow x limits r h e) (sym (is_same q s (ap (same_actor (Scheduler q)) (sym mine) ∙ own))) next))
+
+-- a legal history and one more entry of a scheduler
+legal_more : (x : Prog) (limits : Limits) (s : SchedId) (h : List Entry) (e : Entry) → IsLegal x limits h → actor_of e ≡ Scheduler s → s.0 < length (heads x).schedulers
+    → TakesAll (heads x) h e → CanFollow x limits s h e → IsLegal x limits (h ++ e ∷ [])
+legal_more x limits s h e legal mine declared takes next = record {
+  declared = at_each-append (λ before f. IsDeclared (heads x) (actor_of f)) h e legal.declared (subst (IsDeclared (heads x)) (sym mine) declared);
+  routed = at_each-append (TakesAll (heads x)) h e legal.routed takes;
+  faithful = λ q. faithful_next x limits q s h e (legal.faithful q) mine next;
+}
+
+can_take : (x : Prog) (limits : Limits) (s : SchedId) (h : List Entry) → is_open s h ≡ false → has_turn limits (replayed x limits s h).machine (waiting (heads x) s h) ≡ true → CanFollow x limits s h (Take s (waiting (heads x) s h))
+can_take x limits s h shut turn = record {
+  turn = subst (λ (b : Bool). TakeTurns b (Take s (waiting (heads x) s h) ∷ [])) (sym shut) tt;
+  due = ap (λ (r : Replayed). has_turn limits r.machine (waiting (heads x) s h)) (replayed_own x limits s h) ∙ turn;
+}
+
+can_give : (x : Prog) (limits : Limits) (s : SchedId) (h : List Entry) → is_open s h ≡ true → CanFollow x limits s h (Give s (sent_last (replayed x limits s h).notes))
+can_give x limits s h opened = record {
+  turn = subst (λ (b : Bool). TakeTurns b (Give s (sent_last (replayed x limits s h).notes) ∷ [])) (sym opened) tt;
+  due = ap (λ (r : Replayed). sent_last r.notes) (sym (replayed_own x limits s h));
+}
+
+-- what an allowed choice says
+on_take : {Q : Type 0} (declared was turn : Bool) (a e : Entry) → (if declared && not was && turn then Some a else None) ≡ Some e → (declared ≡ true → was ≡ false → turn ≡ true → a ≡ e → Q) → Q
+on_take true false true a e is on = on refl refl refl cc
+on_take true false false a e is on = absurd cc
+on_take true true turn a e is on = absurd cc
+on_take false was turn a e is on = absurd cc
+
+on_give : {Q : Type 0} (declared was : Bool) (a e : Entry) → (if declared && was then Some a else None) ≡ Some e → (declared ≡ true → was ≡ true → a ≡ e → Q) → Q
+on_give true true a e is on = on refl refl cc
+on_give true false a e is on = absurd cc
+on_give false was a e is on = absurd cc
+
+-- the entry of an allowed choice keeps a history legal
+legal_step : (x : Prog) (limits : Limits) (h : List Entry) (c : Choice) (e : Entry) → IsLegal x limits h → entry_of x limits h c ≡ Some e → IsLegal x limits (h ++ e ∷ [])
+legal_step x limits h (TakeBy s) e legal is =
+    on_take (nat_lt s.0 (length (heads x).schedulers)) (is_open s h) (has_turn limits (replayed x limits s h).machine (waiting (heads x) s h)) (Take s (waiting (heads x) s h)) e is
+    (λ declared shut turn same. subst (λ (f : Entry). IsLegal x limits (h ++ f ∷ [])) same
+    (legal_more x limits s h (Take s (waiting (heads x) s h)) legal refl (ltb-true s.0 _ declared) refl (can_take x limits s h shut turn)))
+legal_step x limits h (GiveBy s) e legal is =
+    on_give (nat_lt s.0 (length (heads x).schedulers)) (is_open s h) (Give s (sent_last (replayed x limits s h).notes)) e is
+    (λ declared opened same. subst (λ (f : Entry). IsLegal x limits (h ++ f ∷ [])) same
+    (legal_more x limits s h (Give s (sent_last (replayed x limits s h).notes)) legal refl (ltb-true s.0 _ declared) tt (can_give x limits s h opened)))
+legal_step x limits h (PickBy w) e legal is = absurd cc
+legal_step x limits h (PostBy w) e legal is = absurd cc
+legal_step x limits h (ClientBy c) e legal is = absurd cc
+
+legal_on : (x : Prog) (limits : Limits) (cs : List Choice) (h g : List Entry) → IsLegal x limits h → hist_on x limits cs h ≡ Ok g → IsLegal x limits g
+legal_on x limits [] h g legal made = subst (IsLegal x limits) (same_history x limits h g made) legal
+legal_on x limits (c ∷ cs) h g legal made =
+    from_first x limits h (entry_of x limits h c) cs g made (λ e is on. legal_on x limits cs (h ++ e ∷ []) g (legal_step x limits h c e legal is) on)
+
+legal_none : (x : Prog) (limits : Limits) → IsLegal x limits []
+legal_none x limits = record {
+  declared = at_each_none _;
+  routed = at_each_none _;
+  faithful = λ s. record { turns = tt; due = at_each_none _ };
+}
+
+-- the history of a list of choices is legal
+pub made_is_legal : (x : Prog) (limits : Limits) (choices : List Choice) (h : List Entry) → hist x limits choices ≡ Ok h → IsLegal x limits h
+made_is_legal x limits choices h made = legal_on x limits choices [] h (legal_none x limits) made
+
+-- what comes next in a scheduler's own list goes on in turns
+turns_left_taken : (b : Bool) (s q : SchedId) (batch : List Order) (es l k : List Entry) (was : Bool)
+    → ((now : Bool) → TakeTurns now (l ++ k) → TakeTurns (in_instant s now es) k)
+    → TakeTurns was ((if b then Take q batch ∷ l else l) ++ k) → TakeTurns (in_instant s (b || was) es) k
+turns_left_taken true s q batch es l k true on turns = absurd turns
+turns_left_taken true s q batch es l k false on turns = on true turns
+turns_left_taken false s q batch es l k was on turns = on was turns
+
+turns_left_given : (b : Bool) (s q : SchedId) (sent : List Sent) (es l k : List Entry) (was : Bool)
+    → ((now : Bool) → TakeTurns now (l ++ k) → TakeTurns (in_instant s now es) k)
+    → TakeTurns was ((if b then Give q sent ∷ l else l) ++ k) → TakeTurns (in_instant s (not b && was) es) k
+turns_left_given true s q sent es l k true on turns = on false turns
+turns_left_given true s q sent es l k false on turns = absurd turns
+turns_left_given false s q sent es l k was on turns = on was turns
+
+turns_left : (s : SchedId) (h k : List Entry) (was : Bool) → TakeTurns was (of (Scheduler s) h ++ k) → TakeTurns (in_instant s was h) k
+turns_left s [] k was turns = turns
+turns_left s (Take q batch ∷ es) k was turns = turns_left_taken (same_scheduler s q) s q batch es (of (Scheduler s) es) k was (turns_left s es k) turns
+turns_left s (Give q sent ∷ es) k was turns = turns_left_given (same_scheduler s q) s q sent es (of (Scheduler s) es) k was (turns_left s es k) turns
+turns_left s (Pick w job ∷ es) k was turns = turns_left s es k was turns
+turns_left s (Post w sent ∷ es) k was turns = turns_left s es k was turns
+turns_left s (Client c sent ∷ es) k was turns = turns_left s es k was turns
+
+-- a scheduler's own list, parted at one of its entries
+own_parts : (s : SchedId) (before : List Entry) (e : Entry) (behind : List Entry) → actor_of e ≡ Scheduler s
+    → of (Scheduler s) (before ++ e ∷ behind) ≡ of (Scheduler s) before ++ e ∷ of (Scheduler s) behind
+own_parts s before e behind mine =
+    of-append (Scheduler s) before (e ∷ behind)
+    ∙ ap (λ (b : Bool). of (Scheduler s) before ++ (if b then e ∷ of (Scheduler s) behind else of (Scheduler s) behind)) (ap (same_actor (Scheduler s)) mine ∙ same_self s)
+
+can_follow : (x : Prog) (limits : Limits) (s : SchedId) (before : List Entry) (e : Entry) (behind : List Entry) → IsLegal x limits (before ++ e ∷ behind) → actor_of e ≡ Scheduler s
+    → TakeTurns (is_open s before) (e ∷ of (Scheduler s) behind)
+can_follow x limits s before e behind legal mine =
+    turns_left s before (e ∷ of (Scheduler s) behind) false
+    (subst (TakeTurns false) (own_parts s before e behind mine) (legal.faithful s).turns)
+
+own_due : (x : Prog) (limits : Limits) (s : SchedId) (before : List Entry) (e : Entry) (behind : List Entry) → IsLegal x limits (before ++ e ∷ behind) → actor_of e ≡ Scheduler s
+    → IsDue x limits s (of (Scheduler s) before) e
+own_due x limits s before e behind legal mine = (legal.faithful s).due (of (Scheduler s) before) e (of (Scheduler s) behind) (own_parts s before e behind mine)
+
+shut_before : (s : SchedId) (batch : List Order) (l : List Entry) (was : Bool) → TakeTurns was (Take s batch ∷ l) → was ≡ false
+shut_before s batch l true turns = absurd turns
+shut_before s batch l false turns = refl
+
+open_before : (s : SchedId) (sent : List Sent) (l : List Entry) (was : Bool) → TakeTurns was (Give s sent ∷ l) → was ≡ true
+open_before s sent l true turns = refl
+open_before s sent l false turns = absurd turns
+
+-- each entry of a legal history is that of its choice
+legal_entry : (x : Prog) (limits : Limits) (before : List Entry) (e : Entry) (behind : List Entry) → IsLegal x limits (before ++ e ∷ behind) → entry_of x limits before (choice_of e) ≡ Some e
+legal_entry x limits before (Take s batch) behind legal =
+    let e : Entry = Take s batch in
+    let all : batch ≡ waiting (heads x) s before = legal.routed before e behind refl in
+    let turn : has_turn limits (replayed x limits s before).machine (waiting (heads x) s before) ≡ true =
+    ap (has_turn limits (replayed x limits s before).machine) (sym all)
+    ∙ (ap (λ (r : Replayed). has_turn limits r.machine batch) (sym (replayed_own x limits s before)) ∙ own_due x limits s before e behind legal refl) in
+    take_allowed _ _ _ (Take s (waiting (heads x) s before)) (lt-ltb s.0 _ (legal.declared before e behind refl))
+    (shut_before s batch (of (Scheduler s) behind) (is_open s before) (can_follow x limits s before e behind legal refl)) turn
+    ∙ ap (λ (b : List Order). Some (Take s b)) (sym all)
+legal_entry x limits before (Give s sent) behind legal =
+    let e : Entry = Give s sent in
+    give_allowed _ _ (Give s (sent_last (replayed x limits s before).notes)) (lt-ltb s.0 _ (legal.declared before e behind refl))
+    (open_before s sent (of (Scheduler s) behind) (is_open s before) (can_follow x limits s before e behind legal refl))
+    ∙ ap (λ (ms : List Sent). Some (Give s ms)) (ap (λ (r : Replayed). sent_last r.notes) (sym (replayed_own x limits s before)) ∙ sym (own_due x limits s before e behind legal refl))
+legal_entry x limits before (Pick w job) behind legal = absurd (legal.declared before (Pick w job) behind refl)
+legal_entry x limits before (Post w sent) behind legal = absurd (legal.declared before (Post w sent) behind refl)
+legal_entry x limits before (Client c sent) behind legal = absurd (legal.declared before (Client c sent) behind refl)
+
+made_on : (x : Prog) (limits : Limits) (before behind : List Entry) → IsLegal x limits (before ++ behind) → hist_on x limits (map choice_of behind) before ≡ Ok (before ++ behind)
+made_on x limits before [] legal = ap (λ (h : List Entry). Ok h) (sym (append-nil before))
+made_on x limits before (e ∷ behind) legal =
+    ap (λ (o : Option Entry). with_entry before o (hist_on x limits (map choice_of behind))) (legal_entry x limits before e behind legal)
+    ∙ (made_on x limits (before ++ e ∷ []) behind (subst (IsLegal x limits) (sym (append_assoc before (e ∷ []) behind)) legal)
+    ∙ ap (λ (h : List Entry). Ok h) (append_assoc before (e ∷ []) behind))
+
+-- a legal history is that of its choices
+pub legal_is_made : (x : Prog) (limits : Limits) (h : List Entry) → IsLegal x limits h → hist x limits (map choice_of h) ≡ Ok h
+legal_is_made x limits h legal = made_on x limits [] h legal
+
+pub made_exactly : (x : Prog) (limits : Limits) (h : List Entry) → IsLegal x limits h ↔ (hist x limits (map choice_of h) ≡ Ok h)
+made_exactly x limits h = (legal_is_made x limits h, made_is_legal x limits (map choice_of h) h)

@@ -1,0 +1,5 @@
+pub mod StepLemmas
+pub mod PassLemmas
+pub mod QuietLemmas
+pub mod HistoryLemmas
+pub mod LegalLemmas

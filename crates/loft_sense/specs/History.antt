@@ -1,0 +1,157 @@
+-- Histories: the entries of all actors, in the order in which they were made (docs/SEMANTICS.md, "History").
+use Rattle.std.specs.Prelude.{ℕ, ◌+◌, ◌<◌, nat_lt, ◌==◌, Bool, true, false, ◌||◌, ◌&&◌, not, List, [], ◌∷◌, ◌++◌, length, Option, Some, None, Result, Ok, Err, if◌then◌else◌, IsTrue}
+use Rattle.loft_base.specs.declared.ids.SchedId.{SchedId}
+use Rattle.loft_base.specs.declared.ids.Maker.TheVariants.{Source}
+use Rattle.loft_tree.specs.declared.heads.Start.{Start}
+use Rattle.loft_tree.specs.declared.heads.Heads.{Heads}
+use Rattle.loft_sense.specs.declared.thread.Thread.{Thread}
+use Rattle.loft_sense.specs.declared.order.Order.{Order}
+use Rattle.loft_sense.specs.declared.order.Order.TheVariants.{Create}
+use Rattle.loft_sense.specs.declared.order.To.{To}
+use Rattle.loft_sense.specs.declared.order.To.TheVariants.{Sched, Others, All, Workers}
+use Rattle.loft_sense.specs.declared.order.Sent.{Sent}
+use Rattle.loft_sense.specs.declared.note.InstantNote.{InstantNote}
+use Rattle.loft_sense.specs.declared.limits.Limits.{Limits}
+use Rattle.loft_sense.specs.Machine.{Prog, heads, Mach}
+use Rattle.loft_sense.specs.Instant.{Replayed, replay}
+use Rattle.loft_sense.specs.Rest.{is_resting, is_spent}
+
+-- one event of a run
+pub data Entry : Type 0 where
+  -- a scheduler takes all the orders that wait for it
+  Take : (s : SchedId) (batch : List Order) → Entry
+  -- all that a scheduler's instant sent is accepted
+  Give : (s : SchedId) (sent : List Sent) → Entry
+  -- a worker takes the unlinked thread that has waited longest
+  Pick : (w : ℕ) (job : Thread) → Entry
+  -- one order of a worker is accepted
+  Post : (w : ℕ) (sent : Sent) → Entry
+  -- one order of a client is accepted
+  Client : (c : ℕ) (sent : Sent) → Entry
+
+-- who makes the next entry, and of which kind
+pub data Choice : Type 0 where
+  TakeBy : (s : SchedId) → Choice
+  GiveBy : (s : SchedId) → Choice
+  PickBy : (w : ℕ) → Choice
+  PostBy : (w : ℕ) → Choice
+  ClientBy : (c : ℕ) → Choice
+
+abbrev pub choice_of : Entry → Choice
+choice_of (Take s batch) = TakeBy s
+choice_of (Give s sent) = GiveBy s
+choice_of (Pick w job) = PickBy w
+choice_of (Post w sent) = PostBy w
+choice_of (Client c sent) = ClientBy c
+
+abbrev pub same_scheduler : SchedId → SchedId → Bool
+same_scheduler a b = a.0 == b.0
+
+-- the batches that a scheduler took, in order
+abbrev pub log : SchedId → List Entry → List (List Order)
+log s [] = []
+log s (Take q batch ∷ es) = if same_scheduler s q then batch ∷ log s es else log s es
+log s (Give q sent ∷ es) = log s es
+log s (Pick w job ∷ es) = log s es
+log s (Post w sent ∷ es) = log s es
+log s (Client c sent ∷ es) = log s es
+
+-- whether a scheduler is in an instant behind these entries, where it was or wasn't before them
+abbrev pub in_instant : SchedId → Bool → List Entry → Bool
+in_instant s was [] = was
+in_instant s was (Take q batch ∷ es) = in_instant s (same_scheduler s q || was) es
+in_instant s was (Give q sent ∷ es) = in_instant s (not (same_scheduler s q) && was) es
+in_instant s was (Pick w job ∷ es) = in_instant s was es
+in_instant s was (Post w sent ∷ es) = in_instant s was es
+in_instant s was (Client c sent ∷ es) = in_instant s was es
+
+-- the scheduler's last entry is a Take
+abbrev pub is_open : SchedId → List Entry → Bool
+is_open s h = in_instant s false h
+
+abbrev pub is_addressed : SchedId → To → Bool
+is_addressed s (Sched q) = same_scheduler s q
+is_addressed s (Others q) = not (same_scheduler s q)
+is_addressed s All = true
+is_addressed s Workers = false
+
+-- the orders that are addressed to a scheduler
+abbrev pub orders_to : SchedId → List Sent → List Order
+orders_to s [] = []
+orders_to s (m ∷ ms) = if is_addressed s m.to then m.order ∷ orders_to s ms else orders_to s ms
+
+-- the creates of a scheduler's starts, where the first start is number k
+abbrev pub starts_from : SchedId → ℕ → List Start → List Order
+starts_from s k [] = []
+starts_from s k (t ∷ ts) =
+    if same_scheduler s t.scheduler
+    then Create (record { maker = Source; seq = k }) t.module [] ∷ starts_from s (k + 1) ts
+    else starts_from s (k + 1) ts
+
+abbrev pub starts_of : Heads → SchedId → List Order
+starts_of h s = starts_from s 0 h.starts
+
+-- what waits for a scheduler behind these entries, where this waited before them: its Take leaves nothing, every other entry adds what it sends
+abbrev pub waiting_after : SchedId → List Order → List Entry → List Order
+waiting_after s before [] = before
+waiting_after s before (Take q batch ∷ es) = waiting_after s (if same_scheduler s q then [] else before) es
+waiting_after s before (Give q sent ∷ es) = waiting_after s (before ++ orders_to s sent) es
+waiting_after s before (Pick w job ∷ es) = waiting_after s before es
+waiting_after s before (Post w sent ∷ es) = waiting_after s (before ++ orders_to s (sent ∷ [])) es
+waiting_after s before (Client c sent ∷ es) = waiting_after s (before ++ orders_to s (sent ∷ [])) es
+
+-- what waits for a scheduler: at first the starts of the source
+abbrev pub waiting : Heads → SchedId → List Entry → List Order
+waiting h s es = waiting_after s (starts_of h s) es
+
+-- a scheduler's machine and notes, by its own log
+abbrev pub replayed : Prog → Limits → SchedId → List Entry → Replayed
+replayed x limits s h = replay x limits s (log s h)
+
+abbrev pub is_empty : {A : Type 0} → List A → Bool
+is_empty xs = length xs == 0
+
+-- a scheduler makes no turn where its bounds are used up, nor where it rests and nothing waits for it
+abbrev pub has_turn : Limits → Mach → List Order → Bool
+has_turn limits m orders = not (is_spent limits m) && not (is_resting m && is_empty orders)
+
+abbrev pub sent_last : List InstantNote → List Sent
+sent_last [] = []
+sent_last (n ∷ []) = n.sent
+sent_last (n ∷ m ∷ ns) = sent_last (m ∷ ns)
+
+-- the entry that a choice makes behind a history, where it is allowed. A program of schedulers, modules and starts has no worker's and no client's entries.
+abbrev pub entry_of : Prog → Limits → List Entry → Choice → Option Entry
+entry_of x limits h (TakeBy s) =
+    if nat_lt s.0 (length (heads x).schedulers) && not (is_open s h) && has_turn limits (replayed x limits s h).machine (waiting (heads x) s h)
+    then Some (Take s (waiting (heads x) s h))
+    else None
+entry_of x limits h (GiveBy s) =
+    if nat_lt s.0 (length (heads x).schedulers) && is_open s h
+    then Some (Give s (sent_last (replayed x limits s h).notes))
+    else None
+entry_of x limits h (PickBy w) = None
+entry_of x limits h (PostBy w) = None
+entry_of x limits h (ClientBy c) = None
+
+-- the history goes on by this entry, or the choice behind it isn't allowed: its number is told, from 1
+abbrev pub with_entry : List Entry → Option Entry → (List Entry → Result (List Entry) ℕ) → Result (List Entry) ℕ
+with_entry h None go_on = Err (length h + 1)
+with_entry h (Some e) go_on = go_on (h ++ e ∷ [])
+
+-- the history that these choices make behind h
+abbrev pub hist_on : Prog → Limits → List Choice → List Entry → Result (List Entry) ℕ
+hist_on x limits [] h = Ok h
+hist_on x limits (c ∷ cs) h = with_entry h (entry_of x limits h c) (hist_on x limits cs)
+
+-- the history of a list of choices, or the number of the first that isn't allowed
+abbrev pub hist : Prog → Limits → List Choice → Result (List Entry) ℕ
+hist x limits choices = hist_on x limits choices []
+
+-- a scheduler has no turn to make
+abbrev pub has_finished : Prog → Limits → List Entry → SchedId → Bool
+has_finished x limits h s = not (is_open s h) && not (has_turn limits (replayed x limits s h).machine (waiting (heads x) s h))
+
+-- nothing is left to do, or the bounds are used up
+abbrev pub HasEnded : Prog → Limits → List Entry → Type 0
+HasEnded x limits h = (s : SchedId) → s.0 < length (heads x).schedulers → IsTrue (has_finished x limits h s)

@@ -1,0 +1,92 @@
+-- Legal histories: what each actor has done, apart from how a list of choices makes a history.
+use Rattle.std.specs.Prelude.{◌≡◌, ℕ, ◌<◌, ◌==◌, Bool, true, false, List, [], ◌∷◌, ◌++◌, length, if◌then◌else◌, IsTrue}
+use Rattle.loft_base.specs.declared.ids.SchedId.{SchedId}
+use Rattle.loft_tree.specs.declared.heads.Heads.{Heads}
+use Rattle.loft_sense.specs.declared.limits.Limits.{Limits}
+use Rattle.loft_sense.specs.Machine.{Prog, heads}
+use Rattle.loft_sense.specs.History.{Entry, Take, Give, Pick, Post, Client, same_scheduler, waiting, replayed, has_turn, sent_last}
+
+-- who makes entries
+pub data Actor : Type 0 where
+  Scheduler : (s : SchedId) → Actor
+  Worker : (w : ℕ) → Actor
+  Outsider : (c : ℕ) → Actor
+
+abbrev pub actor_of : Entry → Actor
+actor_of (Take s batch) = Scheduler s
+actor_of (Give s sent) = Scheduler s
+actor_of (Pick w job) = Worker w
+actor_of (Post w sent) = Worker w
+actor_of (Client c sent) = Outsider c
+
+abbrev pub same_actor : Actor → Actor → Bool
+same_actor (Scheduler a) (Scheduler b) = same_scheduler a b
+same_actor (Scheduler a) (Worker b) = false
+same_actor (Scheduler a) (Outsider b) = false
+same_actor (Worker a) (Scheduler b) = false
+same_actor (Worker a) (Worker b) = a == b
+same_actor (Worker a) (Outsider b) = false
+same_actor (Outsider a) (Scheduler b) = false
+same_actor (Outsider a) (Worker b) = false
+same_actor (Outsider a) (Outsider b) = a == b
+
+-- the entries of an actor, in order
+abbrev pub of : Actor → List Entry → List Entry
+of a [] = []
+of a (e ∷ es) = if same_actor a (actor_of e) then e ∷ of a es else of a es
+
+-- P holds of each entry and of what stands before it
+abbrev pub AtEach : (List Entry → Entry → Type 0) → List Entry → Type 0
+AtEach P es = (before : List Entry) (e : Entry) (behind : List Entry) → es ≡ before ++ e ∷ behind → P before e
+
+-- a Take takes all that waits for its scheduler
+abbrev pub TakesAll : Heads → List Entry → Entry → Type 0
+TakesAll h before (Take s batch) = batch ≡ waiting h s before
+TakesAll h before (Give s sent) = Unit {0}
+TakesAll h before (Pick w job) = Unit {0}
+TakesAll h before (Post w sent) = Unit {0}
+TakesAll h before (Client c sent) = Unit {0}
+
+-- each batch is what waited in the history before it
+abbrev pub IsRouted : Heads → List Entry → Type 0
+IsRouted h es = AtEach (TakesAll h) es
+
+-- Takes and Gives take turns, and the first is a Give where an instant is running
+abbrev pub TakeTurns : Bool → List Entry → Type 0
+TakeTurns running [] = Unit {0}
+TakeTurns false (Take s batch ∷ es) = TakeTurns true es
+TakeTurns true (Take s batch ∷ es) = ⊥
+TakeTurns false (Give s sent ∷ es) = ⊥
+TakeTurns true (Give s sent ∷ es) = TakeTurns false es
+TakeTurns running (Pick w job ∷ es) = ⊥
+TakeTurns running (Post w sent ∷ es) = ⊥
+TakeTurns running (Client c sent ∷ es) = ⊥
+
+-- a Take is one for which the scheduler has a turn, a Give gives what its last instant sent, both by its instants on the batches so far
+abbrev pub IsDue : Prog → Limits → SchedId → List Entry → Entry → Type 0
+IsDue x limits s before (Take q batch) = IsTrue (has_turn limits (replayed x limits s before).machine batch)
+IsDue x limits s before (Give q sent) = sent ≡ sent_last (replayed x limits s before).notes
+IsDue x limits s before (Pick w job) = ⊥
+IsDue x limits s before (Post w sent) = ⊥
+IsDue x limits s before (Client c sent) = ⊥
+
+-- a scheduler's own entries are those that it has to make
+pub record IsFaithful (x : Prog) (limits : Limits) (s : SchedId) (list : List Entry) : Type 0 where
+  pub turns : TakeTurns false list
+  pub due : AtEach (IsDue x limits s) list
+
+-- The actors of a program of schedulers, modules and starts are its schedulers.
+abbrev pub IsDeclared : Heads → Actor → Type 0
+IsDeclared h (Scheduler s) = s.0 < length h.schedulers
+IsDeclared h (Worker w) = ⊥
+IsDeclared h (Outsider c) = ⊥
+
+-- the actor of each entry is one of the program's
+abbrev pub HasDeclaredActors : Heads → List Entry → Type 0
+HasDeclaredActors h es = AtEach (λ before e. IsDeclared h (actor_of e)) es
+
+-- the program's actors made these entries, each batch is what waited, and each scheduler's own entries are those that it has to make
+pub record IsLegal (x : Prog) (limits : Limits) (es : List Entry) : Type 0 where
+  pub declared : HasDeclaredActors (heads x) es
+  pub routed : IsRouted (heads x) es
+  pub faithful : (s : SchedId) → IsFaithful x limits s (of (Scheduler s) es)

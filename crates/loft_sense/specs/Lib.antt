@@ -1,0 +1,14 @@
+pub mod Machine
+pub mod Board
+pub mod Run
+pub mod Tree
+pub mod CanGo
+pub mod Passes
+pub mod Apply
+pub mod Instant
+pub mod Rest
+pub mod Fits
+pub mod History
+pub mod Legal
+pub mod Text
+pub mod Report

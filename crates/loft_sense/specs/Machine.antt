@@ -1,0 +1,31 @@
+-- Programs, and one scheduler between two instants (docs/SEMANTICS.md, "Instant").
+use Rattle.std.specs.Prelude.{ℕ, ℤ, List, []}
+use Rattle.loft_base.specs.declared.ids.SchedId.{SchedId}
+use Rattle.loft_base.specs.declared.ids.ThreadId.{ThreadId}
+use Rattle.loft_tree.specs.declared.heads.Heads.{Heads}
+use Rattle.loft_tree.specs.Resolved.{Resolved}
+use Rattle.loft_sense.specs.declared.note.Standing.{Standing}
+
+-- a program: a source tree
+pub data Prog : Type 0 where
+  Tree : (p : Resolved) → Prog
+
+abbrev pub heads : Prog → Heads
+heads (Tree p) = p.heads
+
+-- a scheduler between two instants
+pub record Mach : Type 0 where
+  pub s : SchedId
+  -- in the order in which they were linked
+  pub linked : List Standing
+  pub shared : List ℤ
+  -- the threads that it knows as ended
+  pub known : List ThreadId
+  -- the creates that it has sent
+  pub made : ℕ
+  -- the instants that it has made
+  pub number : ℕ
+
+-- a scheduler that has made no instant
+abbrev pub empty : SchedId → Mach
+empty s = record { s = s; linked = []; shared = []; known = []; made = 0; number = 0 }

@@ -1,0 +1,62 @@
+-- The passes of an instant: all linked threads in order, again and again, until nobody runs (docs/SEMANTICS.md, "Passes").
+use Rattle.std.specs.Prelude.{ℕ, zero, suc, ◌+◌, Bool, true, false, ◌||◌, List, [], ◌∷◌, ◌++◌, if◌then◌else◌}
+use Rattle.loft_sense.specs.declared.thread.Thread.{Thread}
+use Rattle.loft_sense.specs.Machine.{Prog, Tree}
+use Rattle.loft_sense.specs.Run.{Around, Outcome, Held, Ended, go}
+use Rattle.loft_sense.specs.Tree.{tree}
+use Rattle.loft_sense.specs.CanGo.{can_go}
+
+-- a linked thread in an instant: whether it is suspended, whether it has run in this instant, and how many steps it may still make in it
+pub record Runner : Type 0 where
+  pub thread : Thread
+  pub suspended : Bool
+  pub ran : Bool
+  pub left : ℕ
+
+-- the threads as a walk over them leaves them, what it leaves around them, and whether it ran anybody
+pub record Walk : Type 0 where
+  pub runners : List Runner
+  pub around : Around
+  pub ran : Bool
+
+-- one run of a thread of the program
+abbrev pub run_of : Prog → Thread → Around → ℕ → Outcome
+run_of (Tree p) t around left = go (tree p) t around left
+
+-- a thread that ended isn't linked any more
+abbrev pub runners_after : Bool → Outcome → List Runner
+runners_after suspended (Held t around left) = record { thread = t; suspended = suspended; ran = true; left = left } ∷ []
+runners_after suspended (Ended end around) = []
+
+abbrev pub around_after : Outcome → Around
+around_after (Held t around left) = around
+around_after (Ended end around) = around
+
+-- a walk, with what its first step leaves
+abbrev pub walked : List Runner → Bool → Walk → Walk
+walked front ran w = record { runners = front ++ w.runners; around = w.around; ran = ran || w.ran }
+
+-- one pass: each thread that can go as it is reached runs
+abbrev pub pass : Prog → List Runner → Around → Walk
+pass x [] around = record { runners = []; around = around; ran = false }
+pass x (r ∷ rs) around =
+    let outcome = run_of x r.thread around r.left in
+    if can_go r.thread.wait r.suspended around.board around.known
+    then walked (runners_after r.suspended outcome) true (pass x rs (around_after outcome))
+    else walked (r ∷ []) false (pass x rs around)
+
+-- passes until one runs nobody, and at most so many more than one
+abbrev pub passes_within : ℕ → Prog → List Runner → Around → Walk
+passes_within zero x rs around = pass x rs around
+passes_within (suc n) x rs around =
+    let w = pass x rs around in
+    if w.ran then passes_within n x w.runners w.around else w
+
+-- the steps that the threads may still make, and one more each
+abbrev pub steps_left : List Runner → ℕ
+steps_left [] = 0
+steps_left (r ∷ rs) = r.left + 1 + steps_left rs
+
+-- Passes until one runs nobody. Each that runs a thread takes one of its steps or ends it, so there are no more than this.
+unfoldable pub passes : Prog → List Runner → Around → Walk
+passes x rs around = passes_within (steps_left rs) x rs around

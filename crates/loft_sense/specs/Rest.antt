@@ -1,0 +1,35 @@
+-- Schedulers that rest, and that have used their bounds up (docs/SEMANTICS.md, "Rest").
+use Rattle.std.specs.Prelude.{nat_le, ℤ, Bool, true, false, ◌||◌, ◌&&◌, not, List, [], ◌∷◌, Option, Some, None}
+use Rattle.loft_base.specs.declared.ids.ThreadId.{ThreadId}
+use Rattle.loft_sense.specs.declared.thread.Wait.{Wait}
+use Rattle.loft_sense.specs.declared.thread.Wait.TheVariants.{New, Coop, Events, Index, Next, Join, Halt}
+use Rattle.loft_sense.specs.declared.note.Standing.{Standing}
+use Rattle.loft_sense.specs.declared.limits.Limits.{Limits}
+use Rattle.loft_sense.specs.Machine.{Mach}
+use Rattle.loft_sense.specs.CanGo.{is_known}
+
+abbrev pub is_none_left : Option ℤ → Bool
+is_none_left None = true
+is_none_left (Some n) = false
+
+-- between two instants no event is present
+abbrev pub waits_for_ever : Wait → List ThreadId → Bool
+waits_for_ever New known = false
+waits_for_ever (Coop left) known = false
+waits_for_ever (Events events left) known = is_none_left left
+waits_for_ever (Index event at) known = false
+waits_for_ever Next known = false
+waits_for_ever (Join thread left) known = is_none_left left && not (is_known thread known)
+waits_for_ever Halt known = true
+
+abbrev pub all_rest : List Standing → List ThreadId → Bool
+all_rest [] known = true
+all_rest (s ∷ ss) known = (s.suspended || waits_for_ever s.thread.wait known) && all_rest ss known
+
+-- each linked thread is suspended, or waits without a number for what isn't there
+abbrev pub is_resting : Mach → Bool
+is_resting m = all_rest m.linked m.known
+
+-- it has made all its instants
+abbrev pub is_spent : Limits → Mach → Bool
+is_spent limits m = nat_le limits.instants m.number

@@ -1,0 +1,20 @@
+//! Bounds of a run.
+
+/// The bounds of every scheduler and worker.
+#[derive(Clone, Copy, Debug, PartialEq, Eq)]
+pub struct Limits {
+    /// How many instants a scheduler makes at most, 1 to 1,000,000.
+    pub instants: u64,
+    /// How many steps a thread makes at most in an instant, 1 to 1,000,000.
+    pub budget: u64,
+    /// How many steps an unlinked block makes at most, 1 to 100,000,000.
+    pub block: u64,
+}
+
+/// The options of a run.
+#[derive(Clone, Copy, Debug, PartialEq, Eq)]
+pub struct RunOptions {
+    pub limits: Limits,
+    /// How many worker threads there are, 1 to 16.
+    pub workers: u32,
+}

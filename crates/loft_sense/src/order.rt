@@ -1,0 +1,88 @@
+//! Orders to schedulers, and how threads end.
+
+use crate::thread::Thread;
+use loft_base::{EventId, ModuleId, SchedId, Sequence, ThreadId, Values};
+
+/// Orders, in the order in which they were accepted.
+pub type Orders = Sequence<Order>;
+
+/// Orders with their addresses, in the order in which they were made.
+pub type Sents = Sequence<Sent>;
+
+/// What became of each order of a batch.
+pub type Marks = Sequence<Mark>;
+
+/// A place in a program: a module, and the number of a stop in it.
+#[derive(Clone, Copy, Debug, PartialEq, Eq)]
+pub struct At {
+    pub module: ModuleId,
+    pub stop: u32,
+}
+
+/// How a thread ends.
+#[derive(Clone, Copy, Debug, PartialEq, Eq)]
+pub enum End {
+    /// At the end of its module.
+    Done,
+    /// By a `stop`.
+    Stopped,
+    /// As it was created, where too many threads were linked.
+    Full,
+    /// By a division by zero.
+    Div(At),
+    /// By one frame too many.
+    Deep(At),
+    /// By one step too many in an instant.
+    Over(At),
+    /// By one entry too many in an instant.
+    Flood(At),
+}
+
+/// What a scheduler is asked to do as its next instant begins.
+#[derive(Debug, Drop)]
+pub enum Order {
+    Create {
+        thread: ThreadId,
+        module: ModuleId,
+        args: Values,
+    },
+    Arrive(Thread),
+    Stop(ThreadId),
+    Suspend(ThreadId),
+    Resume(ThreadId),
+    Broadcast {
+        event: EventId,
+        value: Option<i64>,
+    },
+    Ended {
+        thread: ThreadId,
+        end: End,
+    },
+}
+
+/// To whom an order goes.
+#[derive(Clone, Copy, Debug, PartialEq, Eq)]
+pub enum To {
+    Sched(SchedId),
+    /// Each scheduler but this one.
+    Others(SchedId),
+    All,
+    Workers,
+}
+
+/// An order and its address.
+#[derive(Debug, Drop)]
+pub struct Sent {
+    pub to: To,
+    pub order: Order,
+}
+
+/// What became of an order.
+#[derive(Clone, Copy, Debug, PartialEq, Eq)]
+pub enum Mark {
+    Done,
+    /// Its thread was not linked here.
+    Void,
+    /// Too many threads were linked.
+    Full,
+}
