@@ -1,0 +1,44 @@
+//! Runs programs of fair threads, and tells what they did.
+#![tactic(auto)]
+
+mod app;
+mod engine;
+mod number;
+mod report;
+mod run;
+#[cfg(test)]
+mod tests;
+mod turn;
+mod words;
+
+use app::{Status, loft_main};
+use loft_base::{HostFiles, HostSink, OpenGate};
+use std::process::ExitCode;
+use std::rt::Env;
+use std::{env, io};
+
+/// The words behind the program's name.
+fn arguments<R: Env + AllocGlobal>(rt: &R) -> io::Result<Vec<String>> {
+    let mut words = Vec::new(rt.alloc());
+    for word in env::args(rt)?.skip(1) {
+        words.push(word)?;
+    }
+    Ok(words)
+}
+
+fn main(rt: HostRuntime) -> ExitCode {
+    let Ok(words) = arguments(&rt) else {
+        return ExitCode::from(Status::NoMemory.code());
+    };
+    let mut files = HostFiles::new(&rt);
+    let mut sink = HostSink::new(&rt);
+    let status = loft_main(
+        &rt,
+        rt.alloc(),
+        words.as_slice(),
+        &mut files,
+        &mut sink,
+        &OpenGate,
+    );
+    ExitCode::from(status.code())
+}

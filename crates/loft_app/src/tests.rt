@@ -1,0 +1,216 @@
+ghost use Rattle.std.specs.Prelude.{◌≡◌, ◌+◌, ℕ, List, Option, None, true, Bool};
+
+use crate::app::loft_main;
+use loft_base::{Failed, Files, MemFiles, MemSink, OpenGate, Sink};
+use std::alloc::{AllocError, Global};
+use std::sync::Wait;
+use std::test::Fail;
+use std::thread::Threads;
+
+/// The words of a command.
+fn words(alloc: Global, words: &[&str]) -> Result<Vec<String>, AllocError> {
+    let mut list = Vec::new(alloc);
+    for word in words {
+        list.push(String::from_str(alloc, word)?)?;
+    }
+    Ok(list)
+}
+
+/// What the program answers to some words, where the file `a` has these contents.
+fn answer<R: Threads + Wait + Sync + AllocGlobal>(
+    rt: &R,
+    asked: &[&str],
+    contents: &[u8],
+) -> Result<(u8, Vec<u8>), Fail> {
+    let asked = words(rt.alloc(), asked)?;
+    let mut files = MemFiles::new(rt.alloc())?;
+    files.add(rt.alloc(), "a", contents)?;
+    let mut sink = MemSink::new(rt.alloc(), 65536)?;
+    let status = loft_main(
+        rt,
+        rt.alloc(),
+        asked.as_slice(),
+        &mut files,
+        &mut sink,
+        &OpenGate,
+    );
+    Ok((status.code(), Vec::from_slice(rt.alloc(), sink.bytes())?))
+}
+
+/// Words that are no command.
+#[test]
+fn refuses_words(rt: HostRuntime) -> Result<(), Fail> {
+    let cases: [&[&str]; 7] = [
+        &[],
+        &["run"],
+        &["run", ""],
+        &["run", "-"],
+        &["--help"],
+        &["run", "a", "a"],
+        &["check", "a"],
+    ];
+    for asked in cases {
+        let (status, text) = answer(&rt, asked, b"scheduler A;")?;
+        assert_eq!(rt; status, 2, "of {asked:?}");
+        assert_eq!(rt; text.as_slice(), b"loft: usage\n".as_slice());
+    }
+    Ok(())
+}
+
+/// Texts that no small program reads.
+#[test]
+fn refuses_sources(rt: HostRuntime) -> Result<(), Fail> {
+    let cases: [&[u8]; 12] = [
+        b"",
+        b"// nothing",
+        b"scheduler A; scheduler B;",
+        b"event e in A; scheduler A;",
+        b"scheduler A; module m(int x) in A end",
+        b"scheduler A; module m() in A local int x; end",
+        b"scheduler A; module m() in A to unlinked end",
+        b"scheduler A; module m() in A print 1; end",
+        b"scheduler A; module m() in A cooperate 2; end",
+        b"scheduler A; module A() in A end",
+        b"scheduler A; start A.m();",
+        b"scheduler A; #",
+    ];
+    for contents in cases {
+        let (status, text) = answer(&rt, &["run", "a"], contents)?;
+        assert_eq!(rt; status, 3, "of {contents:?}");
+        assert_eq!(rt; text.as_slice(), b"source: not built\n".as_slice());
+    }
+    Ok(())
+}
+
+/// A text of this length.
+fn blanks(alloc: Global, length: usize) -> Result<Vec<u8>, AllocError> {
+    let mut text = Vec::new(alloc);
+    text.resize(length, b' ')?;
+    Ok(text)
+}
+
+/// A source of more than 4 MiB is too long, whatever it says.
+#[test]
+fn refuses_a_long_source(rt: HostRuntime) -> Result<(), Fail> {
+    let contents = blanks(rt.alloc(), 4_194_305)?;
+    let (status, text) = answer(&rt, &["run", "a"], contents.as_slice())?;
+    assert_eq!(rt; status, 3);
+    assert_eq!(rt; text.as_slice(), b"source: too long\n".as_slice());
+    Ok(())
+}
+
+/// A module with this many `cooperate;`.
+fn cooperations(alloc: Global, count: usize) -> Result<Vec<u8>, AllocError> {
+    let mut text = Vec::from_slice(alloc, b"scheduler A; module m() in A ")?;
+    for _ in 0..count {
+        text.extend_from_slice(b"cooperate; ")?;
+    }
+    text.extend_from_slice(b"end start A.m();")?;
+    Ok(text)
+}
+
+/// A thread that goes on for longer than the bound is still linked in the end.
+#[test]
+fn stops_after_instant_100(rt: HostRuntime) -> Result<(), Fail> {
+    let contents = cooperations(rt.alloc(), 150)?;
+    let (status, text) = answer(&rt, &["run", "a"], contents.as_slice())?;
+    assert_eq!(rt; status, 0);
+    let end =
+        b"instant 100\nat start.0 0 0 coop:0 m:100[]()\nstate 1\nlinked start.0 0 0 coop:0 m:100[]()\nleft 0\nend\n";
+    assert!(rt; text.as_slice().ends_with(end));
+    Ok(())
+}
+
+/// Files of which every part fails.
+#[derive(Drop)]
+struct BrokenFiles {
+    faults: u64,
+}
+
+impl Files for BrokenFiles {
+    ghost contents = { λ _ _. None };
+
+    ghost faults = { λ files. files.faults };
+
+    ghost may_ask = { λ _ _. true };
+
+    ghost place = { λ _. 0 };
+
+    fn part(&mut self, _name: &str, _from: u64, _into: &mut [u8]) -> Result<usize, Failed> {
+        self.faults = self.faults.saturating_add(1);
+        Err(Failed)
+    }
+}
+
+/// A file that can't be read is told in one line.
+#[test]
+fn tells_a_file_fault(rt: HostRuntime) -> Result<(), Fail> {
+    let asked = words(rt.alloc(), &["run", "a"])?;
+    let mut files = BrokenFiles { faults: 0 };
+    let mut sink = MemSink::new(rt.alloc(), 4096)?;
+    let status = loft_main(
+        &rt,
+        rt.alloc(),
+        asked.as_slice(),
+        &mut files,
+        &mut sink,
+        &OpenGate,
+    );
+    assert_eq!(rt; status.code(), 5);
+    assert_eq!(rt; sink.bytes(), b"files: fault\n".as_slice());
+    Ok(())
+}
+
+/// A sink that takes so many pieces and then fails.
+#[derive(Drop)]
+struct FailingSink {
+    bytes: Vec<u8>,
+    left: u64,
+    faults: u64,
+}
+
+impl Sink for FailingSink {
+    ghost written = { λ _. None };
+
+    ghost faults = { λ sink. sink.faults };
+
+    fn put(&mut self, bytes: &[u8]) -> Result<(), Failed> {
+        if self.left > 0 && self.bytes.extend_from_slice(bytes).is_ok() {
+            self.left -= 1;
+            return Ok(());
+        }
+        self.faults = self.faults.saturating_add(1);
+        Err(Failed)
+    }
+}
+
+/// Behind a failure of the sink nothing more is written.
+#[test]
+fn stops_at_a_sink_fault(rt: HostRuntime) -> Result<(), Fail> {
+    let asked = words(rt.alloc(), &["run", "a"])?;
+    let mut files = MemFiles::new(rt.alloc())?;
+    files.add(
+        rt.alloc(),
+        "a",
+        b"scheduler A; module m() in A print \"one\"; cooperate; print \"two\"; end start A.m();",
+    )?;
+    let mut sink = FailingSink {
+        bytes: Vec::new(rt.alloc()),
+        left: 2,
+        faults: 0,
+    };
+    let status = loft_main(
+        &rt,
+        rt.alloc(),
+        asked.as_slice(),
+        &mut files,
+        &mut sink,
+        &OpenGate,
+    );
+    assert_eq!(rt; status.code(), 6);
+    assert_eq!(rt;
+        sink.bytes.as_slice(),
+        b"loft-report 1\ninstants 100\n".as_slice()
+    );
+    Ok(())
+}
