@@ -5,3 +5,11 @@ pub mod Complete
 pub mod Lists
 pub mod Inside
 pub mod Stopping
+pub mod Guarded
+pub mod Checked
+pub mod Raised
+pub mod Whole
+pub mod FirstFault
+pub mod Enough
+pub mod Local
+pub mod Flat

@@ -2,3 +2,4 @@ pub mod Form
 pub mod Spells
 pub mod Reading
 pub mod Stops
+pub mod Faults

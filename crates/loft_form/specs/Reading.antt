@@ -87,3 +87,13 @@ Fails (stop.Fault f) found = found ≡ Err f
 abbrev pub Gives : {X Y : Type 0} → (X → Y) → Result X Stop → Result Y Fault → Type 0
 Gives view (Ok x) found = found ≡ Ok (view x)
 Gives view (Err e) found = Fails e found
+
+-- what was read, if no symbol is left; the next one may not stand there
+abbrev pub with_rest : {A S : Type 0} → A → List S → Result A Fault
+with_rest x [] = Ok x
+with_rest x (s ∷ ss) = Err (Expected (length (s ∷ ss)))
+
+-- reading all of the symbols
+abbrev pub all_of : {L : Language} {A : Type 0} → Read L A → Result A Fault
+all_of (Ok x) = with_rest x.0 x.1.rest
+all_of (Err e) = Err e

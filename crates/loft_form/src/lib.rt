@@ -1,4 +1,4 @@
-//! Grammars as data: what a form spells, and where reading it stops.
+//! Grammars as data: what a form spells, where reading it stops, and which fault a list of symbols has.
 #![tactic(auto)]
 
 mod fault;
