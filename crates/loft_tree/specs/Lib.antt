@@ -1,8 +1,13 @@
 pub mod Source
-pub mod Coded
 pub mod View
+pub mod Levels
+pub mod Fits
 pub mod Small
 pub mod Kinds
 pub mod Resolved
-pub mod NamedView
+pub mod SmallView
 pub mod Numbering
+pub mod NamedTree
+pub mod NamedView
+pub mod HeadsFit
+pub mod Stops

@@ -1,12 +1,22 @@
 //! What a program declares outside module bodies, numbered in text order.
 
-use loft_base::{ModuleId, SchedId, Sequence};
+ghost use Rattle.std.specs.Prelude.{◌≡◌, ◌↔◌, IsTrue};
+ghost use Rattle.loft_tree.specs.HeadsFit.{is_of, agree, TakesIn, HeadsFit};
+
+use crate::kinds::{Control, Kind};
+use loft_base::{EventId, ModuleId, SchedId, Sequence, ThreadId, Value};
 
 /// A name: its bytes.
 pub type Name = Sequence<u8>;
 
 /// Names, in text order.
 pub type Names = Sequence<Name>;
+
+/// Kinds of parameters or local variables, in text order.
+pub type Kinds = Sequence<Kind>;
+
+/// Values of parameters, in text order.
+pub type Arguments = Sequence<Value>;
 
 /// Where a thread is linked.
 #[derive(Clone, Copy, Debug, PartialEq, Eq)]
@@ -24,19 +34,62 @@ pub struct EventHead {
     pub scheduler: SchedId,
 }
 
-/// A declared module: its name, and the places where its threads begin and end.
+/// A declared shared variable: its scheduler, and its value before the first instant.
+#[derive(Debug, Drop)]
+pub struct SharedHead {
+    pub name: Name,
+    pub scheduler: SchedId,
+    pub value: i64,
+}
+
+/// A declared module: its name, the kinds of its parameters and of its local variables, and the places where its
+/// threads begin and end.
 #[derive(Debug, Drop)]
 pub struct Signature {
     pub name: Name,
+    pub parameters: Kinds,
+    pub locals: Kinds,
     pub begin: Place,
     pub end: Place,
 }
 
-/// A thread that the source starts: its scheduler and its module.
-#[derive(Clone, Copy, Debug, PartialEq, Eq)]
+/// A thread that the source starts: its scheduler, its module, the values of the module's parameters, and the name that
+/// the source gives it, if it gives one.
+#[derive(Debug, Drop)]
 pub struct Start {
     pub scheduler: SchedId,
     pub module: ModuleId,
+    pub arguments: Arguments,
+    pub name: Option<Name>,
+}
+
+/// What an outside client orders.
+#[derive(Debug, Drop)]
+pub enum ClientOrder {
+    /// A new thread in the scheduler.
+    Create {
+        scheduler: SchedId,
+        module: ModuleId,
+        arguments: Arguments,
+    },
+    /// A thread of the scheduler is to be stopped, suspended or resumed.
+    Control {
+        control: Control,
+        thread: ThreadId,
+        scheduler: SchedId,
+    },
+    /// The event is to be present in its scheduler's next instant, with a value or without.
+    Broadcast {
+        event: EventId,
+        value: Option<i64>,
+    },
+}
+
+/// An outside client: its name, and its orders in text order.
+#[derive(Debug, Drop)]
+pub struct Client {
+    pub name: Name,
+    pub orders: Sequence<ClientOrder>,
 }
 
 /// All that a program declares outside module bodies, each kind numbered from 0 in text order.
@@ -44,8 +97,54 @@ pub struct Start {
 pub struct Heads {
     pub schedulers: Names,
     pub events: Sequence<EventHead>,
+    pub shared: Sequence<SharedHead>,
     pub modules: Sequence<Signature>,
     pub starts: Sequence<Start>,
-    /// The names of the outside clients.
-    pub clients: Names,
+    pub clients: Sequence<Client>,
+}
+
+/// Whether the value is of this kind.
+fn is_of(value: &Value, kind: Kind) -> bool
+    ensures { result ≡ is_of value.now kind }
+{
+    match (value, kind) {
+        (Value::Int(_), Kind::Int) => true,
+        (Value::Int(_), Kind::Thread) => false,
+        (Value::Thread(_), Kind::Int) => false,
+        (Value::Thread(_), Kind::Thread) => true,
+    }
+}
+
+/// Whether there are as many values as parameters, each of its parameter's kind.
+fn agree(kinds: &[Kind], values: &[Value]) -> bool
+    ensures { result ≡ agree kinds.now values.now }
+{
+    match kinds {
+        [] => match values {
+            [] => true,
+            [_, ..] => false,
+        },
+        [kind, kinds @ ..] => match values {
+            [] => false,
+            [value, values @ ..] => is_of(value, *kind) && agree(kinds, values),
+        },
+    }
+}
+
+impl Heads {
+    /// Whether a thread of the module can begin in the scheduler with these arguments: both are declared, the module
+    /// begins in the scheduler, and the arguments agree with its parameters in number and kind.
+    pub fn fits(&self, scheduler: SchedId, module: ModuleId, args: &[Value]) -> bool
+        ensures { IsTrue result ↔ HeadsFit self.now scheduler «module» args.now }
+    {
+        let is_declared = (scheduler.0 as usize) < self.schedulers.len();
+        match self.modules.as_slice().get(module.0 as usize) {
+            Some(signature) => {
+                is_declared
+                    && signature.begin == Place::Sched(scheduler)
+                    && agree(signature.parameters.as_slice(), args)
+            }
+            None => false,
+        }
+    }
 }

@@ -1,15 +1,26 @@
 //! Programs: what a source text says, and the same with numbers in place of names.
 #![tactic(auto)]
 
+mod expression;
 mod heads;
 mod ident;
+mod kinds;
 mod named;
 mod program;
 mod small;
+mod small_program;
 mod statement;
+mod stopping;
 
-pub use heads::{EventHead, Heads, Name, Names, Place, Signature, Start};
+pub use expression::Expr;
+pub use heads::{
+    Arguments, Client, ClientOrder, EventHead, Heads, Kinds, Name, Names, Place, SharedHead,
+    Signature, Start,
+};
 pub use ident::Ident;
-pub use named::{Module, Named, Statement};
-pub use program::{Item, ModuleHead, Program};
-pub use statement::{Stmt, Text};
+pub use kinds::{BinaryOperator, Builtin, Control, Kind, UnaryOperator};
+pub use named::{EventUse, Linking, Making, Module, Named, OuterMaking, Statement, Target, Term};
+pub use program::{Argument, Item, ModuleHead, Order, PlaceName, Program, Variable};
+pub use small_program::{SmallModule, SmallProgram, SmallStatement};
+pub use statement::{Creation, Stmt, Text};
+pub use stopping::stops;

@@ -1,23 +1,76 @@
 //! Programs and what they declare.
 
-ghost use Rattle.std.specs.Prelude.{◌≡◌, map, IsTrue, ◌↔◌};
-ghost use Rattle.loft_tree.specs.View.{declaration_of};
+ghost use Rattle.std.specs.Prelude.{◌≡◌, IsTrue, ◌↔◌};
+ghost use Rattle.loft_tree.specs.View.{source_of};
+ghost use Rattle.loft_tree.specs.Fits.{SourceFits};
 ghost use Rattle.loft_tree.specs.Small.{IsSmall};
 
 use crate::ident::Ident;
+use crate::kinds::{Control, Kind};
 use crate::small;
 use crate::statement::Stmt;
 use std::marker::Model;
 
-/// The line of a module up to its body.
+/// A parameter or a local variable of a module.
+#[derive(Drop)]
+pub struct Variable {
+    /// What it can hold.
+    pub kind: Kind,
+    /// What it is called.
+    pub name: Ident,
+}
+
+/// Where a thread is linked: in a scheduler, or nowhere.
+#[derive(Drop)]
+pub enum PlaceName {
+    /// The scheduler called so.
+    Scheduler(Ident),
+    /// `unlinked`
+    Unlinked,
+}
+
+/// The line of a module up to its local variables.
 #[derive(Drop)]
 pub struct ModuleHead {
     /// What the module is called.
     pub name: Ident,
-    /// The scheduler where its threads begin.
-    pub begin: Ident,
-    /// The scheduler where its threads end: the begin again, where none is written.
-    pub end: Ident,
+    /// Its parameters, at most 8.
+    pub parameters: Vec<Variable>,
+    /// Where its threads begin.
+    pub begin: PlaceName,
+    /// Where its threads end, if that isn't where they begin.
+    pub end: Option<PlaceName>,
+}
+
+/// An argument of a thread that isn't made by a module.
+#[derive(Drop)]
+pub enum Argument {
+    /// A number, with a sign or without; the place is that of its first byte.
+    Number { at: u32, value: i64 },
+    /// The thread that a start names so.
+    Name(Ident),
+}
+
+/// What an outside client orders.
+#[derive(Drop)]
+pub enum Order {
+    /// `create SCHEDULER.MODULE(ARGUMENTS);`
+    Create {
+        scheduler: Ident,
+        called: Ident,
+        arguments: Vec<Argument>,
+    },
+    /// `stop THREAD in SCHEDULER;`, `suspend THREAD in SCHEDULER;` or `resume THREAD in SCHEDULER;`
+    Control {
+        control: Control,
+        thread: Ident,
+        scheduler: Ident,
+    },
+    /// `broadcast EVENT;` or `broadcast EVENT, VALUE;`
+    Broadcast {
+        event: Ident,
+        value: Option<i64>,
+    },
 }
 
 /// A declaration of a program.
@@ -25,50 +78,85 @@ pub struct ModuleHead {
 pub enum Item {
     /// `scheduler NAME;`
     Scheduler(Ident),
-    /// A module and the statements of its body.
-    Module(ModuleHead, Vec<Stmt>),
-    /// `start SCHEDULER.MODULE();`
-    Start { scheduler: Ident, called: Ident },
+    /// `event NAME in SCHEDULER;`
+    Event {
+        name: Ident,
+        scheduler: Ident,
+    },
+    /// `shared NAME in SCHEDULER = VALUE;`
+    Shared {
+        name: Ident,
+        scheduler: Ident,
+        value: i64,
+    },
+    /// A module: its head, its local variables, at most 32, and the statements of its body.
+    Module {
+        head: ModuleHead,
+        locals: Vec<Variable>,
+        body: Vec<Stmt>,
+    },
+    /// `start SCHEDULER.MODULE(ARGUMENTS);` or `start SCHEDULER.MODULE(ARGUMENTS) as NAME;`
+    Start {
+        scheduler: Ident,
+        called: Ident,
+        arguments: Vec<Argument>,
+        name: Option<Ident>,
+    },
+    /// `outside NAME { ORDERS }`
+    Outside {
+        name: Ident,
+        orders: Vec<Order>,
+    },
 }
 
 /// What a source text says: its declarations, in the order of the text.
+///
+/// Its names, texts, numbers and sizes are those of the language (docs/LANGUAGE.md, "Limits").
 #[derive(Drop)]
 pub struct Program {
     items: Vec<Item>,
 }
 
 impl Model for Program {
-    ghost use Rattle.loft_tree.specs.Source.{Source};
-    ghost use Rattle.loft_tree.specs.Coded.{source_code};
+    ghost use Rattle.std.specs.Prelude.{List};
+    ghost use Rattle.loft_tree.specs.declared.program.Item.{Item};
 
-    ghost Value = { Source };
+    ghost Value = { List Item };
 
-    ghost coded = { source_code };
+    ghost use Rattle.loft_tree.specs.contracts.statement.Stmt as stmt;
+    ghost use Rattle.std.specs.Coded.{codes};
+
+    ghost coded = { Prim.hlevel (codes, stmt.the_row.coded) };
+
+    ghost view = { λ p. p.items.items };
 
     ghost use Rattle.loft_tree.specs.View.{source_of};
+    ghost use Rattle.loft_tree.specs.Fits.{SourceFits};
 
-    ghost view = { λ p. source_of p.items.items };
+    ghost invariant = { λ p. SourceFits (source_of p.items.items) };
 }
 
 impl Program {
     /// The program with these declarations.
     pub fn new(items: Vec<Item>) -> Program
-        ensures { result ≡ map declaration_of items.items }
+        requires { SourceFits (source_of items.items) }
+        ensures { result ≡ items.items }
     {
         Program { items }
     }
 
     /// The declarations, in the order of the text.
     pub fn items(&self) -> &[Item]
-        ensures { map declaration_of result.now ≡ self.now }
+        ensures items { result.now ≡ self.now }
+        ensures fits { SourceFits (source_of self.now) }
     {
         self.items.as_slice()
     }
 
     /// Whether the program is small (docs/LANGUAGE.md, "Small programs"): one scheduler and else only modules and
-    /// starts there, names that differ, at most 16 modules, 16 starts and 256 statements in a module.
+    /// starts there, names that differ, at most 16 modules, 16 starts and 256 simple statements in a module.
     pub fn is_small(&self) -> bool
-        ensures { IsTrue result ↔ IsSmall self.now }
+        ensures { IsTrue result ↔ IsSmall (source_of self.now) }
     {
         small::is_small(self.items.as_slice())
     }

@@ -2,24 +2,28 @@
 
 ghost use Rattle.std.specs.Prelude.{◌≡◌, IsTrue, ◌↔◌, length, slice_get, option_copied, ◌≢◌, ◌++◌};
 ghost use Rattle.std.specs.List.{All, AllPairs, Contains, count_by, list_any, list_all};
-ghost use Rattle.loft_tree.specs.View.{declaration_of, source_of};
-ghost use Rattle.loft_tree.specs.Kinds.{is_scheduler, is_module, is_start, is_called, declares, fits, is_new, distinct, small_in};
+ghost use Rattle.loft_tree.specs.View.{statement_of, declaration_of, source_of};
+ghost use Rattle.loft_tree.specs.Kinds.{is_simple, is_in, module_is_small, is_scheduler, is_module, is_start, is_called, declares, fits, is_new, distinct, small_in};
 ghost use Rattle.loft_tree.specs.Small.{schedulers, modules, starts, FitsIn, SmallIn, IsSmall};
 
-use crate::program::Item;
+use crate::program::{Item, ModuleHead, PlaceName, Variable};
+use crate::statement::Stmt;
 
+#[tactic(auto, unfolding(crate::specs::Kinds::is_scheduler))]
 fn is_scheduler(item: &Item) -> bool
     ensures { result ≡ is_scheduler item.now }
 {
     matches!(item, Item::Scheduler(_))
 }
 
+#[tactic(auto, unfolding(crate::specs::Kinds::is_module))]
 fn is_module(item: &Item) -> bool
     ensures { result ≡ is_module item.now }
 {
-    matches!(item, Item::Module(_, _))
+    matches!(item, Item::Module { .. })
 }
 
+#[tactic(auto, unfolding(crate::specs::Kinds::is_start))]
 fn is_start(item: &Item) -> bool
     ensures { result ≡ is_start item.now }
 {
@@ -27,27 +31,42 @@ fn is_start(item: &Item) -> bool
 }
 
 /// How many of the declarations are schedulers.
-#[tactic(auto, using(crate::proofs::Counts::schedulers_counted))]
 fn scheduler_count(items: &[Item]) -> usize
-    ensures { result ≡ length (schedulers (source_of items.now)) }
+    ensures { result ≡ count_by is_scheduler items.now }
 {
-    items.iter().filter(|item| is_scheduler(item)).count()
+    let mut count = 0;
+    for item in items {
+        if is_scheduler(item) {
+            count += 1;
+        }
+    }
+    count
 }
 
 /// How many of the declarations are modules.
-#[tactic(auto, using(crate::proofs::Counts::modules_counted))]
 fn module_count(items: &[Item]) -> usize
-    ensures { result ≡ length (modules (source_of items.now)) }
+    ensures { result ≡ count_by is_module items.now }
 {
-    items.iter().filter(|item| is_module(item)).count()
+    let mut count = 0;
+    for item in items {
+        if is_module(item) {
+            count += 1;
+        }
+    }
+    count
 }
 
 /// How many of the declarations are starts.
-#[tactic(auto, using(crate::proofs::Counts::starts_counted))]
 fn start_count(items: &[Item]) -> usize
-    ensures { result ≡ length (starts (source_of items.now)) }
+    ensures { result ≡ count_by is_start items.now }
 {
-    items.iter().filter(|item| is_start(item)).count()
+    let mut count = 0;
+    for item in items {
+        if is_start(item) {
+            count += 1;
+        }
+    }
+    count
 }
 
 /// The name of the first scheduler.
@@ -67,7 +86,7 @@ fn is_called(wanted: &[u8], item: &Item) -> bool
     ensures { result ≡ is_called wanted.now item.now }
 {
     match item {
-        Item::Module(head, _) => head.name.text() == wanted,
+        Item::Module { head, .. } => head.name.text() == wanted,
         _ => false,
     }
 }
@@ -78,8 +97,8 @@ fn declares(wanted: &[u8], item: &Item) -> bool
 {
     match item {
         Item::Scheduler(name) => name.text() == wanted,
-        Item::Module(head, _) => head.name.text() == wanted,
-        Item::Start { .. } => false,
+        Item::Module { head, .. } => head.name.text() == wanted,
+        _ => false,
     }
 }
 
@@ -97,19 +116,68 @@ fn has_module(wanted: &[u8], items: &[Item]) -> bool
     items.iter().any(|item| is_called(wanted, item))
 }
 
+/// Whether the statement prints a text alone, or waits for the next instant.
+#[tactic(auto, using(crate::proofs::Trees::statements))]
+fn is_simple(statement: &Stmt) -> bool
+    ensures { result ≡ is_simple (statement_of statement.now) }
+{
+    match statement {
+        Stmt::PrintText { value, .. } => value.is_none(),
+        Stmt::Cooperate { instants, .. } => instants.is_none(),
+        _ => false,
+    }
+}
+
+/// Whether all of the statements do so.
+fn are_simple(body: &[Stmt]) -> bool
+    ensures { result ≡ list_all (λ one. is_simple (statement_of one)) body.now }
+{
+    body.iter().all(|statement| is_simple(statement))
+}
+
+/// Whether the place is this scheduler.
+fn is_in(scheduler: &[u8], place: &PlaceName) -> bool
+    ensures { result ≡ is_in scheduler.now place.now }
+{
+    match place {
+        PlaceName::Scheduler(name) => name.text() == scheduler,
+        PlaceName::Unlinked => false,
+    }
+}
+
+/// Whether the module begins and ends in the scheduler, with no variables and at most 256 simple statements.
+fn module_is_small(scheduler: &[u8], head: &ModuleHead, locals: &[Variable], body: &[Stmt]) -> bool
+    ensures { result ≡ module_is_small scheduler.now head.now locals.now body.now }
+{
+    is_in(scheduler, &head.begin)
+        && head.end.is_none()
+        && head.parameters.is_empty()
+        && locals.is_empty()
+        && are_simple(body)
+        && body.len() <= 256
+}
+
 /// Whether the declaration is of the one scheduler.
 fn fits(scheduler: &[u8], items: &[Item], item: &Item) -> bool
     ensures { result ≡ fits scheduler.now items.now item.now }
 {
     match item {
         Item::Scheduler(name) => name.text() == scheduler,
-        Item::Module(head, body) => {
-            head.begin.text() == scheduler && head.end.text() == scheduler && body.len() <= 256
+        Item::Module { head, locals, body } => {
+            module_is_small(scheduler, head, locals.as_slice(), body.as_slice())
         }
         Item::Start {
             scheduler: place,
             called,
-        } => place.text() == scheduler && has_module(called.text(), items),
+            arguments,
+            name,
+        } => {
+            place.text() == scheduler
+                && has_module(called.text(), items)
+                && arguments.is_empty()
+                && name.is_none()
+        }
+        _ => false,
     }
 }
 
@@ -126,8 +194,8 @@ fn is_new(item: &Item, others: &[Item]) -> bool
 {
     match item {
         Item::Scheduler(name) => !declared_in(name.text(), others),
-        Item::Module(head, _) => !declared_in(head.name.text(), others),
-        Item::Start { .. } => true,
+        Item::Module { head, .. } => !declared_in(head.name.text(), others),
+        _ => true,
     }
 }
 

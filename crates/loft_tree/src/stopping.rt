@@ -1,0 +1,55 @@
+//! Counting stops.
+
+ghost use Rattle.std.specs.Prelude.{◌≡◌, ◌<◌, ◌^◌};
+ghost use Rattle.loft_tree.specs.NamedView.{statement_of, statements_of};
+ghost use Rattle.loft_tree.specs.Stops.{stops_in, body_stops};
+
+use crate::named::{Module, Statement};
+
+/// How many stops a statement has.
+#[cycle(stops)]
+#[tactic(auto, using(crate::proofs::NamedTrees::named_statements))]
+fn stops_in(statement: &Statement) -> u32
+    requires { stops_in (statement_of statement.now) < 2 ^ 32 }
+    ensures { result ≡ stops_in (statement_of statement.now) }
+{
+    match statement {
+        Statement::Cooperate { .. }
+        | Statement::Await { .. }
+        | Statement::Select { .. }
+        | Statement::Get { .. }
+        | Statement::Join { .. }
+        | Statement::Link { .. }
+        | Statement::Unlink { .. }
+        | Statement::Run { .. }
+        | Statement::Halt { .. } => 1,
+        Statement::If { first, second, .. } => {
+            body_stops(first.as_slice()) + body_stops(second.as_slice())
+        }
+        Statement::While { body, .. } | Statement::Repeat { body, .. } => {
+            body_stops(body.as_slice())
+        }
+        _ => 0,
+    }
+}
+
+/// How many stops the statements of a body have.
+#[cycle(stops)]
+fn body_stops(body: &[Statement]) -> u32
+    requires { body_stops (statements_of body.now) < 2 ^ 32 }
+    ensures { result ≡ body_stops (statements_of body.now) }
+{
+    let mut count = 0;
+    for statement in body {
+        count += stops_in(statement);
+    }
+    count
+}
+
+/// The number of stop statements of a module, also those in the bodies of others.
+pub fn stops(module: &Module) -> u32
+    requires { body_stops (statements_of «module».now.body.items) < 2 ^ 32 }
+    ensures { result ≡ body_stops (statements_of «module».now.body.items) }
+{
+    body_stops(module.body.as_slice())
+}
