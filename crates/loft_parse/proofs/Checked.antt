@@ -1,12 +1,15 @@
 -- In this grammar the next symbol always tells how a form goes on.
-use Rattle.std.proofs.Common.{◌≡◌, ℕ, zero, suc, ◌+◌, Bool, true, List, [], ◌∷◌, ◌++◌, map, get_or, refl, subst}
+use Rattle.std.proofs.Common.{◌≡◌, ℕ, zero, suc, ◌+◌, Bool, true, false, ◌||◌, List, [], ◌∷◌, ◌++◌, map, get_or, refl, subst}
 use Rattle.loft_lex.specs.Word.{words}
 use Rattle.loft_lex.specs.Sign.{signs}
 use Rattle.loft_lex.specs.declared.word.Word.TheVariants as word
 use Rattle.loft_lex.specs.declared.sign.Sign.TheVariants as sign
-use Rattle.loft_form.proofs.Clear.{Told, Fair, every, and_true, clear}
-use Rattle.loft_parse.specs.Language.{Language, Kind, AName, AWord, ANumber, AText, ASign, Other, word_number, sign_number}
-use Rattle.loft_parse.specs.Grammar.{rules, print_text, cooperate, statement, body, ending, head, module_item, scheduler_item, start_item, item, program}
+use Rattle.loft_form.proofs.Guarded.{guarded}
+use Rattle.loft_form.proofs.Checked.{Checked}
+use Rattle.loft_form.proofs.Clear.{Told, Fair, every, and_true, clear, nullable, starts, goes_on, agrees}
+use Rattle.loft_form.specs.Form.{begins}
+use Rattle.loft_parse.specs.Language.{Language, Rule, Bracketed, Signed, Conditional, Looped, is_word, is_sign, Kind, AName, AWord, ANumber, AText, ASign, Other, word_number, sign_number}
+use Rattle.loft_parse.specs.Grammar.{rules, builtin, bracketed, atom, negated, inverted, unary, factor, term, summand, sum, equality, ordering, compared, comparison, conjunct, conjunction, disjunct, expression, whole, argument, arguments, creation, behind_comma, time_limit, assigned, assignment, printed, print, create, cooperate, generate, await_event, choice, choices, select, get, join, control, broadcast, link, unlink, run, halt, conditional, while_loop, repeat, value_statement, event_statement, thread_statement, moving_statement, statement, body, test, otherwise, branches, turns, negative, signed, parameter, parameters, local, place, ending, head, module_item, scheduler_item, event_item, shared_item, outer_argument, outer_arguments, alias, start_item, create_order, control_order, value_behind_comma, broadcast_order, order, outside_item, item, program}
 
 unfoldable pub kinds : List Kind
 kinds = Other ∷ AName ∷ ANumber ∷ AText ∷ (map (λ w. AWord w) words ++ map (λ s. ASign s) signs)
@@ -101,12 +104,68 @@ all_kinds : (p : Kind → Bool) → every p kinds ≡ true → (k : Kind) → p 
 unfolding every kinds
 all_kinds p e k = subst (λ j. p j ≡ true) (there k) (every_at p kinds (number_of k) e (and_true _ _ e).0)
 
+-- the operators between two operands
+abbrev pub is_operator : Kind → Bool
+is_operator k =
+    is_sign sign.Star k || is_sign sign.Slash k || is_sign sign.Percent k || is_sign sign.Plus k || is_sign sign.Minus k
+    || is_sign sign.Same k || is_sign sign.Differs k || is_sign sign.Less k || is_sign sign.LessOrSame k || is_sign sign.Greater k
+    || is_sign sign.GreaterOrSame k || is_sign sign.And k || is_sign sign.Or k
+
+abbrev pub may_go_on : Rule → Kind → Bool
+may_go_on Bracketed k = is_operator k
+may_go_on Signed k = false
+may_go_on Conditional k = is_word word.Else k || begins statement k
+may_go_on Looped k = begins statement k
+
 abbrev pub told : Told Language
-told = record { may_be_empty = λ r. absurd r; may_start = λ r k. absurd r; may_go_on = λ r k. absurd r; kinds = kinds }
+told = record { may_be_empty = λ r. false; may_start = λ r k. begins (rules r) k; may_go_on = may_go_on; kinds = kinds }
+
+rule_clear : (r : Rule) → clear told (rules r) ≡ true
+unfolding kinds every builtin bracketed atom negated inverted unary factor term summand sum equality ordering compared comparison conjunct conjunction disjunct expression whole argument arguments creation behind_comma time_limit assigned assignment printed print create cooperate generate await_event choice choices select get join control broadcast link unlink run halt conditional while_loop repeat value_statement event_statement thread_statement moving_statement statement body test otherwise branches turns
+rule_clear Bracketed = refl
+rule_clear Signed = refl
+rule_clear Conditional = refl
+rule_clear Looped = refl
+
+rule_empty : (r : Rule) → nullable told (rules r) ≡ true → false ≡ true
+unfolding builtin bracketed atom negated inverted unary factor term summand sum equality ordering compared comparison conjunct conjunction disjunct expression whole argument arguments creation behind_comma time_limit assigned assignment printed print create cooperate generate await_event choice choices select get join control broadcast link unlink run halt conditional while_loop repeat value_statement event_statement thread_statement moving_statement statement body test otherwise branches turns
+rule_empty Bracketed e = e
+rule_empty Signed e = e
+rule_empty Conditional e = e
+rule_empty Looped e = e
+
+rule_starts : (r : Rule) → agrees told (starts told (rules r)) (told.may_start r) ≡ true
+unfolding kinds every builtin bracketed atom negated inverted unary factor term summand sum equality ordering compared comparison conjunct conjunction disjunct expression whole argument arguments creation behind_comma time_limit assigned assignment printed print create cooperate generate await_event choice choices select get join control broadcast link unlink run halt conditional while_loop repeat value_statement event_statement thread_statement moving_statement statement body test otherwise branches turns
+rule_starts Bracketed = refl
+rule_starts Signed = refl
+rule_starts Conditional = refl
+rule_starts Looped = refl
+
+rule_goes_on : (r : Rule) → agrees told (goes_on told (rules r)) (told.may_go_on r) ≡ true
+unfolding kinds every builtin bracketed atom negated inverted unary factor term summand sum equality ordering compared comparison conjunct conjunction disjunct expression whole argument arguments creation behind_comma time_limit assigned assignment printed print create cooperate generate await_event choice choices select get join control broadcast link unlink run halt conditional while_loop repeat value_statement event_statement thread_statement moving_statement statement body test otherwise branches turns
+rule_goes_on Bracketed = refl
+rule_goes_on Signed = refl
+rule_goes_on Conditional = refl
+rule_goes_on Looped = refl
 
 pub fair : Fair rules told
-fair = record { all_kinds = all_kinds; rule_clear = λ r. absurd r; rule_empty = λ r. absurd r; rule_starts = λ r. absurd r; rule_goes_on = λ r. absurd r }
+fair = record { all_kinds = all_kinds; rule_clear = rule_clear; rule_empty = rule_empty; rule_starts = rule_starts; rule_goes_on = rule_goes_on }
 
 pub program_clear : clear told program ≡ true
-unfolding kinds every print_text cooperate statement body ending head module_item scheduler_item start_item item program
+unfolding kinds every builtin bracketed atom negated inverted unary factor term summand sum equality ordering compared comparison conjunct conjunction disjunct expression whole argument arguments creation behind_comma time_limit assigned assignment printed print create cooperate generate await_event choice choices select get join control broadcast link unlink run halt conditional while_loop repeat value_statement event_statement thread_statement moving_statement statement body test otherwise branches turns negative signed parameter parameters local place ending head module_item scheduler_item event_item shared_item outer_argument outer_arguments alias start_item create_order control_order value_behind_comma broadcast_order order outside_item item program
 program_clear = refl
+
+rule_guarded : (r : Rule) → guarded false (rules r) ≡ true
+unfolding builtin bracketed atom negated inverted unary factor term summand sum equality ordering compared comparison conjunct conjunction disjunct expression whole argument arguments creation behind_comma time_limit assigned assignment printed print create cooperate generate await_event choice choices select get join control broadcast link unlink run halt conditional while_loop repeat value_statement event_statement thread_statement moving_statement statement body test otherwise branches turns
+rule_guarded Bracketed = refl
+rule_guarded Signed = refl
+rule_guarded Conditional = refl
+rule_guarded Looped = refl
+
+program_guarded : guarded false program ≡ true
+unfolding builtin bracketed atom negated inverted unary factor term summand sum equality ordering compared comparison conjunct conjunction disjunct expression whole argument arguments creation behind_comma time_limit assigned assignment printed print create cooperate generate await_event choice choices select get join control broadcast link unlink run halt conditional while_loop repeat value_statement event_statement thread_statement moving_statement statement body test otherwise branches turns negative signed parameter parameters local place ending head module_item scheduler_item event_item shared_item outer_argument outer_arguments alias start_item create_order control_order value_behind_comma broadcast_order order outside_item item program
+program_guarded = refl
+
+-- all that the general theorems ask of this grammar
+pub checked : Checked rules told program
+checked = record { fair = fair; rules_guarded = rule_guarded; form_clear = program_clear; form_guarded = program_guarded }

@@ -1,11 +1,15 @@
 -- What the grammar of sources is over: symbols, told apart by kind.
-use Rattle.std.specs.Prelude.{ℕ, Bool, true, false, ◌==◌}
+use Rattle.std.specs.Prelude.{ℕ, ◌+◌, Bool, true, false, ◌==◌, List, Option}
 use Rattle.loft_lex.specs.declared.word.Word.{Word}
 use Rattle.loft_lex.specs.declared.word.Word.TheVariants as word
 use Rattle.loft_lex.specs.declared.sign.Sign.{Sign}
 use Rattle.loft_lex.specs.declared.sign.Sign.TheVariants as sign
 use Rattle.loft_lex.specs.Symbol.{Symbol, What, Named, Keyword, Numeral, Quoted, Mark, Unreadable}
 use Rattle.loft_form.specs.Form.{Language as Language'}
+use Rattle.loft_tree.specs.Source.{Expression, Statement}
+use Rattle.loft_parse.specs.declared.counts.Counted.{Counted}
+use Rattle.loft_parse.specs.declared.counts.Counts.{Counts}
+use Rattle.loft_parse.specs.Counts.{number, put}
 
 -- a symbol without what it says
 pub data Kind : Type 0 where
@@ -128,17 +132,38 @@ is_text AText = true
 is_text (ASign s) = false
 is_text Other = false
 
--- This grammar has no rule that stands inside itself, and counts nothing.
+abbrev pub is_number : Kind → Bool
+is_number AName = false
+is_number (AWord w) = false
+is_number ANumber = true
+is_number AText = false
+is_number (ASign s) = false
+is_number Other = false
+
+-- The rules that stand inside themselves, each one nesting deeper: what brackets hold, what a sign stands before, and
+-- what an `if` and a loop hold.
+pub data Rule : Type 0 where
+  Bracketed : Rule
+  Signed : Rule
+  Conditional : Rule
+  Looped : Rule
+
+abbrev pub Meaning : Rule → Type 0
+Meaning Bracketed = Expression
+Meaning Signed = Expression
+Meaning Conditional = Expression × (List Statement × Option (List Statement))
+Meaning Looped = Expression × List Statement
+
 abbrev pub Language : Language'
 Language = record {
   Symbol = Symbol;
   Kind = Kind;
   kind = λ s. kind_of s.what;
-  Rule = ⊥;
-  Meaning = λ r. Unit {0};
-  Counted = ⊥;
-  Counts = Unit {0};
-  number = λ w c. 0;
-  more = λ w c. c;
-  anew = λ w c. c;
+  Rule = Rule;
+  Meaning = Meaning;
+  Counted = Counted;
+  Counts = Counts;
+  number = number;
+  more = λ w c. put w (number w c + 1) c;
+  anew = λ w c. put w 0 c;
 }

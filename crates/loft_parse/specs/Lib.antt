@@ -1,3 +1,4 @@
+pub mod Counts
 pub mod Lexeme
 pub mod Language
 pub mod Grammar

@@ -1,17 +1,24 @@
 -- Which program a text is (docs/LANGUAGE.md, "Grammar").
-use Rattle.std.specs.Prelude.{◌≡◌, ℕ, List, [], None, Ok}
+use Rattle.std.specs.Prelude.{◌≡◌, ℕ, ◌-◌, ◌⊎◌, List, [], ◌∷◌, length, drop, Some, Ok, Err}
 use Rattle.loft_lex.specs.declared.token.Token.{Token}
+use Rattle.loft_lex.specs.declared.token.LexError.{LexError}
 use Rattle.loft_lex.specs.Symbol.{Symbol, symbols}
 use Rattle.loft_lex.specs.Tokens.{tokens}
 use Rattle.loft_tree.specs.Source.{Source}
+use Rattle.loft_form.specs.declared.fault.Fault.{Fault}
+use Rattle.loft_form.specs.declared.fault.Fault.TheVariants as fault
 use Rattle.loft_form.specs.Form.{Limits, State}
 use Rattle.loft_form.specs.Spells.{Spells, SpellsRule}
+use Rattle.loft_form.specs.Faults.{IsFaultOf}
+use Rattle.loft_parse.specs.declared.error.ParseError.{ParseError}
+use Rattle.loft_parse.specs.declared.error.ParseError.TheVariants.{Lex, Expected, TooDeep, TooMany, TooLong, NoMemory}
+use Rattle.loft_parse.specs.Counts.{most, none}
 use Rattle.loft_parse.specs.Language.{Language}
 use Rattle.loft_parse.specs.Grammar.{program, rules}
 
--- nothing has a limit here
+-- all that is counted has a limit
 abbrev pub limits : Limits Language
-limits = record { most = λ w. None }
+limits = record { most = λ what. Some (most what) }
 
 -- how many nestings may be open
 abbrev pub nesting : ℕ
@@ -19,7 +26,7 @@ nesting = 32
 
 -- nothing is counted yet
 abbrev pub beginning : State Language
-beginning = record { counts = tt; due = [] }
+beginning = record { counts = none; due = [] }
 
 -- the symbols spell the program
 abbrev pub SpellsProgram : List Symbol → Source → Type 0
@@ -28,3 +35,34 @@ SpellsProgram ss p = (d : State Language) × Spells limits nesting (SpellsRule r
 -- the text is that of the program
 abbrev pub Reads : List ℕ → Source → Type 0
 Reads text p = (ts : List Token) × (tokens text ≡ Ok ts) × SpellsProgram (symbols text ts) p
+
+-- where the first token stands, or the text's end
+abbrev pub first_place : ℕ → List Token → ℕ
+first_place end [] = end
+first_place end (t ∷ ts) = t.from
+
+-- where the token stands from which on so many are left
+abbrev pub place : ℕ → List Token → ℕ → ℕ
+place end ts left = first_place end (drop (length ts - left) ts)
+
+-- the fault, told by its place in the text
+abbrev pub located : ℕ → List Token → Fault → ParseError
+located end ts (fault.Expected left) = Expected (place end ts left)
+located end ts (fault.TooDeep left) = TooDeep (place end ts left)
+located end ts (fault.TooMany left limit) = TooMany (place end ts left) limit
+
+-- The fault of a text: the first of its tokens, else the first of its grammar. For the grammar Expected stands where the
+-- tokens stop by the grammar without limits; the limits are asked of the tokens before that.
+abbrev pub SourceFault : List ℕ → ParseError → Type 0
+SourceFault text e =
+    ((f : LexError) × (tokens text ≡ Err f) × (e ≡ Lex f))
+    ⊎ ((ts : List Token) × (f : Fault) × (tokens text ≡ Ok ts) × IsFaultOf rules limits nesting program (symbols text ts) beginning f × (e ≡ located (length text) ts f))
+
+-- an error has its cause: but for want of memory and too long a text, it is the fault of the text
+abbrev pub IsFault : List ℕ → ParseError → Type 0
+IsFault text (Lex e) = SourceFault text (Lex e)
+IsFault text (Expected at) = SourceFault text (Expected at)
+IsFault text (TooDeep at) = SourceFault text (TooDeep at)
+IsFault text (TooMany at limit) = SourceFault text (TooMany at limit)
+IsFault text TooLong = Unit {0}
+IsFault text NoMemory = Unit {0}

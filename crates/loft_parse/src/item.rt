@@ -1,112 +1,161 @@
 //! Reading declarations.
 
 ghost use Rattle.std.specs.Prelude.{◌≡◌};
-ghost use Rattle.loft_form.specs.Reading.{Gives};
+ghost use Rattle.std.specs.Option.{option_map};
+ghost use Rattle.loft_tree.specs.View.{declaration_of};
 ghost use Rattle.loft_form.specs.Form.{maybe};
-ghost use Rattle.loft_parse.specs.Grammar.{ending, head, module_item, scheduler_item, start_item, item, program};
-ghost use Rattle.loft_parse.specs.View.{symbols_at, reads, ident_view, head_view, item_view, items_view};
+ghost use Rattle.loft_form.specs.Reading.{Gives};
+ghost use Rattle.loft_parse.specs.Source.{nesting};
+ghost use Rattle.loft_parse.specs.Grammar.{module_item, scheduler_item, event_item, shared_item, alias, start_item, outside_item, item, program};
+ghost use Rattle.loft_parse.specs.View.{reads, reads_flat, viewed, itself, declarations_of};
 
+use crate::body::body;
+use crate::counts::Counted;
 use crate::cursor::Cursor;
-use crate::leaf::{name, sign, word};
-use crate::next::{next_is, next_item};
-use crate::statement::body;
+use crate::head::{head, locals};
+use crate::leaf::{first_word, name, sign, word};
+use crate::next::{next_is_word, next_item};
+use crate::order::orders;
+use crate::outer::{outer_arguments, signed};
 use loft_form::Stop;
 use loft_lex::{Sign, Word};
-use loft_tree::{Ident, Item, ModuleHead};
+use loft_tree::{Ident, Item};
 use std::alloc::Global;
 
-#[tactic(auto, unfolding(crate::specs::Grammar::ending))]
-fn ending<'a>(alloc: Global, at: Cursor<'a>) -> Result<(Ident, Cursor<'a>), Stop>
-    ensures { Gives ident_view result (reads ending (symbols_at at.entry)) }
-{
-    let at = word(Word::To, at)?;
-    name(alloc, at)
-}
+/// How many nestings may be open.
+const NESTING: u32 = 32;
 
-#[tactic(auto, unfolding(crate::specs::Grammar::head, crate::specs::Grammar::ending))]
-fn head<'a>(alloc: Global, at: Cursor<'a>) -> Result<(ModuleHead, Cursor<'a>), Stop>
-    ensures { Gives head_view result (reads head (symbols_at at.entry)) }
-{
-    let at = word(Word::Module, at)?;
-    let (called, at) = name(alloc, at)?;
-    let at = sign(Sign::Open, at)?;
-    let at = sign(Sign::Close, at)?;
-    let at = word(Word::In, at)?;
-    let (begin, at) = name(alloc, at)?;
-    if next_is(Word::To, &at) {
-        let (end, at) = ending(alloc, at)?;
-        Ok((
-            ModuleHead {
-                name: called,
-                begin,
-                end,
-            },
-            at,
-        ))
-    } else {
-        let end = begin.copy(alloc)?;
-        Ok((
-            ModuleHead {
-                name: called,
-                begin,
-                end,
-            },
-            at,
-        ))
-    }
-}
-
-#[tactic(auto, unfolding(crate::specs::Grammar::module_item))]
+#[tactic(auto, unfolding(crate::specs::Grammar::module_item), using(crate::proofs::Flat::flat_head))]
 fn module_item<'a>(alloc: Global, at: Cursor<'a>) -> Result<(Item, Cursor<'a>), Stop>
-    ensures { Gives item_view result (reads module_item (symbols_at at.entry)) }
+    ensures { Gives (viewed declaration_of) result (reads nesting module_item at.entry) }
 {
     let (head, at) = head(alloc, at)?;
-    let (statements, at) = body(alloc, at)?;
+    let (locals, at) = locals(alloc, at)?;
+    let (body, at) = body(alloc, NESTING, at.anew(Counted::Statement))?;
     let at = word(Word::End, at)?;
-    Ok((Item::Module(head, statements), at))
+    Ok((Item::Module { head, locals, body }, at))
 }
 
 #[tactic(auto, unfolding(crate::specs::Grammar::scheduler_item))]
 fn scheduler_item<'a>(alloc: Global, at: Cursor<'a>) -> Result<(Item, Cursor<'a>), Stop>
-    ensures { Gives item_view result (reads scheduler_item (symbols_at at.entry)) }
+    ensures { Gives (viewed declaration_of) result (reads nesting scheduler_item at.entry) }
 {
-    let at = word(Word::Scheduler, at)?;
-    let (called, at) = name(alloc, at)?;
+    let (_, at) = first_word(Counted::Scheduler, Word::Scheduler, at)?;
+    let (name, at) = name(alloc, None, at)?;
     let at = sign(Sign::Semicolon, at)?;
-    Ok((Item::Scheduler(called), at))
+    Ok((Item::Scheduler(name), at))
 }
 
-#[tactic(auto, unfolding(crate::specs::Grammar::start_item))]
-fn start_item<'a>(alloc: Global, at: Cursor<'a>) -> Result<(Item, Cursor<'a>), Stop>
-    ensures { Gives item_view result (reads start_item (symbols_at at.entry)) }
+#[tactic(auto, unfolding(crate::specs::Grammar::event_item))]
+fn event_item<'a>(alloc: Global, at: Cursor<'a>) -> Result<(Item, Cursor<'a>), Stop>
+    ensures { Gives (viewed declaration_of) result (reads nesting event_item at.entry) }
 {
-    let at = word(Word::Start, at)?;
-    let (scheduler, at) = name(alloc, at)?;
-    let at = sign(Sign::Dot, at)?;
-    let (called, at) = name(alloc, at)?;
-    let at = sign(Sign::Open, at)?;
-    let at = sign(Sign::Close, at)?;
+    let (_, at) = first_word(Counted::Event, Word::Event, at)?;
+    let (event, at) = name(alloc, None, at)?;
+    let at = word(Word::In, at)?;
+    let (scheduler, at) = name(alloc, None, at)?;
     let at = sign(Sign::Semicolon, at)?;
-    Ok((Item::Start { scheduler, called }, at))
+    Ok((
+        Item::Event {
+            name: event,
+            scheduler,
+        },
+        at,
+    ))
 }
 
-#[tactic(auto, unfolding(crate::specs::Grammar::item, crate::specs::Grammar::scheduler_item, crate::specs::Grammar::module_item, crate::specs::Grammar::head))]
-fn item<'a>(alloc: Global, at: Cursor<'a>) -> Result<(Item, Cursor<'a>), Stop>
-    ensures { Gives item_view result (reads item (symbols_at at.entry)) }
+#[tactic(auto, unfolding(crate::specs::Grammar::shared_item, crate::specs::Grammar::signed, crate::specs::Grammar::negative))]
+fn shared_item<'a>(alloc: Global, at: Cursor<'a>) -> Result<(Item, Cursor<'a>), Stop>
+    ensures { Gives (viewed declaration_of) result (reads nesting shared_item at.entry) }
 {
-    if next_is(Word::Scheduler, &at) {
-        scheduler_item(alloc, at)
-    } else if next_is(Word::Module, &at) {
-        module_item(alloc, at)
+    let (_, at) = first_word(Counted::Shared, Word::Shared, at)?;
+    let (shared, at) = name(alloc, None, at)?;
+    let at = word(Word::In, at)?;
+    let (scheduler, at) = name(alloc, None, at)?;
+    let at = sign(Sign::Equals, at)?;
+    let ((_, value), at) = signed(at)?;
+    let at = sign(Sign::Semicolon, at)?;
+    Ok((
+        Item::Shared {
+            name: shared,
+            scheduler,
+            value,
+        },
+        at,
+    ))
+}
+
+/// Reads the name of a thread, if `as` stands here.
+#[tactic(auto, unfolding(crate::specs::Grammar::alias))]
+fn optional_alias<'a>(alloc: Global, at: Cursor<'a>) -> Result<(Option<Ident>, Cursor<'a>), Stop>
+    ensures { Gives itself result (reads_flat (maybe alias) at.entry) }
+{
+    if next_is_word(Word::As, &at) {
+        let at = word(Word::As, at)?;
+        let (alias, at) = name(alloc, None, at)?;
+        Ok((Some(alias), at))
     } else {
+        Ok((None, at))
+    }
+}
+
+#[tactic(auto, unfolding(crate::specs::Grammar::start_item, crate::specs::Grammar::alias), using(crate::proofs::Flat::flat_arguments))]
+fn start_item<'a>(alloc: Global, at: Cursor<'a>) -> Result<(Item, Cursor<'a>), Stop>
+    ensures { Gives (viewed declaration_of) result (reads nesting start_item at.entry) }
+{
+    let (_, at) = first_word(Counted::Start, Word::Start, at)?;
+    let (scheduler, at) = name(alloc, None, at)?;
+    let at = sign(Sign::Dot, at)?;
+    let (called, at) = name(alloc, None, at)?;
+    let (arguments, at) = outer_arguments(alloc, at)?;
+    let (name, at) = optional_alias(alloc, at)?;
+    let at = sign(Sign::Semicolon, at)?;
+    Ok((
+        Item::Start {
+            scheduler,
+            called,
+            arguments,
+            name,
+        },
+        at,
+    ))
+}
+
+#[tactic(auto, unfolding(crate::specs::Grammar::outside_item))]
+fn outside_item<'a>(alloc: Global, at: Cursor<'a>) -> Result<(Item, Cursor<'a>), Stop>
+    ensures { Gives (viewed declaration_of) result (reads nesting outside_item at.entry) }
+{
+    let (_, at) = first_word(Counted::Client, Word::Outside, at)?;
+    let (name, at) = name(alloc, None, at)?;
+    let at = sign(Sign::OpenBrace, at)?;
+    let (orders, at) = orders(alloc, at)?;
+    let at = sign(Sign::CloseBrace, at)?;
+    Ok((Item::Outside { name, orders }, at))
+}
+
+#[tactic(auto, unfolding(crate::specs::Grammar::item, crate::specs::Grammar::scheduler_item, crate::specs::Grammar::event_item, crate::specs::Grammar::shared_item, crate::specs::Grammar::module_item, crate::specs::Grammar::head, crate::specs::Grammar::start_item, crate::specs::Grammar::outside_item))]
+fn item<'a>(alloc: Global, at: Cursor<'a>) -> Result<(Item, Cursor<'a>), Stop>
+    ensures { Gives (viewed declaration_of) result (reads nesting item at.entry) }
+{
+    if next_is_word(Word::Scheduler, &at) {
+        scheduler_item(alloc, at)
+    } else if next_is_word(Word::Event, &at) {
+        event_item(alloc, at)
+    } else if next_is_word(Word::Shared, &at) {
+        shared_item(alloc, at)
+    } else if next_is_word(Word::Module, &at) {
+        module_item(alloc, at)
+    } else if next_is_word(Word::Start, &at) {
         start_item(alloc, at)
+    } else {
+        outside_item(alloc, at)
     }
 }
 
 /// Reads the declarations of a program.
 #[tactic(auto, unfolding(crate::specs::Grammar::program))]
 pub fn items<'a>(alloc: Global, at: Cursor<'a>) -> Result<(Vec<Item>, Cursor<'a>), Stop>
-    ensures { Gives items_view result (reads program (symbols_at at.entry)) }
+    ensures { Gives (viewed declarations_of) result (reads nesting program at.entry) }
 {
     let mut items = Vec::new(alloc);
     let mut at = at;

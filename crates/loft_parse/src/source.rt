@@ -1,69 +1,103 @@
 //! Reading a whole text.
 
-ghost use Rattle.std.specs.Prelude.{◌≡◌, ◌≤◌, length, Some, IfOk, IfSome, IfNone};
+ghost use Rattle.std.specs.Prelude.{◌≡◌, ◌<◌, ◌≤◌, ◌↔◌, Ok, Err, IfOk, IfErr, length};
+ghost use Rattle.loft_lex.specs.Tokens.{tokens};
 ghost use Rattle.loft_tree.specs.Source.{Source};
-ghost use Rattle.loft_tree.specs.Small.{IsSmall};
-ghost use Rattle.loft_parse.specs.Source.{Reads};
-ghost use Rattle.loft_parse.specs.Parsing.{parsed, Answers};
+ghost use Rattle.loft_tree.specs.View.{source_of};
+ghost use Rattle.loft_parse.specs.declared.error.ParseError.TheVariants.{TooLong};
+ghost use Rattle.loft_parse.specs.declared.error.ParseError.{ParseError};
+ghost use Rattle.loft_parse.specs.Source.{Reads, place, located, SourceFault, IsFault};
+ghost use Rattle.loft_parse.specs.Parsing.{whole_text, parsed, Answers};
 
+use crate::counts::Counts;
 use crate::cursor::Cursor;
+use crate::error::ParseError;
 use crate::item::items;
-use loft_base::NoMemory;
-use loft_form::Stop;
-use loft_lex::{LexError, MAX_TEXT_LEN, lex};
+use loft_form::{Fault, Stop};
+use loft_lex::{LexError, MAX_TEXT_LEN, Token, lex};
 use loft_tree::Program;
 use std::alloc::Global;
 
-/// The program that the text is, small or not.
-fn parsed(alloc: Global, text: &[u8]) -> Result<Option<Program>, NoMemory>
+/// The place of the token from which on so many are left, or the text's end.
+fn place(end: u32, tokens: &[Token], left: usize) -> u32
+    ensures { result ≡ place end tokens.now left }
+{
+    let (_, rest) = tokens.split_at(tokens.len().saturating_sub(left));
+    match rest {
+        [] => end,
+        [token, ..] => token.from,
+    }
+}
+
+/// The fault, told by its place in the text.
+fn located(end: u32, tokens: &[Token], fault: Fault) -> ParseError
+    ensures { result ≡ located end tokens.now fault }
+{
+    match fault {
+        Fault::Expected(left) => ParseError::Expected(place(end, tokens, left)),
+        Fault::TooDeep(left) => ParseError::TooDeep(place(end, tokens, left)),
+        Fault::TooMany { left, limit } => ParseError::TooMany {
+            at: place(end, tokens, left),
+            limit,
+        },
+    }
+}
+
+/// The program that the tokens found in the text spell, or their first fault.
+fn program_of(alloc: Global, text: &[u8], found: &[Token]) -> Result<Program, ParseError>
+    requires short { length text.now ≤ MAX_TEXT_LEN }
+    requires lexed { tokens text.now ≡ Ok found.now }
+    ensures { Answers result (whole_text text.now (Ok found.now)) }
+{
+    let end = text.len() as u32;
+    let start = Cursor {
+        text,
+        tokens: found,
+        counts: Counts::none(),
+        due: None,
+    };
+    match items(alloc, start) {
+        Err(Stop::NoMemory) => Err(ParseError::NoMemory),
+        Err(Stop::Fault(fault)) => Err(located(end, found, fault)),
+        Ok((declarations, at)) => match at.tokens {
+            [] => Ok(Program::new(declarations)),
+            rest => Err(located(end, found, Fault::Expected(rest.len()))),
+        },
+    }
+}
+
+/// The program that the text is, or its first fault.
+fn parsed(alloc: Global, text: &[u8]) -> Result<Program, ParseError>
     requires { length text.now ≤ MAX_TEXT_LEN }
     ensures { Answers result (parsed text.now) }
 {
     match lex(alloc, text) {
-        Err(LexError::NoMemory) => Err(NoMemory),
-        Err(_) => Ok(None),
-        Ok(tokens) => {
-            let start = Cursor {
-                text,
-                tokens: tokens.as_slice(),
-            };
-            match items(alloc, start) {
-                Err(Stop::NoMemory) => Err(NoMemory),
-                Err(Stop::Fault(_)) => Ok(None),
-                Ok((found, at)) => {
-                    if at.tokens.is_empty() {
-                        Ok(Some(Program::new(found)))
-                    } else {
-                        Ok(None)
-                    }
-                }
-            }
-        }
+        Err(LexError::NoMemory) => Err(ParseError::NoMemory),
+        Err(fault) => Err(ParseError::Lex(fault)),
+        Ok(tokens) => program_of(alloc, text, tokens.as_slice()),
     }
 }
 
-/// The small program that the text is (docs/LANGUAGE.md, "Small programs").
-///
-/// `None` where no small program reads so: the text has a lexical fault, breaks the grammar, or is a program
-/// that isn't small.
+/// The program that a text is, or its first fault (docs/LANGUAGE.md, "Grammar" and "Limits").
 ///
 /// # Errors
 ///
+/// `TooLong` exactly where the text has more than 4 MiB. Else the fault of the text (docs/LANGUAGE.md, "The fault of a
+/// text"): `Lex` with its first lexical fault, if it has one; then `Expected`, `TooDeep` or `TooMany`, the one at the
+/// smallest place, where at one token they come in this order.
 /// `NoMemory` where there was no memory for the tokens or the program, whatever the text is.
-pub fn parse(alloc: Global, text: &[u8]) -> Result<Option<Program>, NoMemory>
-    requires { length text.now ≤ MAX_TEXT_LEN }
-    ensures reads { IfOk result (λ o. IfSome o (Reads text.now)) }
-    ensures small { IfOk result (λ o. IfSome o IsSmall) }
-    ensures none { IfOk result (λ o. IfNone o ((p : Source) → Reads text.now p → IsSmall p → ⊥)) }
+pub fn parse(alloc: Global, text: &[u8]) -> Result<Program, ParseError>
+    // What is parsed is the program of the text, and no program is refused but for want of memory.
+    ensures ok { IfOk result (λ p. Reads text.now (source_of p)) }
+    ensures only { (p : Source) → Reads text.now p → length text.now ≤ MAX_TEXT_LEN → Answers result (Ok p) }
+
+    // Each error has its cause, and where the cause is, the error comes but for want of memory.
+    ensures fault { IfErr result (IsFault text.now) }
+    ensures only_fault { (e : ParseError) → SourceFault text.now e → length text.now ≤ MAX_TEXT_LEN → Answers result (Err e) }
+    ensures too_long { (result ≡ Err TooLong) ↔ (MAX_TEXT_LEN < length text.now) }
 {
-    match parsed(alloc, text)? {
-        Some(program) => {
-            if program.is_small() {
-                Ok(Some(program))
-            } else {
-                Ok(None)
-            }
-        }
-        None => Ok(None),
+    if text.len() > MAX_TEXT_LEN {
+        return Err(ParseError::TooLong);
     }
+    parsed(alloc, text)
 }

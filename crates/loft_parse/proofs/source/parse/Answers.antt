@@ -1,13 +1,17 @@
-use Rattle.std.proofs.Common.{◌∙◌}
-use Rattle.loft_parse.proofs.Laws.{parsed_reads, none_small, none_read}
+use Rattle.std.proofs.Common.{subst}
+use Rattle.loft_parse.specs.Parsing.{Answers}
+use Rattle.loft_parse.proofs.Laws.{answers_ok, answers_fault, reads_parsed}
+use Rattle.loft_parse.proofs.SourceFaults.{fault_parsed}
 use Rattle.loft_parse.proofs.source.parse.Goals as goal
 
-pub returns-then-is_small-clause-reads : goal.returns-then-is_small-clause-reads
-returns-then-is_small-clause-reads c = parsed_reads c.args.text.now c.in-Some.program (c.in_ok-program.ensures ∙ c.in-Some.is)
+pub returns-clause-ok : goal.returns-clause-ok
+returns-clause-ok c = answers_ok c.args.text.now c.parsed.result c.parsed.ensures
 
-pub returns-else-is_small-clause-none : goal.returns-else-is_small-clause-none
-returns-else-is_small-clause-none c =
-    none_small c.args.text.now c.in-Some.program c.is_small.result (c.in_ok-program.ensures ∙ c.in-Some.is) c.if-is_small.false c.is_small.ensures
+pub returns-clause-only : goal.returns-clause-only
+returns-clause-only c = λ p r short. subst (Answers c.parsed.result) (reads_parsed c.args.text.now p r) c.parsed.ensures
 
-pub returns-in-None-clause-none : goal.returns-in-None-clause-none
-returns-in-None-clause-none c = none_read c.args.text.now (c.in_ok-program.ensures ∙ c.in-None.is)
+pub returns-clause-fault : goal.returns-clause-fault
+returns-clause-fault c = answers_fault c.args.text.now c.parsed.result c.parsed.ensures
+
+pub returns-clause-only_fault : goal.returns-clause-only_fault
+returns-clause-only_fault c = λ e f short. subst (Answers c.parsed.result) (fault_parsed c.args.text.now e f) c.parsed.ensures

@@ -1,0 +1,36 @@
+-- Chains of operators, as a loop reads them.
+use Rattle.std.proofs.Common.{◌≡◌, ℕ, ◌<◌, true, false, List, Ok, Err, refl, sym, ◌∙◌, ap}
+use Rattle.loft_lex.specs.Symbol.{Symbol}
+use Rattle.loft_tree.specs.declared.kinds.BinaryOperator.{BinaryOperator}
+use Rattle.loft_tree.specs.Source.{Expression, Binary}
+use Rattle.loft_form.specs.declared.stop.Stop.{Stop}
+use Rattle.loft_form.specs.declared.stop.Stop.TheVariants as stop
+use Rattle.loft_form.specs.Form.{many, State, next_begins}
+use Rattle.loft_form.specs.Reading.{Place, Read, ◌>>=◌, with_first, read, done, Fails}
+use Rattle.loft_form.proofs.Eats.{least, many_more, many_done}
+use Rattle.loft_parse.specs.Language.{Language}
+use Rattle.loft_parse.specs.Grammar.{Form, rules, chain}
+use Rattle.loft_parse.specs.Source.{limits}
+
+-- what was read of the chain, and then what is left of it
+abbrev pub finish : Expression → Read Language (List (BinaryOperator × Expression)) → Read Language Expression
+finish t found = found >>= λ y. Ok (chain t y.0, y.1)
+
+regroup : (t u : Expression) (o : BinaryOperator) (found : Read Language (List (BinaryOperator × Expression))) → finish t (with_first (o, u) found) ≡ finish (Binary o t u) found
+regroup t u o (Ok y) = refl
+regroup t u o (Err e) = refl
+
+module _ (n : ℕ) (f : Form (BinaryOperator × Expression)) (t : Expression) (ss : List Symbol) (c : State Language) (total : Read Language Expression) (so_far : finish t (read rules limits n (many f) ss c) ≡ total) where
+  pub chain_more : (x : BinaryOperator × Expression) (p : Place Language) → 0 < least f → next_begins f ss ≡ true → read rules limits n f ss c ≡ Ok (x, p) → finish (Binary x.0 t x.1) (read rules limits n (many f) p.rest p.state) ≡ total
+  chain_more x p h b e =
+      let one : read rules limits n (many f) ss c ≡ with_first x (read rules limits n (many f) p.rest p.state) = many_more rules limits n f ss c h b ∙ ap (λ r. r >>= λ y. with_first y.0 (read rules limits n (many f) y.1.rest y.1.state)) e in
+      sym (regroup t x.1 x.0 (read rules limits n (many f) p.rest p.state)) ∙ ap (finish t) (sym one) ∙ so_far
+
+  pub chain_fails : (e : Stop) → 0 < least f → next_begins f ss ≡ true → Fails e (read rules limits n f ss c) → Fails e total
+  chain_fails stop.NoMemory h b r = tt
+  chain_fails (stop.Fault d) h b r =
+      let one : read rules limits n (many f) ss c ≡ Err d = many_more rules limits n f ss c h b ∙ ap (λ r. r >>= λ y. with_first y.0 (read rules limits n (many f) y.1.rest y.1.state)) r in
+      sym so_far ∙ ap (finish t) one
+
+  pub chain_done : 0 < least f → next_begins f ss ≡ false → total ≡ done t ss c
+  chain_done h b = sym so_far ∙ ap (finish t) (many_done rules limits n f ss c h b)

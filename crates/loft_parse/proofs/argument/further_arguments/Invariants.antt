@@ -1,0 +1,12 @@
+use Rattle.std.proofs.Common.{◌≡◌, length}
+use Rattle.loft_form.specs.Form.{many}
+use Rattle.loft_parse.specs.Grammar.{further, argument}
+use Rattle.loft_parse.specs.View.{reads, with_front, expressions_of}
+use Rattle.loft_parse.proofs.argument.further_arguments.Given as goal
+
+-- what was read and what is left make up the whole
+abbrev pub invariant-all : goal.invariant-all
+invariant-all l = with_front (expressions_of l.arguments) (reads l.deeper (many (further argument)) l.at) ≡ with_front (expressions_of l.fn.arguments) (reads l.deeper (many (further argument)) l.fn.at)
+
+abbrev pub decreases-all : goal.decreases-all
+decreases-all l = length l.at.tokens.now

@@ -1,0 +1,10 @@
+pub mod Counting
+pub mod Expressions
+pub mod Forms
+pub mod Items
+pub mod Lists
+pub mod Parts
+pub mod Rules
+pub mod SpelledFits
+pub mod Statements
+pub mod Symbols

@@ -1,0 +1,194 @@
+//! Reading the bodies of modules, and the statements that hold others.
+
+ghost use Rattle.std.specs.Prelude.{◌≡◌};
+ghost use Rattle.std.specs.Option.{option_map};
+ghost use Rattle.loft_tree.specs.View.{expression_of, statement_of};
+ghost use Rattle.loft_form.specs.Form.{maybe};
+ghost use Rattle.loft_form.specs.Reading.{Gives};
+ghost use Rattle.loft_parse.specs.Grammar.{test, conditional, while_loop, repeat, moving_statement, statement, body, otherwise, branches, turns};
+ghost use Rattle.loft_parse.specs.View.{reads, viewed, statement_list_of, branches_of, turns_of};
+
+use crate::cursor::Cursor;
+use crate::expression::whole;
+use crate::leaf::{opening_word, sign, word};
+use crate::next::{
+    next_event_statement, next_is_word, next_statement, next_thread_statement, next_value_statement,
+};
+use crate::statement::{event_statement, link, thread_statement, unlink, value_statement};
+use loft_form::Stop;
+use loft_lex::{Sign, Word};
+use loft_tree::{Expr, Stmt};
+use std::alloc::Global;
+
+/// The condition of an `if` or a loop, with its brackets.
+#[tactic(auto, unfolding(crate::specs::Grammar::test))]
+fn test<'a>(alloc: Global, deeper: u32, at: Cursor<'a>) -> Result<(Expr, Cursor<'a>), Stop>
+    ensures { Gives (viewed expression_of) result (reads deeper test at.entry) }
+{
+    let at = sign(Sign::Open, at)?;
+    let (e, at) = whole(alloc, deeper, at)?;
+    let at = sign(Sign::Close, at)?;
+    Ok((e, at))
+}
+
+#[cycle(statement)]
+#[tactic(auto, unfolding(crate::specs::Grammar::conditional), using(loft_tree::proofs::Trees::statements, crate::proofs::Inside::inside_is))]
+fn conditional<'a>(alloc: Global, deeper: u32, at: Cursor<'a>) -> Result<(Stmt, Cursor<'a>), Stop>
+    ensures { Gives (viewed statement_of) result (reads deeper conditional at.entry) }
+{
+    let (place, at) = opening_word(deeper, Word::If, at)?;
+    let ((test, first, second), at) = branches(alloc, deeper - 1, at)?;
+    let at = word(Word::End, at)?;
+    let second = match second {
+        Some(second) => second,
+        None => Vec::new(alloc),
+    };
+    Ok((
+        Stmt::If {
+            at: place,
+            test,
+            first,
+            second,
+        },
+        at,
+    ))
+}
+
+#[cycle(statement)]
+#[tactic(auto, unfolding(crate::specs::Grammar::while_loop), using(loft_tree::proofs::Trees::statements, crate::proofs::Inside::inside_is))]
+fn while_loop<'a>(alloc: Global, deeper: u32, at: Cursor<'a>) -> Result<(Stmt, Cursor<'a>), Stop>
+    ensures { Gives (viewed statement_of) result (reads deeper while_loop at.entry) }
+{
+    let (place, at) = opening_word(deeper, Word::While, at)?;
+    let ((test, body), at) = turns(alloc, deeper - 1, at)?;
+    let at = word(Word::End, at)?;
+    Ok((
+        Stmt::While {
+            at: place,
+            test,
+            body,
+        },
+        at,
+    ))
+}
+
+#[cycle(statement)]
+#[tactic(auto, unfolding(crate::specs::Grammar::repeat), using(loft_tree::proofs::Trees::statements, crate::proofs::Inside::inside_is))]
+fn repeat<'a>(alloc: Global, deeper: u32, at: Cursor<'a>) -> Result<(Stmt, Cursor<'a>), Stop>
+    ensures { Gives (viewed statement_of) result (reads deeper repeat at.entry) }
+{
+    let (place, at) = opening_word(deeper, Word::Repeat, at)?;
+    let ((count, body), at) = turns(alloc, deeper - 1, at)?;
+    let at = word(Word::End, at)?;
+    Ok((
+        Stmt::Repeat {
+            at: place,
+            count,
+            body,
+        },
+        at,
+    ))
+}
+
+#[cycle(statement)]
+#[tactic(auto, unfolding(crate::specs::Grammar::moving_statement, crate::specs::Grammar::link, crate::specs::Grammar::unlink, crate::specs::Grammar::conditional, crate::specs::Grammar::while_loop))]
+fn moving_statement<'a>(
+    alloc: Global,
+    deeper: u32,
+    at: Cursor<'a>,
+) -> Result<(Stmt, Cursor<'a>), Stop>
+    ensures { Gives (viewed statement_of) result (reads deeper moving_statement at.entry) }
+{
+    if next_is_word(Word::Link, &at) {
+        link(alloc, at)
+    } else if next_is_word(Word::Unlink, &at) {
+        unlink(at)
+    } else if next_is_word(Word::If, &at) {
+        conditional(alloc, deeper, at)
+    } else if next_is_word(Word::While, &at) {
+        while_loop(alloc, deeper, at)
+    } else {
+        repeat(alloc, deeper, at)
+    }
+}
+
+#[cycle(statement)]
+#[tactic(auto, unfolding(crate::specs::Grammar::statement))]
+fn statement<'a>(alloc: Global, deeper: u32, at: Cursor<'a>) -> Result<(Stmt, Cursor<'a>), Stop>
+    ensures { Gives (viewed statement_of) result (reads deeper statement at.entry) }
+{
+    if next_value_statement(&at) {
+        value_statement(alloc, deeper, at)
+    } else if next_event_statement(&at) {
+        event_statement(alloc, deeper, at)
+    } else if next_thread_statement(&at) {
+        thread_statement(alloc, deeper, at)
+    } else {
+        moving_statement(alloc, deeper, at)
+    }
+}
+
+/// Reads the statements of a body.
+#[cycle(statement)]
+#[tactic(auto, unfolding(crate::specs::Grammar::body))]
+pub fn body<'a>(alloc: Global, deeper: u32, at: Cursor<'a>) -> Result<(Vec<Stmt>, Cursor<'a>), Stop>
+    ensures { Gives (viewed statement_list_of) result (reads deeper body at.entry) }
+{
+    let mut statements = Vec::new(alloc);
+    let mut at = at;
+    'all: while next_statement(&at) {
+        let (one, next) = statement(alloc, deeper, at)?;
+        statements.push(one)?;
+        at = next;
+    }
+    Ok((statements, at))
+}
+
+#[cycle(statement)]
+#[tactic(auto, unfolding(crate::specs::Grammar::otherwise))]
+fn otherwise<'a>(
+    alloc: Global,
+    deeper: u32,
+    at: Cursor<'a>,
+) -> Result<(Option<Vec<Stmt>>, Cursor<'a>), Stop>
+    ensures { Gives (viewed (option_map statement_list_of)) result (reads deeper (maybe otherwise) at.entry) }
+{
+    if next_is_word(Word::Else, &at) {
+        let at = word(Word::Else, at)?;
+        let (second, at) = body(alloc, deeper, at)?;
+        Ok((Some(second), at))
+    } else {
+        Ok((None, at))
+    }
+}
+
+#[cycle(statement)]
+#[tactic(auto, unfolding(crate::specs::Grammar::branches))]
+fn branches<'a>(
+    alloc: Global,
+    deeper: u32,
+    at: Cursor<'a>,
+) -> Result<((Expr, Vec<Stmt>, Option<Vec<Stmt>>), Cursor<'a>), Stop>
+    ensures { Gives (viewed branches_of) result (reads deeper branches at.entry) }
+{
+    let (test, at) = test(alloc, deeper, at)?;
+    let at = word(Word::Then, at)?;
+    let (first, at) = body(alloc, deeper, at)?;
+    let (second, at) = otherwise(alloc, deeper, at)?;
+    Ok(((test, first, second), at))
+}
+
+#[cycle(statement)]
+#[tactic(auto, unfolding(crate::specs::Grammar::turns))]
+fn turns<'a>(
+    alloc: Global,
+    deeper: u32,
+    at: Cursor<'a>,
+) -> Result<((Expr, Vec<Stmt>), Cursor<'a>), Stop>
+    ensures { Gives (viewed turns_of) result (reads deeper turns at.entry) }
+{
+    let (test, at) = test(alloc, deeper, at)?;
+    let at = word(Word::Do, at)?;
+    let (body, at) = body(alloc, deeper, at)?;
+    Ok(((test, body), at))
+}

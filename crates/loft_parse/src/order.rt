@@ -1,0 +1,110 @@
+//! Reading the orders of outside clients.
+
+ghost use Rattle.std.specs.Prelude.{◌≡◌};
+ghost use Rattle.loft_tree.specs.View.{order_of};
+ghost use Rattle.loft_form.specs.Form.{maybe, many, fresh};
+ghost use Rattle.loft_form.specs.Reading.{Gives};
+ghost use Rattle.loft_parse.specs.Grammar.{create_order, control_order, value_behind_comma, broadcast_order, order};
+ghost use Rattle.loft_parse.specs.View.{reads_flat, viewed, itself, orders_of};
+
+use crate::counts::Counted;
+use crate::cursor::Cursor;
+use crate::leaf::{first_word, name, sign, word};
+use crate::next::{next_control, next_is_sign, next_is_word, next_order};
+use crate::outer::{outer_arguments, signed};
+use crate::statement::control_word;
+use loft_form::Stop;
+use loft_lex::{Sign, Word};
+use loft_tree::Order;
+use std::alloc::Global;
+
+#[tactic(auto, unfolding(crate::specs::Grammar::create_order))]
+fn create_order<'a>(alloc: Global, at: Cursor<'a>) -> Result<(Order, Cursor<'a>), Stop>
+    ensures { Gives (viewed order_of) result (reads_flat create_order at.entry) }
+{
+    let (_, at) = first_word(Counted::Order, Word::Create, at)?;
+    let (scheduler, at) = name(alloc, None, at)?;
+    let at = sign(Sign::Dot, at)?;
+    let (called, at) = name(alloc, None, at)?;
+    let (arguments, at) = outer_arguments(alloc, at)?;
+    let at = sign(Sign::Semicolon, at)?;
+    Ok((
+        Order::Create {
+            scheduler,
+            called,
+            arguments,
+        },
+        at,
+    ))
+}
+
+#[tactic(auto, unfolding(crate::specs::Grammar::control_order))]
+fn control_order<'a>(alloc: Global, at: Cursor<'a>) -> Result<(Order, Cursor<'a>), Stop>
+    ensures { Gives (viewed order_of) result (reads_flat control_order at.entry) }
+{
+    let ((_, control), at) = control_word(Counted::Order, at)?;
+    let (thread, at) = name(alloc, None, at)?;
+    let at = word(Word::In, at)?;
+    let (scheduler, at) = name(alloc, None, at)?;
+    let at = sign(Sign::Semicolon, at)?;
+    Ok((
+        Order::Control {
+            control,
+            thread,
+            scheduler,
+        },
+        at,
+    ))
+}
+
+/// Reads a comma and a number, if a comma stands here.
+#[tactic(auto, unfolding(crate::specs::Grammar::value_behind_comma))]
+fn optional_value<'a>(at: Cursor<'a>) -> Result<(Option<i64>, Cursor<'a>), Stop>
+    ensures { Gives itself result (reads_flat (maybe value_behind_comma) at.entry) }
+{
+    if next_is_sign(Sign::Comma, &at) {
+        let at = sign(Sign::Comma, at)?;
+        let ((_, value), at) = signed(at)?;
+        Ok((Some(value), at))
+    } else {
+        Ok((None, at))
+    }
+}
+
+#[tactic(auto, unfolding(crate::specs::Grammar::broadcast_order))]
+fn broadcast_order<'a>(alloc: Global, at: Cursor<'a>) -> Result<(Order, Cursor<'a>), Stop>
+    ensures { Gives (viewed order_of) result (reads_flat broadcast_order at.entry) }
+{
+    let (_, at) = first_word(Counted::Order, Word::Broadcast, at)?;
+    let (event, at) = name(alloc, None, at)?;
+    let (value, at) = optional_value(at)?;
+    let at = sign(Sign::Semicolon, at)?;
+    Ok((Order::Broadcast { event, value }, at))
+}
+
+#[tactic(auto, unfolding(crate::specs::Grammar::order, crate::specs::Grammar::create_order, crate::specs::Grammar::control_order))]
+fn order<'a>(alloc: Global, at: Cursor<'a>) -> Result<(Order, Cursor<'a>), Stop>
+    ensures { Gives (viewed order_of) result (reads_flat order at.entry) }
+{
+    if next_is_word(Word::Create, &at) {
+        create_order(alloc, at)
+    } else if next_control(&at) {
+        control_order(alloc, at)
+    } else {
+        broadcast_order(alloc, at)
+    }
+}
+
+/// Reads the orders of a client.
+pub fn orders<'a>(alloc: Global, at: Cursor<'a>) -> Result<(Vec<Order>, Cursor<'a>), Stop>
+    ensures { Gives (viewed orders_of) result (reads_flat (fresh Counted.Order (many order)) at.entry) }
+{
+    let mut orders = Vec::new(alloc);
+    let mut at = at.anew(Counted::Order);
+    'all: while next_order(&at) {
+        let (one, next) = order(alloc, at)?;
+        orders.push(one)?;
+        at = next;
+    }
+    Ok((orders, at))
+}
