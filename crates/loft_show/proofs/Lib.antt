@@ -1,0 +1,4 @@
+pub mod Texts
+pub mod Fitting
+pub mod Items
+pub mod reads

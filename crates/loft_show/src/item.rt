@@ -1,0 +1,227 @@
+//! Declarations.
+
+ghost use Rattle.std.specs.Prelude.{◌≡◌, ◌++◌, ◌∷◌, [], map, OnOk};
+ghost use Rattle.std.specs.Option.{option_map};
+ghost use Rattle.loft_lex.specs.declared.word.Word.TheVariants as w;
+ghost use Rattle.loft_tree.specs.Source.{Event, Shared, Module, Start, Outside};
+ghost use Rattle.loft_tree.specs.View.{named_of, place_name_of, head_of, statements_of, argument_of, order_of, declaration_of};
+ghost use Rattle.loft_tree.specs.Fits.{StatementsFit, DeclarationFits};
+ghost use Rattle.loft_show.specs.Canon.{behind, declaration_lines, head_line, kind_word, lines_text, local_lines, name_pieces, named_pieces, pieces_text, place_pieces, space, spaced, word};
+
+use crate::line::{begin_line, end_line, end_statement, put_bare_line, put_name_line};
+use crate::list::{Listed, put_list};
+use crate::order::{put_orders, put_outer_call};
+use crate::pieces::{put_name, put_number, put_sign, put_word};
+use crate::statement::put_body;
+use loft_base::NoMemory;
+use loft_lex::{Sign, Word};
+use loft_tree::{Argument, Ident, Item, Kind, ModuleHead, Order, PlaceName, Stmt, Variable};
+
+/// The word of a kind.
+fn kind_word(kind: Kind) -> Word
+    ensures { result ≡ kind_word kind }
+{
+    match kind {
+        Kind::Int => Word::Int,
+        Kind::Thread => Word::Thread,
+    }
+}
+
+impl Listed for Variable {
+    ghost pieces = { λ v. named_pieces (named_of v) };
+
+    #[tactic(auto, using(crate::proofs::Items::items))]
+    fn put(&self, out: &mut Vec<u8>, gap: &[u8]) -> Result<(), NoMemory> {
+        put_word(out, gap, kind_word(self.kind))?;
+        put_name(out, b" ", &self.name)
+    }
+}
+
+/// Appends a blank and a place.
+#[tactic(auto, using(crate::proofs::Items::items))]
+fn put_place(out: &mut Vec<u8>, place: &PlaceName) -> Result<(), NoMemory>
+    ensures { OnOk result (out.new.items ≡ out.old.items ++ pieces_text
+        (place_pieces (place_name_of place.now) space)) }
+{
+    match place {
+        PlaceName::Scheduler(name) => put_name(out, b" ", name),
+        PlaceName::Unlinked => put_word(out, b" ", Word::Unlinked),
+    }
+}
+
+/// Appends where the threads of a module end, if that isn't where they begin.
+#[tactic(auto, using(crate::proofs::Items::items))]
+fn put_end_place(out: &mut Vec<u8>, end: &Option<PlaceName>) -> Result<(), NoMemory>
+    ensures { OnOk result (out.new.items ≡ out.old.items ++ pieces_text
+        (behind place_pieces (spaced (word w.To) ∷ []) (option_map place_name_of end.now))) }
+{
+    let Some(end) = end else {
+        return Ok(());
+    };
+    put_word(out, b" ", Word::To)?;
+    put_place(out, end)
+}
+
+/// `module m(int x, thread t) in A to B`
+#[tactic(auto, using(crate::proofs::Items::items))]
+fn put_head(out: &mut Vec<u8>, head: &ModuleHead) -> Result<(), NoMemory>
+    ensures { OnOk result (out.new.items ≡ out.old.items ++ lines_text
+        (head_line (head_of head.now) ∷ [])) }
+{
+    put_word(out, b"", Word::Module)?;
+    put_name(out, b" ", &head.name)?;
+    put_list(out, head.parameters.as_slice())?;
+    put_word(out, b" ", Word::In)?;
+    put_place(out, &head.begin)?;
+    put_end_place(out, &head.end)?;
+    end_line(out)
+}
+
+/// `local int x;`
+#[tactic(auto, using(crate::proofs::Items::items))]
+fn put_local(out: &mut Vec<u8>, local: &Variable) -> Result<(), NoMemory>
+    ensures { OnOk result (out.new.items ≡ out.old.items ++ lines_text
+        (local_lines (named_of local.now ∷ []))) }
+{
+    begin_line(out, 2, Word::Local)?;
+    local.put(out, b" ")?;
+    end_statement(out)
+}
+
+/// The local variables of a module.
+fn put_locals(out: &mut Vec<u8>, locals: &[Variable]) -> Result<(), NoMemory>
+    ensures { OnOk result (out.new.items ≡ out.old.items ++ lines_text
+        (local_lines (map named_of locals.now))) }
+{
+    for local in locals {
+        put_local(out, local)?;
+    }
+    Ok(())
+}
+
+/// `event e in A;`
+#[tactic(auto, using(crate::proofs::Items::items))]
+fn put_event(out: &mut Vec<u8>, name: &Ident, scheduler: &Ident) -> Result<(), NoMemory>
+    ensures { OnOk result (out.new.items ≡ out.old.items ++ lines_text
+        (declaration_lines (Event name.now scheduler.now))) }
+{
+    begin_line(out, 0, Word::Event)?;
+    put_name(out, b" ", name)?;
+    put_word(out, b" ", Word::In)?;
+    put_name(out, b" ", scheduler)?;
+    end_statement(out)
+}
+
+/// `shared x in A = 1;`
+#[tactic(auto, using(crate::proofs::Items::items))]
+fn put_shared(
+    out: &mut Vec<u8>,
+    name: &Ident,
+    scheduler: &Ident,
+    value: i64,
+) -> Result<(), NoMemory>
+    ensures { OnOk result (out.new.items ≡ out.old.items ++ lines_text
+        (declaration_lines (Shared name.now scheduler.now value))) }
+{
+    begin_line(out, 0, Word::Shared)?;
+    put_name(out, b" ", name)?;
+    put_word(out, b" ", Word::In)?;
+    put_name(out, b" ", scheduler)?;
+    put_sign(out, b" ", Sign::Equals)?;
+    put_number(out, b" ", value)?;
+    end_statement(out)
+}
+
+/// A module: its head, its local variables, its statements and `end`.
+#[tactic(auto, using(crate::proofs::Texts::bodies))]
+fn put_module(
+    out: &mut Vec<u8>,
+    head: &ModuleHead,
+    locals: &[Variable],
+    body: &[Stmt],
+) -> Result<(), NoMemory>
+    requires { StatementsFit (statements_of body.now) 32 }
+    ensures { OnOk result (out.new.items ≡ out.old.items ++ lines_text
+        (declaration_lines
+        (Module (head_of head.now) (map named_of locals.now) (statements_of body.now)))) }
+{
+    put_head(out, head)?;
+    put_locals(out, locals)?;
+    put_body(out, body, 1)?;
+    put_bare_line(out, 0, Word::End)
+}
+
+/// Appends what a start names its thread, where it does.
+#[tactic(auto, using(crate::proofs::Items::items))]
+fn put_start_name(out: &mut Vec<u8>, name: &Option<Ident>) -> Result<(), NoMemory>
+    ensures { OnOk result (out.new.items ≡ out.old.items ++ pieces_text
+        (behind name_pieces (spaced (word w.As) ∷ []) name.now)) }
+{
+    let Some(name) = name else {
+        return Ok(());
+    };
+    put_word(out, b" ", Word::As)?;
+    put_name(out, b" ", name)
+}
+
+/// `start A.m(1, t);` or `start A.m(1, t) as n;`
+#[tactic(auto, using(crate::proofs::Items::items))]
+fn put_start(
+    out: &mut Vec<u8>,
+    scheduler: &Ident,
+    called: &Ident,
+    arguments: &[Argument],
+    name: &Option<Ident>,
+) -> Result<(), NoMemory>
+    ensures { OnOk result (out.new.items ≡ out.old.items ++ lines_text
+        (declaration_lines
+        (Start scheduler.now called.now (map argument_of arguments.now) name.now))) }
+{
+    begin_line(out, 0, Word::Start)?;
+    put_outer_call(out, scheduler, called, arguments)?;
+    put_start_name(out, name)?;
+    end_statement(out)
+}
+
+/// An outside client: its name, and its orders between braces.
+#[tactic(auto, using(crate::proofs::Items::items))]
+fn put_outside(out: &mut Vec<u8>, name: &Ident, orders: &[Order]) -> Result<(), NoMemory>
+    ensures { OnOk result (out.new.items ≡ out.old.items ++ lines_text
+        (declaration_lines (Outside name.now (map order_of orders.now)))) }
+{
+    put_word(out, b"", Word::Outside)?;
+    put_name(out, b" ", name)?;
+    put_sign(out, b" ", Sign::OpenBrace)?;
+    end_line(out)?;
+    put_orders(out, orders)?;
+    put_sign(out, b"", Sign::CloseBrace)?;
+    end_line(out)
+}
+
+/// A declaration.
+#[tactic(auto, using(crate::proofs::Items::items))]
+pub fn put_item(out: &mut Vec<u8>, item: &Item) -> Result<(), NoMemory>
+    requires { DeclarationFits (declaration_of item.now) }
+    ensures { OnOk result (out.new.items ≡ out.old.items ++ lines_text
+        (declaration_lines (declaration_of item.now))) }
+{
+    match item {
+        Item::Scheduler(name) => put_name_line(out, 0, Word::Scheduler, name),
+        Item::Event { name, scheduler } => put_event(out, name, scheduler),
+        Item::Shared {
+            name,
+            scheduler,
+            value,
+        } => put_shared(out, name, scheduler, *value),
+        Item::Module { head, locals, body } => {
+            put_module(out, head, locals.as_slice(), body.as_slice())
+        }
+        Item::Start {
+            scheduler,
+            called,
+            arguments,
+            name,
+        } => put_start(out, scheduler, called, arguments.as_slice(), name),
+        Item::Outside { name, orders } => put_outside(out, name, orders.as_slice()),
+    }
+}

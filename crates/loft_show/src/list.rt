@@ -1,0 +1,84 @@
+//! Lists between brackets, with commas.
+
+ghost use Rattle.std.specs.Prelude.{◌≡◌, ◌++◌, ◌∷◌, ℕ, List, OnOk};
+ghost use Rattle.loft_show.specs.Canon.{Piece, pieces_text, further_pieces, list_pieces, bracketed_pieces, spaced, tight, name, name_pieces, sign};
+ghost use Rattle.loft_lex.specs.declared.sign.Sign.TheVariants as s;
+
+use crate::pieces::{put_name, put_sign};
+use loft_base::NoMemory;
+use loft_lex::Sign;
+use loft_tree::Ident;
+
+/// What can stand in a list.
+pub trait Listed {
+    /// Its pieces behind these blanks.
+    ghost pieces: { Self → List ℕ → List Piece };
+
+    /// Appends blanks and its pieces.
+    fn put(&self, out: &mut Vec<u8>, gap: &[u8]) -> Result<(), NoMemory>
+        ensures { OnOk result (out.new.items ≡ out.old.items ++ pieces_text
+            (pieces self.now gap.now)) };
+}
+
+impl Listed for Ident {
+    ghost pieces = { name_pieces };
+
+    fn put(&self, out: &mut Vec<u8>, gap: &[u8]) -> Result<(), NoMemory> {
+        put_name(out, gap, self)
+    }
+}
+
+/// Appends these, each behind a comma and a blank.
+#[tactic(auto, using(crate::proofs::Texts::texts))]
+pub fn put_further<T: Listed>(out: &mut Vec<u8>, items: &[T]) -> Result<(), NoMemory>
+    ensures { OnOk result (out.new.items ≡ out.old.items ++ pieces_text
+        (further_pieces T.pieces items.now)) }
+{
+    for item in items {
+        put_sign(out, b"", Sign::Comma)?;
+        item.put(out, b" ")?;
+    }
+    Ok(())
+}
+
+/// Appends these, with a comma and a blank between each two.
+#[tactic(auto, using(crate::proofs::Texts::texts))]
+fn put_separated<T: Listed>(out: &mut Vec<u8>, items: &[T]) -> Result<(), NoMemory>
+    ensures { OnOk result (out.new.items ≡ out.old.items ++ pieces_text
+        (list_pieces T.pieces items.now)) }
+{
+    let [first, rest @ ..] = items else {
+        return Ok(());
+    };
+    first.put(out, b"")?;
+    put_further(out, rest)
+}
+
+/// Appends these between brackets.
+#[tactic(auto, using(crate::proofs::Texts::texts))]
+pub fn put_list<T: Listed>(out: &mut Vec<u8>, items: &[T]) -> Result<(), NoMemory>
+    ensures { OnOk result (out.new.items ≡ out.old.items ++ pieces_text
+        (bracketed_pieces T.pieces items.now)) }
+{
+    put_sign(out, b"", Sign::Open)?;
+    put_separated(out, items)?;
+    put_sign(out, b"", Sign::Close)
+}
+
+/// Appends a blank, and a thread to be made: its scheduler, its module and the arguments.
+#[tactic(auto, using(crate::proofs::Texts::texts))]
+pub fn put_call<T: Listed>(
+    out: &mut Vec<u8>,
+    scheduler: &Ident,
+    called: &Ident,
+    arguments: &[T],
+) -> Result<(), NoMemory>
+    ensures { OnOk result (out.new.items ≡ out.old.items ++ pieces_text
+        (spaced (name scheduler.now) ∷ tight (sign s.Dot) ∷ tight (name called.now)
+        ∷ bracketed_pieces T.pieces arguments.now)) }
+{
+    put_name(out, b" ", scheduler)?;
+    put_sign(out, b"", Sign::Dot)?;
+    put_name(out, b"", called)?;
+    put_list(out, arguments)
+}

@@ -1,0 +1,243 @@
+//! Statements without bodies, a line each.
+
+ghost use Rattle.std.specs.Prelude.{◌≡◌, ◌++◌, ◌∷◌, [], map, OnOk};
+ghost use Rattle.loft_tree.specs.Source.{Assign, AssignCreate, Create, PrintText, PrintValue, Cooperate, Await, Select, Get, Join, ControlThread, Run};
+ghost use Rattle.loft_tree.specs.View.{expression_of, value_of, creation_of};
+ghost use Rattle.loft_show.specs.Canon.{control_word, comma_part, lines_text, statement_lines, word_line, spaced, name};
+
+use crate::expression::put_expression;
+use crate::line::{begin_assignment, begin_line, end_statement};
+use crate::list::{put_further, put_list};
+use crate::part::{put_creation, put_limit_part, put_value_alone, put_value_part};
+use crate::pieces::{put_name, put_text, put_word};
+use loft_base::NoMemory;
+use loft_lex::Word;
+use loft_tree::{Control, Creation, Expr, Ident, Text};
+
+/// `x = E;`
+#[tactic(auto, using(crate::proofs::Texts::texts))]
+pub fn put_assign(
+    out: &mut Vec<u8>,
+    indent: usize,
+    target: &Ident,
+    value: &Expr,
+) -> Result<(), NoMemory>
+    ensures { OnOk result (out.new.items ≡ out.old.items ++ lines_text
+        (statement_lines (Assign target.now (expression_of value.now)) indent)) }
+{
+    begin_assignment(out, indent, target)?;
+    put_expression(out, b" ", value)?;
+    end_statement(out)
+}
+
+/// `t = create S.m(E, F);`
+#[tactic(auto, using(crate::proofs::Texts::texts))]
+pub fn put_assign_create(
+    out: &mut Vec<u8>,
+    indent: usize,
+    target: &Ident,
+    creation: &Creation,
+) -> Result<(), NoMemory>
+    ensures { OnOk result (out.new.items ≡ out.old.items ++ lines_text
+        (statement_lines (AssignCreate target.now 0 (creation_of creation.now)) indent)) }
+{
+    begin_assignment(out, indent, target)?;
+    put_word(out, b" ", Word::Create)?;
+    put_creation(out, creation)?;
+    end_statement(out)
+}
+
+/// `create S.m(E, F);`
+#[tactic(auto, using(crate::proofs::Texts::texts))]
+pub fn put_create(out: &mut Vec<u8>, indent: usize, creation: &Creation) -> Result<(), NoMemory>
+    ensures { OnOk result (out.new.items ≡ out.old.items ++ lines_text
+        (statement_lines (Create 0 (creation_of creation.now)) indent)) }
+{
+    begin_line(out, indent, Word::Create)?;
+    put_creation(out, creation)?;
+    end_statement(out)
+}
+
+/// `print "..";` or `print "..", E;`
+#[tactic(auto, using(crate::proofs::Texts::texts))]
+pub fn put_print_text(
+    out: &mut Vec<u8>,
+    indent: usize,
+    text: &Text,
+    value: &Option<Expr>,
+) -> Result<(), NoMemory>
+    ensures { OnOk result (out.new.items ≡ out.old.items ++ lines_text
+        (statement_lines (PrintText 0 text.now (value_of value.now)) indent)) }
+{
+    begin_line(out, indent, Word::Print)?;
+    put_text(out, text)?;
+    put_value_part(out, value)?;
+    end_statement(out)
+}
+
+/// `print E;`
+#[tactic(auto, using(crate::proofs::Texts::texts))]
+pub fn put_print_value(out: &mut Vec<u8>, indent: usize, value: &Expr) -> Result<(), NoMemory>
+    ensures { OnOk result (out.new.items ≡ out.old.items ++ lines_text
+        (statement_lines (PrintValue 0 (expression_of value.now)) indent)) }
+{
+    begin_line(out, indent, Word::Print)?;
+    put_expression(out, b" ", value)?;
+    end_statement(out)
+}
+
+/// `cooperate;` or `cooperate E;`
+#[tactic(auto, using(crate::proofs::Texts::texts))]
+pub fn put_cooperate(
+    out: &mut Vec<u8>,
+    indent: usize,
+    instants: &Option<Expr>,
+) -> Result<(), NoMemory>
+    ensures { OnOk result (out.new.items ≡ out.old.items ++ lines_text
+        (statement_lines (Cooperate 0 (value_of instants.now)) indent)) }
+{
+    begin_line(out, indent, Word::Cooperate)?;
+    put_value_alone(out, instants)?;
+    end_statement(out)
+}
+
+/// `generate e;` or `generate e, E;`, and the same with `broadcast`.
+#[tactic(auto, using(crate::proofs::Texts::texts))]
+pub fn put_event(
+    out: &mut Vec<u8>,
+    indent: usize,
+    word: Word,
+    event: &Ident,
+    value: &Option<Expr>,
+) -> Result<(), NoMemory>
+    ensures { OnOk result (out.new.items ≡ out.old.items ++ lines_text
+        (word_line indent word (spaced (name event.now) ∷ comma_part (value_of value.now)) ∷ [])) }
+{
+    begin_line(out, indent, word)?;
+    put_name(out, b" ", event)?;
+    put_value_part(out, value)?;
+    end_statement(out)
+}
+
+/// `await e;` or `await e for E;`
+#[tactic(auto, using(crate::proofs::Texts::texts))]
+pub fn put_await(
+    out: &mut Vec<u8>,
+    indent: usize,
+    event: &Ident,
+    limit: &Option<Expr>,
+) -> Result<(), NoMemory>
+    ensures { OnOk result (out.new.items ≡ out.old.items ++ lines_text
+        (statement_lines (Await 0 event.now (value_of limit.now)) indent)) }
+{
+    begin_line(out, indent, Word::Await)?;
+    put_name(out, b" ", event)?;
+    put_limit_part(out, limit)?;
+    end_statement(out)
+}
+
+/// `select e, g;` or `select e, g for E;`
+#[tactic(auto, using(crate::proofs::Texts::texts))]
+pub fn put_select(
+    out: &mut Vec<u8>,
+    indent: usize,
+    events: &[Ident],
+    limit: &Option<Expr>,
+) -> Result<(), NoMemory>
+    ensures { OnOk result (out.new.items ≡ out.old.items ++ lines_text
+        (statement_lines (Select 0 events.now (value_of limit.now)) indent)) }
+{
+    begin_line(out, indent, Word::Select)?;
+    if let [first, rest @ ..] = events {
+        put_name(out, b" ", first)?;
+        put_further(out, rest)?;
+    }
+    put_limit_part(out, limit)?;
+    end_statement(out)
+}
+
+/// `get e at E into x;`
+#[tactic(auto, using(crate::proofs::Texts::texts))]
+pub fn put_get(
+    out: &mut Vec<u8>,
+    indent: usize,
+    event: &Ident,
+    index: &Expr,
+    target: &Ident,
+) -> Result<(), NoMemory>
+    ensures { OnOk result (out.new.items ≡ out.old.items ++ lines_text
+        (statement_lines (Get 0 event.now (expression_of index.now) target.now) indent)) }
+{
+    begin_line(out, indent, Word::Get)?;
+    put_name(out, b" ", event)?;
+    put_word(out, b" ", Word::At)?;
+    put_expression(out, b" ", index)?;
+    put_word(out, b" ", Word::Into)?;
+    put_name(out, b" ", target)?;
+    end_statement(out)
+}
+
+/// `join E;` or `join E for F;`
+#[tactic(auto, using(crate::proofs::Texts::texts))]
+pub fn put_join(
+    out: &mut Vec<u8>,
+    indent: usize,
+    thread: &Expr,
+    limit: &Option<Expr>,
+) -> Result<(), NoMemory>
+    ensures { OnOk result (out.new.items ≡ out.old.items ++ lines_text
+        (statement_lines (Join 0 (expression_of thread.now) (value_of limit.now)) indent)) }
+{
+    begin_line(out, indent, Word::Join)?;
+    put_expression(out, b" ", thread)?;
+    put_limit_part(out, limit)?;
+    end_statement(out)
+}
+
+/// The word of an order to a thread.
+pub fn control_word(control: Control) -> Word
+    ensures { result ≡ control_word control }
+{
+    match control {
+        Control::Stop => Word::Stop,
+        Control::Suspend => Word::Suspend,
+        Control::Resume => Word::Resume,
+    }
+}
+
+/// `stop E in S;`, `suspend E in S;` or `resume E in S;`
+#[tactic(auto, using(crate::proofs::Texts::texts))]
+pub fn put_control(
+    out: &mut Vec<u8>,
+    indent: usize,
+    control: Control,
+    thread: &Expr,
+    scheduler: &Ident,
+) -> Result<(), NoMemory>
+    ensures { OnOk result (out.new.items ≡ out.old.items ++ lines_text
+        (statement_lines
+        (ControlThread 0 control (expression_of thread.now) scheduler.now) indent)) }
+{
+    begin_line(out, indent, control_word(control))?;
+    put_expression(out, b" ", thread)?;
+    put_word(out, b" ", Word::In)?;
+    put_name(out, b" ", scheduler)?;
+    end_statement(out)
+}
+
+/// `run m(E, F);`
+#[tactic(auto, using(crate::proofs::Texts::texts))]
+pub fn put_run(
+    out: &mut Vec<u8>,
+    indent: usize,
+    called: &Ident,
+    arguments: &[Expr],
+) -> Result<(), NoMemory>
+    ensures { OnOk result (out.new.items ≡ out.old.items ++ lines_text
+        (statement_lines (Run 0 called.now (map expression_of arguments.now)) indent)) }
+{
+    begin_line(out, indent, Word::Run)?;
+    put_name(out, b" ", called)?;
+    put_list(out, arguments)?;
+    end_statement(out)
+}
