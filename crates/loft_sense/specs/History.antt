@@ -85,7 +85,7 @@ abbrev pub starts_from : SchedId → ℕ → List Start → List Order
 starts_from s k [] = []
 starts_from s k (t ∷ ts) =
     if same_scheduler s t.scheduler
-    then Create (record { maker = Source; seq = k }) t.module [] ∷ starts_from s (k + 1) ts
+    then Create (record { maker = Source; seq = k }) t.module t.arguments ∷ starts_from s (k + 1) ts
     else starts_from s (k + 1) ts
 
 abbrev pub starts_of : Heads → SchedId → List Order

@@ -24,7 +24,7 @@ use Rattle.loft_sense.specs.declared.limits.RunOptions.{RunOptions}
 use Rattle.loft_sense.specs.Machine.{Prog, heads}
 use Rattle.loft_sense.specs.Instant.{Replayed}
 use Rattle.loft_sense.specs.History.{Entry, Choice, TakeBy, GiveBy, PickBy, PostBy, ClientBy, choice_of, log, waiting, replayed}
-use Rattle.loft_sense.specs.Text.{space, name_at, scheduler_name, event_name, id_text, end_text, thread_text, order_text, sent_value}
+use Rattle.loft_sense.specs.Text.{client_name, space, scheduler_name, event_name, id_text, end_text, thread_text, order_text, sent_value}
 
 -- lines, each with its line feed
 abbrev pub text_of : List (List ℕ) → List ℕ
@@ -35,7 +35,7 @@ choice_line h (TakeBy s) = codes "take " ++ scheduler_name h s
 choice_line h (GiveBy s) = codes "give " ++ scheduler_name h s
 choice_line h (PickBy w) = codes "pick " ++ decimal w
 choice_line h (PostBy w) = codes "post " ++ decimal w
-choice_line h (ClientBy c) = codes "client " ++ name_at h.clients c
+choice_line h (ClientBy c) = codes "client " ++ client_name h c
 
 -- the options, and the choices of the history
 abbrev pub head_lines : Heads → RunOptions → List Choice → List (List ℕ)

@@ -12,6 +12,7 @@ use Rattle.loft_base.specs.declared.ids.Value.{Value}
 use Rattle.loft_base.specs.declared.ids.Value.TheVariants.{Int, Thread as ThreadValue}
 use Rattle.loft_tree.specs.declared.heads.EventHead.{EventHead}
 use Rattle.loft_tree.specs.declared.heads.Signature.{Signature}
+use Rattle.loft_tree.specs.declared.heads.Client.{Client}
 use Rattle.loft_tree.specs.declared.heads.Heads.{Heads}
 use Rattle.loft_sense.specs.declared.thread.Wait.{Wait}
 use Rattle.loft_sense.specs.declared.thread.Wait.TheVariants as wait
@@ -58,11 +59,18 @@ name_of_event (Some head) = head.name
 abbrev pub event_name : Heads → EventId → List ℕ
 event_name h e = name_of_event (slice_get h.events e.0)
 
+abbrev pub name_of_client : Option Client → List ℕ
+name_of_client None = []
+name_of_client (Some client) = client.name
+
+abbrev pub client_name : Heads → ℕ → List ℕ
+client_name h c = name_of_client (slice_get h.clients c)
+
 -- A caller, whose number no client of the source has, has no name.
 abbrev pub maker_name : Heads → Maker → List ℕ
 maker_name h maker.Source = codes "start"
 maker_name h (maker.Sched s) = name_at h.schedulers s
-maker_name h (maker.Client c) = name_at h.clients c
+maker_name h (maker.Client c) = client_name h c
 
 abbrev pub id_text : Heads → ThreadId → List ℕ
 id_text h t = maker_name h t.maker ++ (codes "." ++ decimal t.seq)

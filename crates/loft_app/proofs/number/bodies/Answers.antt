@@ -7,6 +7,7 @@ pub body-requires : goal.body-requires
 body-requires c =
     let items = c.args.items.now in
     let k = c.loop-item.item-index in
-    let one = item.Module c.in-Module.field-0 c.in-Module.statements in
-    let read : get_or items k one ≡ one = sym (subst (λ i. i ≡ get_or items k i) c.in-Module.is c.item-item.is) in
-    omega (arith, c.as_slice.ensures.len, few_statements items c.requires k (omega arith) c.in-Module.field-0 c.in-Module.statements read)
+    let a = c.in-Module in
+    let one = item.Module a.head a.locals a.statements in
+    let read : get_or items k one ≡ one = sym (subst (λ i. i ≡ get_or items k i) a.is c.item-item.is) in
+    omega (arith, c.as_slice.ensures.len, few_statements items c.requires k (omega arith) a.head a.locals a.statements read)

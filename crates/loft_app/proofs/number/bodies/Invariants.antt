@@ -1,6 +1,6 @@
 use Rattle.std.proofs.Common.{◌≡◌, ◌++◌, map, drop}
 use Rattle.loft_tree.specs.View.{source_of}
-use Rattle.loft_tree.specs.NamedView.{module_of}
+use Rattle.loft_tree.specs.SmallView.{module_of}
 use Rattle.loft_tree.specs.Numbering.{bodies_in}
 use Rattle.loft_app.proofs.number.bodies.Given as goal
 

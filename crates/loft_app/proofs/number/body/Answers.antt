@@ -2,14 +2,14 @@ use Rattle.std.proofs.Common.{◌≡◌, ◌+◌, ◌∙◌, sym, ap, subst, ari
 use Rattle.std.proofs.lemmas.List.{at_drop_all}
 use Rattle.loft_tree.specs.declared.statement.Stmt.{Stmt}
 use Rattle.loft_tree.specs.declared.statement.Stmt.TheVariants as stmt
-use Rattle.loft_tree.specs.declared.named.Statement.TheVariants as statement
+use Rattle.loft_tree.specs.declared.small_program.SmallStatement.TheVariants as statement
 use Rattle.loft_tree.specs.View.{statements_of}
-use Rattle.loft_tree.specs.NamedView.{step_of}
+use Rattle.loft_tree.specs.SmallView.{step_of}
 use Rattle.loft_tree.specs.Resolved.{Body}
 use Rattle.loft_tree.specs.Numbering.{numbered}
-use Rattle.loft_app.proofs.NumberLemmas.{followed_by, printed, held, followed_by_none}
+use Rattle.loft_app.proofs.NumberLemmas.{followed_by, printed, held, skipped, followed_by_none}
 use Rattle.loft_app.proofs.number.body.Goals as goal
-use Rattle.loft_app.proofs.number.body.Goals.{in-PrintText+in_ok-from_slice-in-PrintText+in_ok-push-in-PrintText, in-Cooperate+in_ok-push-in-Cooperate}
+use Rattle.loft_app.proofs.number.body.Goals.{in-PrintText+in_ok-from_slice-in-PrintText+in_ok-push-in-PrintText, in-Cooperate+in_ok-push-in-Cooperate, in_default}
 
 pub loop-statement-preserved : goal.loop-statement-preserved
 loop-statement-preserved c =
@@ -19,13 +19,18 @@ loop-statement-preserved c =
     let read : (x : Stmt) → c.statement-item.result ≡ x → get_or ss i x ≡ x = λ x e. sym (subst (λ s. s ≡ get_or ss i s) e c.statement-item.is) in
     elim c.match-statement.branch [
       | in-PrintText+in_ok-from_slice-in-PrintText+in_ok-push-in-PrintText w ↦
-          let line : w.in_ok-from_slice-in-PrintText.field-0 ≡ w.in-PrintText.line = w.in_ok-from_slice-in-PrintText.ensures ∙ w.bytes.ensures in
-          let now : c.match-statement.body.items ≡ done ++ statement.Print w.in-PrintText.line ∷ [] = cc (w.in_ok-push-in-PrintText.ensures.items, line) in
-          let step = printed ss i c.loop-statement.stop w.in-PrintText.line done (omega arith) (read (stmt.PrintText w.in-PrintText.line) w.in-PrintText.is) in
+          let a = w.in-PrintText in
+          let line : w.in_ok-from_slice-in-PrintText.field-0 ≡ a.text = w.in_ok-from_slice-in-PrintText.ensures ∙ w.bytes.ensures in
+          let now : c.match-statement.body.items ≡ done ++ statement.Print a.text ∷ [] = cc (w.in_ok-push-in-PrintText.ensures.items, line) in
+          let step = printed ss i c.loop-statement.stop a.at a.text a.value done (omega arith) (read (stmt.PrintText a.at a.text a.value) a.is) in
           (omega arith, cc)
       | in-Cooperate+in_ok-push-in-Cooperate w ↦
+          let a = w.in-Cooperate in
           let now : c.match-statement.body.items ≡ done ++ statement.Cooperate (c.loop-statement.stop + 1) ∷ [] = cc (w.in_ok-push-in-Cooperate.ensures.items) in
-          let step = held ss i c.loop-statement.stop done (omega arith) (read stmt.Cooperate w.in-Cooperate.is) in
+          let step = held ss i c.loop-statement.stop a.at a.instants done (omega arith) (read (stmt.Cooperate a.at a.instants) a.is) in
+          (omega arith, cc)
+      | in_default w ↦
+          let step = skipped ss i c.loop-statement.stop c.statement-item.result (omega arith) (sym c.statement-item.is) w.in_default.not-PrintText w.in_default.not-Cooperate in
           (omega arith, cc)
     ]
 

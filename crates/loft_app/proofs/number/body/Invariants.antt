@@ -1,6 +1,6 @@
 use Rattle.std.proofs.Common.{◌≡◌, ◌≤◌, map, drop}
 use Rattle.loft_tree.specs.View.{statements_of}
-use Rattle.loft_tree.specs.NamedView.{step_of}
+use Rattle.loft_tree.specs.SmallView.{step_of}
 use Rattle.loft_tree.specs.Numbering.{numbered}
 use Rattle.loft_app.proofs.NumberLemmas.{followed_by}
 use Rattle.loft_app.proofs.number.body.Given as goal

@@ -1,0 +1,3 @@
+pub mod WritesLemmas
+pub mod ReportLemmas
+pub mod TurnLemmas

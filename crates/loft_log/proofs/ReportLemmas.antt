@@ -1,0 +1,67 @@
+-- The parts of a report, one behind the other.
+use Rattle.std.proofs.Common.{◌≡◌, ℕ, ◌+◌, ◌==◌, ◌<◌, Bool, true, false, List, [], ◌∷◌, ◌++◌, length, drop, get_or, min, ◌≤◌, ◌*◌, map, refl, ap, ◌∙◌, if◌then◌else◌, codes, arith, length-drop}
+use Rattle.std.proofs.lemmas.Grind.{common_steps}
+use Rattle.loft_base.specs.declared.ids.SchedId.{SchedId}
+use Rattle.loft_tree.specs.declared.heads.Heads.{Heads}
+use Rattle.loft_sense.specs.declared.order.Order.{Order}
+use Rattle.loft_sense.specs.declared.order.Mark.{Mark}
+use Rattle.loft_sense.specs.declared.order.Sent.{Sent}
+use Rattle.loft_sense.specs.declared.note.Ended.{Ended}
+use Rattle.loft_sense.specs.History.{choice_of}
+use Rattle.loft_sense.specs.Text.{scheduler_name, order_text}
+use Rattle.loft_sense.specs.Report.{text_of, choice_line, end_line, mark_word, ends_at, batch_lines, leave_line, leave_lines, instant_lines, instants_lines}
+use Rattle.loft_plain.specs.declared.turn.Turn.{Turn}
+use Rattle.loft_plain.specs.Turns.{entries_of, batches_of, notes_of}
+use Rattle.loft_log.proofs.WritesLemmas.{text_of-append, drop-at}
+
+ends_at-by : (h : Heads) (k : ℕ) (e : Ended) (es : List Ended) (here : Bool) → (if here then end_line h e.thread e.end ∷ ends_at h k es else ends_at h k es) ≡ (if here then end_line h e.thread e.end ∷ [] else []) ++ ends_at h k es
+ends_at-by h k e es true = refl
+ends_at-by h k e es false = refl
+
+-- one end, and the others
+pub text-ends_at : (h : Heads) (k : ℕ) (e : Ended) (es : List Ended) → text_of (ends_at h k (e ∷ es)) ≡ text_of (ends_at h k (e ∷ [])) ++ text_of (ends_at h k es)
+text-ends_at h k e es = ap text_of (ends_at-by h k e es (e.place == k)) ∙ text_of-append (ends_at h k (e ∷ [])) (ends_at h k es)
+
+-- the element at an index is the same, whatever stands for one past the end
+same_at : {A : Type 0} (xs : List A) (i : ℕ) (d e : A) → i < length xs → get_or xs i d ≡ get_or xs i e
+same_at xs i d e below = grind (arith, common_steps)
+
+-- what is left of the ends begins with the one at this index
+pub ends_at-from : (h : Heads) (k : ℕ) (es : List Ended) (i : ℕ) (d : Ended) → i < length es → text_of (ends_at h k (drop i es)) ≡ text_of (ends_at h k (get_or es i d ∷ [])) ++ text_of (ends_at h k (drop (i + 1) es))
+ends_at-from h k es i d below =
+    ap (λ xs. text_of (ends_at h k xs)) (drop-at es i (get_or es i d) below (same_at es i d (get_or es i d) below)) ∙ text-ends_at h k (get_or es i d) (drop (i + 1) es)
+
+-- what is left of the orders that were sent begins with the one at this index
+pub leave_lines-from : (h : Heads) (ms : List Sent) (i : ℕ) (m : Sent) → i < length ms → m ≡ get_or ms i m → text_of (leave_lines h (drop i ms)) ≡ text_of (leave_line h m.to m.order) ++ text_of (leave_lines h (drop (i + 1) ms))
+leave_lines-from h ms i m below is = ap (λ xs. text_of (leave_lines h xs)) (drop-at ms i m below is) ∙ text_of-append (leave_line h m.to m.order) (leave_lines h (drop (i + 1) ms))
+
+-- what is left of the instants begins with the one at this index
+pub instants-from : (h : Heads) (ts : List Turn) (i : ℕ) (t : Turn) → i < length ts → t ≡ get_or ts i t → text_of (instants_lines h (batches_of (drop i ts)) (notes_of (drop i ts))) ≡ text_of (instant_lines h t.batch t.note) ++ text_of (instants_lines h (batches_of (drop (i + 1) ts)) (notes_of (drop (i + 1) ts)))
+instants-from h ts i t below is = ap (λ xs. text_of (instants_lines h (batches_of xs) (notes_of xs))) (drop-at ts i t below is) ∙ text_of-append (instant_lines h t.batch t.note) (instants_lines h (batches_of (drop (i + 1) ts)) (notes_of (drop (i + 1) ts)))
+
+-- what is left of the choices begins with those of the turn at this index
+pub choices-from : (h : Heads) (s : SchedId) (ts : List Turn) (i : ℕ) (t : Turn) → i < length ts → t ≡ get_or ts i t → text_of (map (choice_line h) (map choice_of (entries_of s (drop i ts)))) ≡ text_of ((codes "take " ++ scheduler_name h s) ∷ (codes "give " ++ scheduler_name h s) ∷ []) ++ text_of (map (choice_line h) (map choice_of (entries_of s (drop (i + 1) ts))))
+choices-from h s ts i t below is =
+    ap (λ xs. text_of (map (choice_line h) (map choice_of (entries_of s xs)))) (drop-at ts i t below is)
+    ∙ text_of-append ((codes "take " ++ scheduler_name h s) ∷ (codes "give " ++ scheduler_name h s) ∷ []) (map (choice_line h) (map choice_of (entries_of s (drop (i + 1) ts))))
+
+-- what is left of the batch begins with the order at this index
+pub batch-from : (h : Heads) (stopped : List Ended) (os : List Order) (ms : List Mark) (k : ℕ) (o : Order) (d : Mark) → k < length os → o ≡ get_or os k o → k < length ms → text_of (batch_lines h stopped k (drop k os) (drop k ms)) ≡ text_of ((mark_word (get_or ms k d) ++ order_text h o) ∷ ends_at h k stopped) ++ text_of (batch_lines h stopped (k + 1) (drop (k + 1) os) (drop (k + 1) ms))
+batch-from h stopped os ms k o d in_orders is_order in_marks =
+    ap (λ xs. text_of (batch_lines h stopped k xs (drop k ms))) (drop-at os k o in_orders is_order)
+    ∙ ap (λ ys. text_of (batch_lines h stopped k (o ∷ drop (k + 1) os) ys)) (drop-at ms k (get_or ms k d) in_marks (same_at ms k d (get_or ms k d) in_marks))
+    ∙ text_of-append ((mark_word (get_or ms k d) ++ order_text h o) ∷ ends_at h k stopped) (batch_lines h stopped (k + 1) (drop (k + 1) os) (drop (k + 1) ms))
+
+batch-none : (h : Heads) (stopped : List Ended) (k : ℕ) (os : List Order) (ms : List Mark) → min (length os) (length ms) ≡ 0 → batch_lines h stopped k os ms ≡ []
+batch-none h stopped k [] ms none = refl
+batch-none h stopped k (o ∷ os) [] none = refl
+batch-none h stopped k (o ∷ os) (m ∷ ms) none = absurd (omega arith)
+
+-- behind the last order that has a mark nothing is left
+pub batch-end : (h : Heads) (stopped : List Ended) (os : List Order) (ms : List Mark) (k : ℕ) → min (length os) (length ms) ≤ k → text_of (batch_lines h stopped k (drop k os) (drop k ms)) ≡ []
+batch-end h stopped os ms k past = ap text_of (batch-none h stopped k (drop k os) (drop k ms) (omega (arith, length-drop k os, length-drop k ms)))
+
+-- a turn has two choices
+pub choices-count : (s : SchedId) (ts : List Turn) → 2 * length ts ≡ length (map choice_of (entries_of s ts))
+choices-count s [] = refl
+choices-count s (t ∷ ts) = omega (arith, choices-count s ts)

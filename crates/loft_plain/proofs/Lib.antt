@@ -1,0 +1,3 @@
+pub mod WalkerLemmas
+pub mod RestLemmas
+pub mod RunLemmas

@@ -1,0 +1,4 @@
+pub mod Walker
+pub mod Plain
+pub mod Turns
+pub mod Running
