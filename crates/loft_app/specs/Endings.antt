@@ -1,6 +1,19 @@
 -- How the program may end.
+use Rattle.std.specs.Prelude.{ℕ, Result, Ok, Err}
+use Rattle.loft_log.specs.declared.report.WriteError.{WriteError}
+use Rattle.loft_log.specs.declared.report.WriteError.TheVariants as write
 use Rattle.loft_app.specs.declared.app.Status.{Status}
 use Rattle.loft_app.specs.declared.app.Status.TheVariants.{Done, Usage, Source, Log, FileFault, SinkFault, NoMemory}
+
+-- the number with which the program ends
+abbrev pub code_of : Status → ℕ
+code_of Done = 0
+code_of Usage = 2
+code_of Source = 3
+code_of Log = 4
+code_of FileFault = 5
+code_of SinkFault = 6
+code_of NoMemory = 7
 
 -- a source is refused, unless a file or the sink fails or no memory is left
 abbrev pub IsRefused : Status → Type 0
@@ -12,7 +25,7 @@ IsRefused FileFault = Unit {0}
 IsRefused SinkFault = Unit {0}
 IsRefused NoMemory = Unit {0}
 
--- a source is run, unless a file or the sink fails or no memory is left
+-- a source is answered, unless a file or the sink fails or no memory is left
 abbrev pub IsAccepted : Status → Type 0
 IsAccepted Done = Unit {0}
 IsAccepted Usage = ⊥
@@ -21,3 +34,9 @@ IsAccepted Log = ⊥
 IsAccepted FileFault = Unit {0}
 IsAccepted SinkFault = Unit {0}
 IsAccepted NoMemory = Unit {0}
+
+-- how the program ends behind a text that it wrote
+abbrev pub status_of : Result (Unit {0}) WriteError → Status
+status_of (Ok u) = Done
+status_of (Err write.Sink) = SinkFault
+status_of (Err write.NoMemory) = NoMemory

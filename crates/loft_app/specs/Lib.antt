@@ -1,8 +1,8 @@
-pub mod Walker
-pub mod Plain
-pub mod Turns
-pub mod Running
-pub mod Writes
 pub mod Command
+pub mod Asked
+pub mod Written
+pub mod Refusals
+pub mod Reading
 pub mod Promise
 pub mod Endings
+pub mod Answer

@@ -1,16 +1,18 @@
 -- What the program promises of its answers.
-use Rattle.std.specs.Prelude.{◌≡◌, ℕ, ◌<◌, ◌≤◌, ◌⊎◌, List, [], ◌∷◌, ◌++◌, length, codes, Option, Some, Ok}
+use Rattle.std.specs.Prelude.{◌≡◌, ℕ, List, ◌++◌, Ok}
 use Rattle.loft_tree.specs.declared.heads.Heads.{Heads}
 use Rattle.loft_tree.specs.Source.{Source}
 use Rattle.loft_tree.specs.Small.{IsSmall}
 use Rattle.loft_tree.specs.Numbering.{resolved}
 use Rattle.loft_parse.specs.Source.{Reads}
+use Rattle.loft_show.specs.Canon.{Canon}
 use Rattle.loft_sense.specs.declared.limits.Limits.{Limits}
 use Rattle.loft_sense.specs.declared.limits.RunOptions.{RunOptions}
 use Rattle.loft_sense.specs.Machine.{Prog, Tree, heads}
 use Rattle.loft_sense.specs.History.{Entry, Choice, hist, HasEnded}
 use Rattle.loft_sense.specs.Legal.{IsLegal}
 use Rattle.loft_sense.specs.Report.{text_of, head_lines, report}
+use Rattle.loft_app.specs.Command.{Command, Run, Show}
 
 -- the options of a run for which none is given
 abbrev pub default_limits : Limits
@@ -41,28 +43,13 @@ pub record IsRunOf (contents text : List ℕ) : Type 0 where
   pub small : IsSmall source
   pub report_of : IsReport (Tree (resolved source)) default_options text
 
--- the most bytes of a source
-abbrev pub most_source : ℕ
-most_source = 4194304
+-- the canonical text of the source that these contents are
+pub record IsCanonOf (contents text : List ℕ) : Type 0 where
+  pub source : Source
+  pub reads : Reads contents source
+  pub canon : text ≡ Canon source
 
--- no program that can be run reads the contents
-abbrev pub IsNotBuilt : List ℕ → Type 0
-IsNotBuilt contents = (p : Source) → Reads contents p → IsSmall p → ⊥
-
--- the line with which contents are refused: first where they are too long, then where they are no program that can be run
-abbrev pub Refuses : List ℕ → List ℕ → Type 0
-Refuses contents line =
-    ((most_source < length contents) × (line ≡ codes "source: too long"))
-    ⊎ ((length contents ≤ most_source) × IsNotBuilt contents × (line ≡ codes "source: not built"))
-
--- what a sink tells grew by a text of which P holds
-abbrev pub Appends : Option (List ℕ) → Option (List ℕ) → (List ℕ → Type 0) → Type 0
-Appends old new P = (written : List ℕ) → old ≡ Some written → (text : List ℕ) × (new ≡ Some (written ++ text)) × P text
-
--- the text is this line
-abbrev pub IsLine : List ℕ → List ℕ → Type 0
-IsLine line text = text ≡ line ++ 10 ∷ []
-
--- the text is the line with which these contents are refused
-abbrev pub IsRefusal : List ℕ → List ℕ → Type 0
-IsRefusal contents text = (line : List ℕ) × Refuses contents line × IsLine line text
+-- what a command answers to contents
+abbrev pub IsAnswer : Command → List ℕ → List ℕ → Type 0
+IsAnswer (Run file) contents text = IsRunOf contents text
+IsAnswer (Show file) contents text = IsCanonOf contents text

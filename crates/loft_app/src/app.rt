@@ -1,24 +1,33 @@
 //! The call that the program makes.
 
-ghost use Rattle.std.specs.Prelude.{◌≡◌, ◌≢◌, ◌<◌, ◌≤◌, ◌⊎◌, ◌++◌, ◌∷◌, [], ℕ, List, length, IsTrue, IsSome, Some, None, codes, IsErrOf, OnOk, IfErr};
-ghost use Rattle.loft_base.specs.Outside.{Rose, appended};
+ghost use Rattle.std.specs.Prelude.{◌≡◌, ◌≢◌, ◌<◌, ◌≤◌, ◌⊎◌, ◌++◌, ◌∷◌, [], ℕ, List, length, IsTrue, IsSome, Some, None, codes, IsErrOf, OnOk, OnErr};
+ghost use Rattle.loft_base.specs.Outside.{Rose, appended, GrowsByPrefix};
 ghost use Rattle.loft_tree.specs.Source.{Source as SourceTree};
+ghost use Rattle.loft_tree.specs.View.{source_of};
 ghost use Rattle.loft_tree.specs.Small.{IsSmall};
 ghost use Rattle.loft_tree.specs.Numbering.{resolved};
 ghost use Rattle.loft_parse.specs.Source.{Reads};
+ghost use Rattle.loft_show.specs.Canon.{Canon};
 ghost use Rattle.loft_sense.specs.Machine.{Tree};
-ghost use Rattle.loft_app.specs.Command.{command, words_of, Run};
-ghost use Rattle.loft_app.specs.Endings.{IsRefused, IsAccepted};
-ghost use Rattle.loft_app.specs.Promise.{default_options, IsReport, IsRunOf, IsRefusal, Refuses, Appends, IsLine};
+ghost use Rattle.loft_app.specs.Command.{Command, command, words_of, file_of, Run, Show};
+ghost use Rattle.loft_app.specs.Asked.{command_of};
+ghost use Rattle.loft_app.specs.Written.{Appends, IsLine, IsFirstPart};
+ghost use Rattle.loft_app.specs.Refusals.{most_source, fault_line, Refuses, IsRefusal, Takes};
+ghost use Rattle.loft_app.specs.Promise.{default_options, IsReport, IsRunOf, IsCanonOf};
+ghost use Rattle.loft_app.specs.Endings.{code_of, status_of, IsRefused, IsAccepted};
+ghost use Rattle.loft_app.specs.Answer.{IsText, Answers};
 
-use crate::engine::PlainEngine;
+use crate::fault::fault_line;
+use crate::lines::write_lines;
 use crate::number::number;
-use crate::report::{WriteError, write_report};
-use crate::run::run_alone;
-use crate::words::file_to_run;
-use loft_base::{FileError, Files, Gate, SchedId, Sink, read_whole};
-use loft_parse::parse;
+use crate::source::{Unread, read_program};
+use crate::words::{Asked, command};
+use loft_base::{Files, Gate, SchedId, Sink};
+use loft_log::{WriteError, write_report};
+use loft_parse::ParseError;
+use loft_plain::{PlainEngine, run_alone};
 use loft_sense::{Limits, RunOptions};
+use loft_show::show;
 use loft_tree::Program;
 use std::alloc::Global;
 use std::sync::Wait;
@@ -45,7 +54,9 @@ pub enum Status {
 
 impl Status {
     /// The number with which the program ends.
-    pub fn code(self) -> u8 {
+    pub fn code(self) -> u8
+        ensures { result ≡ code_of self }
+    {
         match self {
             Status::Done => 0,
             Status::Usage => 2,
@@ -57,9 +68,6 @@ impl Status {
         }
     }
 }
-
-/// The most bytes of a source.
-const MOST_SOURCE: u64 = 4194304;
 
 /// The options of a run for which none is given.
 fn defaults() -> RunOptions
@@ -80,11 +88,26 @@ fn refuse<S: Sink>(sink: &mut S, line: &[u8], status: Status) -> Status
     requires { 0 < length line.now }
     ensures told { result ≡ status ⊎ result ≡ Status.SinkFault }
     ensures written { result ≡ status → status ≢ Status.SinkFault → S.written sink.new ≡ appended (S.written sink.old) line.now }
+    ensures cut { status ≢ Status.SinkFault → result ≡ Status.SinkFault → GrowsByPrefix (S.written sink.old) (S.written sink.new) line.now }
     ensures cause { status ≢ Status.SinkFault → result ≡ Status.SinkFault → Rose (S.faults sink.old) (S.faults sink.new) }
 {
     match sink.put(line) {
         Ok(()) => status,
         Err(_) => Status::SinkFault,
+    }
+}
+
+/// Writes the line of a source's fault.
+fn refuse_source<S: Sink>(alloc: Global, sink: &mut S, fault: &ParseError) -> Status
+    ensures told { result ≡ Status.Source ⊎ (result ≡ Status.SinkFault ⊎ result ≡ Status.NoMemory) }
+    ensures written { result ≡ Status.Source → S.written sink.new ≡ appended (S.written sink.old) (fault_line fault.now ++ 10 ∷ []) }
+    ensures cut { result ≡ Status.SinkFault → GrowsByPrefix (S.written sink.old) (S.written sink.new) (fault_line fault.now ++ 10 ∷ []) }
+    ensures no_memory { result ≡ Status.NoMemory → S.written sink.new ≡ S.written sink.old }
+    ensures cause { result ≡ Status.SinkFault → Rose (S.faults sink.old) (S.faults sink.new) }
+{
+    match fault_line(alloc, fault) {
+        Ok(line) => refuse(sink, line.as_bytes(), Status::Source),
+        Err(_) => Status::NoMemory,
     }
 }
 
@@ -96,8 +119,9 @@ fn run_program<R: Threads + Wait + Sync, S: Sink, G: Gate>(
     sink: &mut S,
     gate: &G,
 ) -> Result<(), WriteError>
-    requires { IsSmall program.now }
-    ensures report { OnOk result (Appends (S.written sink.old) (S.written sink.new) (IsReport (Tree (resolved program.now)) default_options)) }
+    requires { IsSmall (source_of program.now) }
+    ensures report { OnOk result (Appends (S.written sink.old) (S.written sink.new) (IsReport (Tree (resolved (source_of program.now))) default_options)) }
+    ensures failed { OnErr result (Appends (S.written sink.old) (S.written sink.new) (IsFirstPart (IsReport (Tree (resolved (source_of program.now))) default_options))) }
     ensures sink { IsErrOf result WriteError.Sink → Rose (S.faults sink.old) (S.faults sink.new) }
 {
     let options = defaults();
@@ -108,42 +132,56 @@ fn run_program<R: Threads + Wait + Sync, S: Sink, G: Gate>(
     write_report(alloc, &named.heads, &options, scheduler, &run, sink)
 }
 
-/// Runs the source in a file.
-fn run_file<R: Threads + Wait + Sync, F: Files, S: Sink, G: Gate>(
+/// Writes the canonical text of a program.
+fn show_program<S: Sink>(alloc: Global, program: &Program, sink: &mut S) -> Result<(), WriteError>
+    ensures canon { OnOk result (S.written sink.new ≡ appended (S.written sink.old) (Canon (source_of program.now))) }
+    ensures failed { OnErr result (GrowsByPrefix (S.written sink.old) (S.written sink.new) (Canon (source_of program.now))) }
+    ensures sink { IsErrOf result WriteError.Sink → Rose (S.faults sink.old) (S.faults sink.new) }
+{
+    let text = show(alloc, program)?;
+    write_lines(text.as_slice(), sink)
+}
+
+/// How the program ends behind a text that it wrote.
+fn ended(written: Result<(), WriteError>) -> Status
+    ensures { result ≡ status_of written }
+{
+    match written {
+        Ok(()) => Status::Done,
+        Err(WriteError::Sink) => Status::SinkFault,
+        Err(WriteError::NoMemory) => Status::NoMemory,
+    }
+}
+
+/// Does what is asked with the program in a file.
+fn answer<R: Threads + Wait + Sync, F: Files, S: Sink, G: Gate>(
     rt: &R,
     alloc: Global,
-    name: &str,
+    asked: Asked,
     files: &mut F,
     sink: &mut S,
     gate: &G,
 ) -> Status
-    requires { IsTrue (F.may_ask files.old name.now) }
-    ensures never { (result ≢ Status.Usage) × (result ≢ Status.Log) }
-    ensures run { (contents : List ℕ) → F.contents files.old name.now ≡ Some contents → result ≡ Status.Done
-        → Appends (S.written sink.old) (S.written sink.new) (IsRunOf contents) }
-    ensures source { (contents : List ℕ) → F.contents files.old name.now ≡ Some contents → result ≡ Status.Source
-        → Appends (S.written sink.old) (S.written sink.new) (IsRefusal contents) }
-    ensures accepted { (contents : List ℕ) (p : SourceTree) → F.contents files.old name.now ≡ Some contents → length contents ≤ MOST_SOURCE → Reads contents p → IsSmall p
-        → IsAccepted result }
-    ensures refused { (contents line : List ℕ) → F.contents files.old name.now ≡ Some contents → Refuses contents line → IsRefused result }
+    requires { IsTrue (F.may_ask files.old (file_of (command_of asked))) }
+    ensures answers { Answers (command_of asked.entry) (F.contents files.old (file_of (command_of asked.entry))) result (S.written sink.old) (S.written sink.new) }
     ensures file_fault { result ≡ Status.FileFault → Rose (F.faults files.old) (F.faults files.new) }
-    ensures file_line { result ≡ Status.FileFault → Appends (S.written sink.old) (S.written sink.new) (IsLine (codes "files: fault")) }
     ensures sink_fault { result ≡ Status.SinkFault → Rose (S.faults sink.old) (S.faults sink.new) }
 {
-    let text = match read_whole(alloc, files, name, MOST_SOURCE) {
-        Ok(text) => text,
-        Err(FileError::Failed) => return refuse(sink, b"files: fault\n", Status::FileFault),
-        Err(FileError::TooLong) => return refuse(sink, b"source: too long\n", Status::Source),
-        Err(FileError::NoMemory) => return Status::NoMemory,
+    let program = match read_program(alloc, files, asked.file()) {
+        Ok(program) => program,
+        Err(Unread::Failed) => return refuse(sink, b"files: fault\n", Status::FileFault),
+        Err(Unread::Source(fault)) => return refuse_source(alloc, sink, &fault),
+        Err(Unread::NoMemory) => return Status::NoMemory,
     };
-    match parse(alloc, text.as_slice()) {
-        Ok(Some(program)) => match run_program(rt, alloc, &program, sink, gate) {
-            Ok(()) => Status::Done,
-            Err(WriteError::Sink) => Status::SinkFault,
-            Err(WriteError::NoMemory) => Status::NoMemory,
-        },
-        Ok(None) => refuse(sink, b"source: not built\n", Status::Source),
-        Err(_) => Status::NoMemory,
+    match asked {
+        Asked::Run(_) => {
+            if program.is_small() {
+                ended(run_program(rt, alloc, &program, sink, gate))
+            } else {
+                refuse(sink, b"source: not built\n", Status::Source)
+            }
+        }
+        Asked::Show(_) => ended(show_program(alloc, &program, sink)),
     }
 }
 
@@ -157,11 +195,13 @@ pub fn loft_main<R: Threads + Wait + Sync, F: Files, S: Sink, G: Gate>(
     gate: &G,
 ) -> Status
     // The file of the command may be asked.
-    requires { (name : List ℕ) → command (words_of words.now) ≡ Some (Run name) → IsTrue (F.may_ask files.old name) }
+    requires { (c : Command) → command (words_of words.now) ≡ Some c → IsTrue (F.may_ask files.old (file_of c)) }
 
-    // The promise of a run.
+    // The promise of a run, and that of a canonical text.
     ensures run { (name contents : List ℕ) → command (words_of words.now) ≡ Some (Run name) → F.contents files.old name ≡ Some contents → result ≡ Status.Done
         → Appends (S.written sink.old) (S.written sink.new) (IsRunOf contents) }
+    ensures show { (name contents : List ℕ) → command (words_of words.now) ≡ Some (Show name) → F.contents files.old name ≡ Some contents → result ≡ Status.Done
+        → Appends (S.written sink.old) (S.written sink.new) (IsCanonOf contents) }
     ensures done_runs { result ≡ Status.Done → IsSome (command (words_of words.now)) }
 
     // Usage comes exactly where the words are no command, unless the sink fails.
@@ -171,21 +211,26 @@ pub fn loft_main<R: Threads + Wait + Sync, F: Files, S: Sink, G: Gate>(
 
     // Source comes exactly where the contents are refused, unless a file or the sink fails or no memory is left.
     ensures source_runs { result ≡ Status.Source → IsSome (command (words_of words.now)) }
-    ensures source { (name contents : List ℕ) → command (words_of words.now) ≡ Some (Run name) → F.contents files.old name ≡ Some contents → result ≡ Status.Source
-        → Appends (S.written sink.old) (S.written sink.new) (IsRefusal contents) }
-    ensures refused { (name contents line : List ℕ) → command (words_of words.now) ≡ Some (Run name) → F.contents files.old name ≡ Some contents → Refuses contents line
-        → IsRefused result }
-    ensures accepted { (name contents : List ℕ) (p : SourceTree) → command (words_of words.now) ≡ Some (Run name) → F.contents files.old name ≡ Some contents
-        → length contents ≤ MOST_SOURCE → Reads contents p → IsSmall p → IsAccepted result }
+    ensures source { (c : Command) (contents : List ℕ) → command (words_of words.now) ≡ Some c → F.contents files.old (file_of c) ≡ Some contents → result ≡ Status.Source
+        → Appends (S.written sink.old) (S.written sink.new) (IsRefusal c contents) }
+    ensures refused { (c : Command) (contents line : List ℕ) → command (words_of words.now) ≡ Some c → F.contents files.old (file_of c) ≡ Some contents
+        → Refuses c contents line → IsRefused result }
+    ensures accepted { (c : Command) (contents : List ℕ) (p : SourceTree) → command (words_of words.now) ≡ Some c → F.contents files.old (file_of c) ≡ Some contents
+        → length contents ≤ most_source → Reads contents p → Takes c p → IsAccepted result }
     ensures never_log { result ≢ Status.Log }
+
+    // Where the sink fails or no memory is left, a first part of what is to be written stands there.
+    ensures first_part { (c : Command) (contents : List ℕ) → command (words_of words.now) ≡ Some c → F.contents files.old (file_of c) ≡ Some contents
+        → result ≡ Status.SinkFault ⊎ result ≡ Status.NoMemory → Appends (S.written sink.old) (S.written sink.new) (IsFirstPart (IsText c contents)) }
+    ensures usage_part { command (words_of words.now) ≡ None → result ≡ Status.SinkFault → Appends (S.written sink.old) (S.written sink.new) (IsFirstPart (IsLine (codes "loft: usage"))) }
 
     // A fault has its cause in this call.
     ensures file_fault { result ≡ Status.FileFault → Rose (F.faults files.old) (F.faults files.new) }
     ensures file_line { result ≡ Status.FileFault → Appends (S.written sink.old) (S.written sink.new) (IsLine (codes "files: fault")) }
     ensures sink_fault { result ≡ Status.SinkFault → Rose (S.faults sink.old) (S.faults sink.new) }
 {
-    match file_to_run(words) {
-        Some(name) => run_file(rt, alloc, name, files, sink, gate),
+    match command(words) {
+        Some(asked) => answer(rt, alloc, asked, files, sink, gate),
         None => refuse(sink, b"loft: usage\n", Status::Usage),
     }
 }

@@ -2,13 +2,12 @@
 #![tactic(auto)]
 
 mod app;
-mod engine;
+mod fault;
+mod lines;
 mod number;
-mod report;
-mod run;
+mod source;
 #[cfg(test)]
 mod tests;
-mod turn;
 mod words;
 
 use app::{Status, loft_main};

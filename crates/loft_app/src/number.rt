@@ -2,24 +2,24 @@
 
 ghost use Rattle.std.specs.Prelude.{◌≡◌, ◌<◌, ◌^◌, length, map, All, IfOk};
 ghost use Rattle.loft_tree.specs.Source.{Source};
-ghost use Rattle.loft_tree.specs.View.{source_of, head_of, statements_of};
-ghost use Rattle.loft_tree.specs.Small.{IsSmall};
-ghost use Rattle.loft_tree.specs.NamedView.{resolved_of, steps_of, module_of};
-ghost use Rattle.loft_tree.specs.Numbering.{scheduler_names, module_names, number_of, signature_of, signatures_in, starts_in, numbered, bodies_in, heads_of, resolved};
+ghost use Rattle.loft_tree.specs.View.{source_of, place_name_of, head_of, statements_of};
+ghost use Rattle.loft_tree.specs.Small.{IsSmall, schedulers as schedulers_of, modules as modules_of};
+ghost use Rattle.loft_tree.specs.SmallView.{resolved_of, steps_of, module_of};
+ghost use Rattle.loft_tree.specs.Numbering.{number_of, place_number, signature_of, signatures_in, starts_in, numbered, bodies_in, heads_of, resolved};
 ghost use Rattle.loft_sense.specs.Machine.{Tree};
 ghost use Rattle.loft_sense.specs.Fits.{Fits};
 ghost use Rattle.loft_sense.specs.History.{starts_of};
 
 use loft_base::{ModuleId, NoMemory, SchedId, Sequence};
 use loft_tree::{
-    Heads, Ident, Item, Module, ModuleHead, Named, Names, Place, Program, Signature, Start,
-    Statement, Stmt,
+    Heads, Ident, Item, ModuleHead, Names, Place, PlaceName, Program, Signature, SmallModule,
+    SmallProgram, SmallStatement, Start, Stmt,
 };
 use std::alloc::Global;
 
 /// The names of the schedulers, in text order.
 fn scheduler_names(alloc: Global, items: &[Item]) -> Result<Names, NoMemory>
-    ensures { IfOk result (λ names. names ≡ scheduler_names (source_of items.now)) }
+    ensures { IfOk result (λ names. names ≡ schedulers_of (source_of items.now)) }
 {
     let mut names = Sequence::new(alloc);
     for item in items {
@@ -33,11 +33,11 @@ fn scheduler_names(alloc: Global, items: &[Item]) -> Result<Names, NoMemory>
 
 /// The names of the modules, in text order.
 fn module_names(alloc: Global, items: &[Item]) -> Result<Names, NoMemory>
-    ensures { IfOk result (λ names. names ≡ module_names (source_of items.now)) }
+    ensures { IfOk result (λ names. names ≡ modules_of (source_of items.now)) }
 {
     let mut names = Sequence::new(alloc);
     for item in items {
-        let Item::Module(head, _) = item else {
+        let Item::Module { head, .. } = item else {
             continue;
         };
         names.push(Sequence::from_slice(alloc, head.name.text())?)?;
@@ -60,15 +60,32 @@ fn number_of(name: &Ident, names: &Names) -> u32
     number
 }
 
+/// Where a thread is linked, by the scheduler's number.
+fn place(schedulers: &Names, name: &PlaceName) -> Place
+    requires { length schedulers.now < 2 ^ 32 }
+    ensures { (p : Source) → schedulers.now ≡ schedulers_of p → result ≡ place_number p (place_name_of name.now) }
+{
+    match name {
+        PlaceName::Scheduler(scheduler) => Place::Sched(SchedId(number_of(scheduler, schedulers))),
+        PlaceName::Unlinked => Place::Unlinked,
+    }
+}
+
 /// The name of a module, and the schedulers where its threads begin and end.
 fn signature(alloc: Global, schedulers: &Names, head: &ModuleHead) -> Result<Signature, NoMemory>
     requires { length schedulers.now < 2 ^ 32 }
-    ensures { IfOk result (λ signature. (p : Source) → schedulers.now ≡ scheduler_names p → signature ≡ signature_of p (head_of head.now)) }
+    ensures { IfOk result (λ signature. (p : Source) → schedulers.now ≡ schedulers_of p → signature ≡ signature_of p (head_of head.now)) }
 {
+    let end = match &head.end {
+        Some(end) => place(schedulers, end),
+        None => place(schedulers, &head.begin),
+    };
     Ok(Signature {
         name: Sequence::from_slice(alloc, head.name.text())?,
-        begin: Place::Sched(SchedId(number_of(&head.begin, schedulers))),
-        end: Place::Sched(SchedId(number_of(&head.end, schedulers))),
+        parameters: Sequence::new(alloc),
+        locals: Sequence::new(alloc),
+        begin: place(schedulers, &head.begin),
+        end,
     })
 }
 
@@ -79,11 +96,11 @@ fn signatures(
     items: &[Item],
 ) -> Result<Sequence<Signature>, NoMemory>
     requires { length schedulers.now < 2 ^ 32 }
-    ensures { IfOk result (λ signatures. (p : Source) → schedulers.now ≡ scheduler_names p → signatures ≡ signatures_in p (source_of items.now)) }
+    ensures { IfOk result (λ signatures. (p : Source) → schedulers.now ≡ schedulers_of p → signatures ≡ signatures_in p (source_of items.now)) }
 {
     let mut signatures = Sequence::new(alloc);
     for item in items {
-        let Item::Module(head, _) = item else {
+        let Item::Module { head, .. } = item else {
             continue;
         };
         signatures.push(signature(alloc, schedulers, head)?)?;
@@ -100,23 +117,30 @@ fn starts(
 ) -> Result<Sequence<Start>, NoMemory>
     requires schedulers { length schedulers.now < 2 ^ 32 }
     requires modules { length modules.now < 2 ^ 32 }
-    ensures { IfOk result (λ starts. (p : Source) → schedulers.now ≡ scheduler_names p → modules.now ≡ module_names p → starts ≡ starts_in p (source_of items.now)) }
+    ensures { IfOk result (λ starts. (p : Source) → schedulers.now ≡ schedulers_of p → modules.now ≡ modules_of p → starts ≡ starts_in p (source_of items.now)) }
 {
     let mut starts = Sequence::new(alloc);
     for item in items {
-        let Item::Start { scheduler, called } = item else {
+        let Item::Start {
+            scheduler,
+            called,
+            ..
+        } = item
+        else {
             continue;
         };
         starts.push(Start {
             scheduler: SchedId(number_of(scheduler, schedulers)),
             module: ModuleId(number_of(called, modules)),
+            arguments: Sequence::new(alloc),
+            name: None,
         })?;
     }
     Ok(starts)
 }
 
 /// The statements of a module, whose stops are numbered from 1 in text order.
-fn body(alloc: Global, statements: &[Stmt]) -> Result<Vec<Statement>, NoMemory>
+fn body(alloc: Global, statements: &[Stmt]) -> Result<Vec<SmallStatement>, NoMemory>
     requires { length statements.now < 2 ^ 32 }
     ensures { IfOk result (λ body. steps_of body.items ≡ numbered (statements_of statements.now) 0) }
 {
@@ -124,29 +148,34 @@ fn body(alloc: Global, statements: &[Stmt]) -> Result<Vec<Statement>, NoMemory>
     let mut stop = 0;
     for statement in statements {
         match statement {
-            Stmt::PrintText(line) => {
-                body.push(Statement::Print(Sequence::from_slice(alloc, line.bytes())?))?;
+            Stmt::PrintText { text, .. } => {
+                body.push(SmallStatement::Print(Sequence::from_slice(alloc, text.bytes())?))?;
             }
-            Stmt::Cooperate => {
+            Stmt::Cooperate { .. } => {
                 stop += 1;
-                body.push(Statement::Cooperate { stop })?;
+                body.push(SmallStatement::Cooperate { stop })?;
             }
+            _ => {}
         }
     }
     Ok(body)
 }
 
 /// The bodies of the modules, in text order.
-fn bodies(alloc: Global, items: &[Item]) -> Result<Vec<Module>, NoMemory>
+fn bodies(alloc: Global, items: &[Item]) -> Result<Vec<SmallModule>, NoMemory>
     requires { IsSmall (source_of items.now) }
     ensures { IfOk result (λ modules. map module_of modules.items ≡ bodies_in (source_of items.now)) }
 {
     let mut modules = Vec::new(alloc);
     for item in items {
-        let Item::Module(_, statements) = item else {
+        let Item::Module {
+            body: statements,
+            ..
+        } = item
+        else {
             continue;
         };
-        modules.push(Module {
+        modules.push(SmallModule {
             body: body(alloc, statements.as_slice())?,
         })?;
     }
@@ -156,9 +185,9 @@ fn bodies(alloc: Global, items: &[Item]) -> Result<Vec<Module>, NoMemory>
 /// The program that a small source means: its schedulers, modules and starts in text order, with
 /// numbers in place of names, and the stops of each module numbered from 1. `NoMemory` where there
 /// is no memory for it; the source stays as it is.
-pub fn number(alloc: Global, program: &Program) -> Result<Named, NoMemory>
-    requires { IsSmall program.now }
-    ensures { IfOk result (λ named. resolved_of named ≡ resolved program.now) }
+pub fn number(alloc: Global, program: &Program) -> Result<SmallProgram, NoMemory>
+    requires { IsSmall (source_of program.now) }
+    ensures { IfOk result (λ named. resolved_of named ≡ resolved (source_of program.now)) }
 {
     let items = program.items();
     let schedulers = scheduler_names(alloc, items)?;
@@ -168,11 +197,12 @@ pub fn number(alloc: Global, program: &Program) -> Result<Named, NoMemory>
     let heads = Heads {
         schedulers,
         events: Sequence::new(alloc),
+        shared: Sequence::new(alloc),
         modules: signatures,
         starts,
         clients: Sequence::new(alloc),
     };
-    Ok(Named {
+    Ok(SmallProgram {
         heads,
         modules: bodies(alloc, items)?,
     })
@@ -194,10 +224,10 @@ mod tests {
     use std::test::Fail;
 
     /// The numbers of the stops of a module.
-    fn stops(alloc: Global, module: &Module) -> Result<Vec<u32>, AllocError> {
+    fn stops(alloc: Global, module: &SmallModule) -> Result<Vec<u32>, AllocError> {
         let mut stops = Vec::new(alloc);
         for statement in module.body.as_slice() {
-            if let Statement::Cooperate { stop } = statement {
+            if let SmallStatement::Cooperate { stop } = statement {
                 stops.push(*stop)?;
             }
         }
@@ -208,7 +238,7 @@ mod tests {
     fn numbers_follow_the_text(rt: HostRuntime) -> Result<(), Fail> {
         let text =
             b"start A.two(); scheduler A; module one() in A print \"a\"; cooperate; cooperate; end start A.one(); module two() in A cooperate; end";
-        let program = parse(rt.alloc(), text.as_slice())?.expect(&rt, "a small program");
+        let program = parse(rt.alloc(), text.as_slice()).expect(&rt, "a program");
         let named = number(rt.alloc(), &program)?;
         let schedulers = named.heads.schedulers.as_slice();
         assert_eq!(rt; schedulers.len(), 1);

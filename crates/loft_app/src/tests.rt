@@ -40,7 +40,7 @@ fn answer<R: Threads + Wait + Sync + AllocGlobal>(
 /// Words that are no command.
 #[test]
 fn refuses_words(rt: HostRuntime) -> Result<(), Fail> {
-    let cases: [&[&str]; 7] = [
+    let cases: [&[&str]; 9] = [
         &[],
         &["run"],
         &["run", ""],
@@ -48,6 +48,8 @@ fn refuses_words(rt: HostRuntime) -> Result<(), Fail> {
         &["--help"],
         &["run", "a", "a"],
         &["check", "a"],
+        &["show"],
+        &["show", "-a"],
     ];
     for asked in cases {
         let (status, text) = answer(&rt, asked, b"scheduler A;")?;
@@ -57,10 +59,10 @@ fn refuses_words(rt: HostRuntime) -> Result<(), Fail> {
     Ok(())
 }
 
-/// Texts that no small program reads.
+/// Programs that aren't small.
 #[test]
-fn refuses_sources(rt: HostRuntime) -> Result<(), Fail> {
-    let cases: [&[u8]; 12] = [
+fn runs_small_programs_only(rt: HostRuntime) -> Result<(), Fail> {
+    let cases: [&[u8]; 11] = [
         b"",
         b"// nothing",
         b"scheduler A; scheduler B;",
@@ -72,7 +74,6 @@ fn refuses_sources(rt: HostRuntime) -> Result<(), Fail> {
         b"scheduler A; module m() in A cooperate 2; end",
         b"scheduler A; module A() in A end",
         b"scheduler A; start A.m();",
-        b"scheduler A; #",
     ];
     for contents in cases {
         let (status, text) = answer(&rt, &["run", "a"], contents)?;
@@ -82,20 +83,69 @@ fn refuses_sources(rt: HostRuntime) -> Result<(), Fail> {
     Ok(())
 }
 
-/// A text of this length.
-fn blanks(alloc: Global, length: usize) -> Result<Vec<u8>, AllocError> {
-    let mut text = Vec::new(alloc);
-    text.resize(length, b' ')?;
-    Ok(text)
+/// Texts that no program reads, and their faults.
+const FAULTS: [(&[u8], &[u8]); 8] = [
+    (b";", b"source: expected at 0\n"),
+    (b"#", b"source: bad byte at 0\n"),
+    (b"\"abc", b"source: open text at 0\n"),
+    (b"9223372036854775808", b"source: bad number at 0\n"),
+    (
+        b"aaaaaaaaaaaaaaaaaaaaaaaaaaaaaaaaaaaaaaaaaaaaaaaaaaaaaaaaaaaaaaaaa",
+        b"source: long name at 0\n",
+    ),
+    (
+        b"\"aaaaaaaaaaaaaaaaaaaaaaaaaaaaaaaaaaaaaaaaaaaaaaaaaaaaaaaaaaaaaaaaaaaaaaaaaaaaaaaaaaaaaaaaaaaaaaaaaaaaaaaaaaaaaaaaaaaaaaaaa\"",
+        b"source: long text at 0\n",
+    ),
+    (
+        b"scheduler S00;scheduler S01;scheduler S02;scheduler S03;scheduler S04;scheduler S05;scheduler S06;scheduler S07;scheduler S08;scheduler S09;scheduler S10;scheduler S11;scheduler S12;scheduler S13;scheduler S14;scheduler S15;scheduler S16;",
+        b"source: too many at 224 (limit 16)\n",
+    ),
+    (
+        b"scheduler A;module m() in A print (((((((((((((((((((((((((((((((((1)))))))))))))))))))))))))))))))));end",
+        b"source: too deep at 66\n",
+    ),
+];
+
+/// Both commands tell the fault of a text.
+#[test]
+fn tells_faults(rt: HostRuntime) -> Result<(), Fail> {
+    for command in ["show", "run"] {
+        for (contents, line) in FAULTS {
+            let (status, text) = answer(&rt, &[command, "a"], contents)?;
+            assert_eq!(rt; status, 3, "of {contents:?}");
+            assert_eq!(rt; text.as_slice(), line);
+        }
+    }
+    Ok(())
 }
 
 /// A source of more than 4 MiB is too long, whatever it says.
 #[test]
 fn refuses_a_long_source(rt: HostRuntime) -> Result<(), Fail> {
-    let contents = blanks(rt.alloc(), 4_194_305)?;
-    let (status, text) = answer(&rt, &["run", "a"], contents.as_slice())?;
-    assert_eq!(rt; status, 3);
-    assert_eq!(rt; text.as_slice(), b"source: too long\n".as_slice());
+    let mut contents = Vec::from_slice(rt.alloc(), b"a//")?;
+    contents.resize(4_194_307, b'x')?;
+    for command in ["show", "run"] {
+        let (status, text) = answer(&rt, &[command, "a"], contents.as_slice())?;
+        assert_eq!(rt; status, 3);
+        assert_eq!(rt; text.as_slice(), b"source: too long\n".as_slice());
+    }
+    Ok(())
+}
+
+/// A program whose text isn't the canonical one, and a program that isn't small.
+const SHOWN: &[u8] = b"scheduler A; module m(int x) in A to A print \"//\"; end";
+
+/// The canonical text of a program.
+#[test]
+fn shows_a_program(rt: HostRuntime) -> Result<(), Fail> {
+    let (status, text) = answer(&rt, &["show", "a"], SHOWN)?;
+    assert_eq!(rt; status, 0);
+    let canon = b"scheduler A;\nmodule m(int x) in A\n  print \"//\";\nend\n";
+    assert_eq!(rt; text.as_slice(), canon.as_slice());
+    let (status, text) = answer(&rt, &["show", "a"], b"")?;
+    assert_eq!(rt; status, 0);
+    assert!(rt; text.is_empty());
     Ok(())
 }
 
@@ -184,33 +234,49 @@ impl Sink for FailingSink {
     }
 }
 
-/// Behind a failure of the sink nothing more is written.
-#[test]
-fn stops_at_a_sink_fault(rt: HostRuntime) -> Result<(), Fail> {
-    let asked = words(rt.alloc(), &["run", "a"])?;
+/// What a sink has, and how the program ends, where the sink fails at its third piece.
+fn cut_off<R: Threads + Wait + Sync + AllocGlobal>(
+    rt: &R,
+    asked: &[&str],
+    contents: &[u8],
+) -> Result<(u8, Vec<u8>), Fail> {
+    let asked = words(rt.alloc(), asked)?;
     let mut files = MemFiles::new(rt.alloc())?;
-    files.add(
-        rt.alloc(),
-        "a",
-        b"scheduler A; module m() in A print \"one\"; cooperate; print \"two\"; end start A.m();",
-    )?;
+    files.add(rt.alloc(), "a", contents)?;
     let mut sink = FailingSink {
         bytes: Vec::new(rt.alloc()),
         left: 2,
         faults: 0,
     };
     let status = loft_main(
-        &rt,
+        rt,
         rt.alloc(),
         asked.as_slice(),
         &mut files,
         &mut sink,
         &OpenGate,
     );
-    assert_eq!(rt; status.code(), 6);
+    Ok((status.code(), sink.bytes))
+}
+
+/// Behind a failure of the sink nothing more is written; each line is a piece of its own.
+#[test]
+fn stops_at_a_sink_fault(rt: HostRuntime) -> Result<(), Fail> {
+    let (status, text) = cut_off(
+        &rt,
+        &["run", "a"],
+        b"scheduler A; module m() in A print \"one\"; cooperate; print \"two\"; end start A.m();",
+    )?;
+    assert_eq!(rt; status, 6);
     assert_eq!(rt;
-        sink.bytes.as_slice(),
+        text.as_slice(),
         b"loft-report 1\ninstants 100\n".as_slice()
+    );
+    let (status, text) = cut_off(&rt, &["show", "a"], SHOWN)?;
+    assert_eq!(rt; status, 6);
+    assert_eq!(rt;
+        text.as_slice(),
+        b"scheduler A;\nmodule m(int x) in A\n".as_slice()
     );
     Ok(())
 }

@@ -1,7 +1,28 @@
 //! The words behind the program's name.
 
-ghost use Rattle.std.specs.Prelude.{◌≡◌, IsTrue, ◌↔◌, MatchOption, Some, None};
-ghost use Rattle.loft_app.specs.Command.{command, words_of, is_file_name, Run};
+ghost use Rattle.std.specs.Prelude.{◌≡◌};
+ghost use Rattle.loft_app.specs.Command.{command, named, words_of, file_of, is_file_name};
+ghost use Rattle.loft_app.specs.Asked.{meant, command_of};
+
+/// What the words ask for.
+#[derive(Clone, Copy, Debug)]
+pub enum Asked<'a> {
+    /// To run the source in this file.
+    Run(&'a str),
+    /// To show the source in this file in its canonical text.
+    Show(&'a str),
+}
+
+impl<'a> Asked<'a> {
+    /// The file that is to be read.
+    pub fn file(self) -> &'a str
+        ensures { result.now ≡ file_of (command_of self.entry) }
+    {
+        match self {
+            Asked::Run(file) | Asked::Show(file) => file,
+        }
+    }
+}
 
 /// Whether a word can be a file's name: it isn't empty and doesn't begin with `-`.
 fn is_file(word: &str) -> bool
@@ -13,14 +34,27 @@ fn is_file(word: &str) -> bool
     }
 }
 
-/// The file that is to be run, where the words are `run` and its name; all other words are refused.
-pub fn file_to_run(words: &[String]) -> Option<&str>
-    ensures { MatchOption result (command (words_of words.now) ≡ None) (λ file. command (words_of words.now) ≡ Some (Run file.now)) }
+/// What the word asks for with this file.
+fn with_file<'a>(word: &str, file: &'a str) -> Option<Asked<'a>>
+    ensures { meant result ≡ named word.now file.now }
+{
+    if word == "run" {
+        Some(Asked::Run(file))
+    } else if word == "show" {
+        Some(Asked::Show(file))
+    } else {
+        None
+    }
+}
+
+/// What the words ask for: `run` or `show` and the name of a file. All other words are refused.
+pub fn command(words: &[String]) -> Option<Asked<'_>>
+    ensures { meant result ≡ command (words_of words.now) }
 {
     match words {
         [word, file] => {
-            if word.as_str() == "run" && is_file(file.as_str()) {
-                Some(file.as_str())
+            if is_file(file.as_str()) {
+                with_file(word.as_str(), file.as_str())
             } else {
                 None
             }

@@ -1,0 +1,14 @@
+-- What a sink is given.
+use Rattle.std.specs.Prelude.{◌≡◌, ℕ, ◌⊎◌, List, [], ◌∷◌, ◌++◌, Option, Some}
+
+-- what a sink tells grew by a text of which P holds
+abbrev pub Appends : Option (List ℕ) → Option (List ℕ) → (List ℕ → Type 0) → Type 0
+Appends old new P = (written : List ℕ) → old ≡ Some written → (text : List ℕ) × (new ≡ Some (written ++ text)) × P text
+
+-- the text is this line
+abbrev pub IsLine : List ℕ → List ℕ → Type 0
+IsLine line text = text ≡ line ++ 10 ∷ []
+
+-- the text is empty, or it is the first part of one of which P holds
+abbrev pub IsFirstPart : (List ℕ → Type 0) → List ℕ → Type 0
+IsFirstPart P text = (text ≡ []) ⊎ ((rest : List ℕ) × P (text ++ rest))
