@@ -1,0 +1,7 @@
+pub mod Scopes
+pub mod Faults
+pub mod Numbers
+pub mod Least
+pub mod Tables
+pub mod Rooms
+pub mod Modules

@@ -1,0 +1,32 @@
+//! Why the names of a program are refused.
+
+ghost use Rattle.std.specs.Prelude.{◌≡◌};
+ghost use Rattle.loft_names.specs.declared.error.NameError.TheVariants.{NoMemory as no_memory};
+
+use loft_base::NoMemory;
+
+/// Why the names of a program are refused. A place is the number of bytes before it in the text.
+#[derive(Clone, Copy, Debug, PartialEq, Eq)]
+pub enum NameError {
+    /// The program declares no scheduler.
+    NoScheduler,
+    /// The name at this place isn't declared.
+    Unknown(u32),
+    /// The name that is declared at this place is declared before, first at another place.
+    Twice { at: u32, first: u32 },
+    /// The call of the module whose name stands at this place has too few or too many arguments.
+    Arity(u32),
+    /// What stands at this place is of another kind, or names something of another sort, than is
+    /// needed.
+    Kind(u32),
+    /// There was no memory.
+    NoMemory,
+}
+
+impl From<NoMemory> for NameError {
+    ghost from_gives = { λ _ e. e ≡ no_memory };
+
+    fn from(_error: NoMemory) -> NameError {
+        NameError::NoMemory
+    }
+}

@@ -1,0 +1,10 @@
+//! What is wrong with the uses of names (docs/LANGUAGE.md, "Kinds").
+
+mod call;
+mod expression;
+mod item;
+mod name;
+mod order;
+mod statement;
+
+pub use item::items;

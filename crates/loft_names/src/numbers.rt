@@ -1,0 +1,12 @@
+//! Numbers in place of names (docs/LANGUAGE.md, "Numbers of names").
+
+mod call;
+mod expression;
+mod head;
+mod module;
+mod name;
+mod part;
+mod statement;
+
+pub use head::heads;
+pub use module::{linkings, modules};

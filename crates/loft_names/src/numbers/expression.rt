@@ -1,0 +1,75 @@
+//! Expressions.
+
+ghost use Rattle.std.specs.Prelude.{◌≡◌, IfOk, map};
+ghost use Rattle.loft_tree.specs.View.{expression_of, value_of as value_in};
+ghost use Rattle.loft_tree.specs.NamedView as view;
+ghost use Rattle.loft_names.specs.Numbers.{term_of, terms_of, value_of};
+
+use crate::numbers::name::variable;
+use crate::scope::Scope;
+use crate::table::Table;
+use loft_base::NoMemory;
+use loft_tree::{Expr, Term};
+use std::alloc::Global;
+
+/// An expression.
+pub fn term(alloc: Global, table: &Table, scope: Scope, e: &Expr) -> Result<Term, NoMemory>
+    ensures { IfOk result (λ t. view.term_of t ≡ term_of table.now scope (expression_of e.now)) }
+{
+    match e {
+        Expr::Number { value, .. } => Ok(Term::Number(*value)),
+        Expr::Name(name) => Ok(variable(table, scope, name)),
+        Expr::Builtin { builtin, .. } => Ok(Term::Builtin(*builtin)),
+        Expr::Unary {
+            operator,
+            operand,
+            ..
+        } => {
+            let operand = term(alloc, table, scope, operand)?;
+            Ok(Term::Unary {
+                operator: *operator,
+                operand: Box::new(alloc, operand)?,
+            })
+        }
+        Expr::Binary {
+            operator,
+            left,
+            right,
+        } => {
+            let left = term(alloc, table, scope, left)?;
+            let right = term(alloc, table, scope, right)?;
+            Ok(Term::Binary {
+                operator: *operator,
+                left: Box::new(alloc, left)?,
+                right: Box::new(alloc, right)?,
+            })
+        }
+    }
+}
+
+/// The same, if there is one.
+pub fn term_if(
+    alloc: Global,
+    table: &Table,
+    scope: Scope,
+    e: &Option<Expr>,
+) -> Result<Option<Term>, NoMemory>
+    ensures { IfOk result (λ t. view.value_of t ≡ value_of table.now scope (value_in e.now)) }
+{
+    match e {
+        Some(e) => Ok(Some(term(alloc, table, scope, e)?)),
+        None => Ok(None),
+    }
+}
+
+/// Expressions.
+pub fn terms(alloc: Global, table: &Table, scope: Scope, es: &[Expr]) -> Result<Vec<Term>, NoMemory>
+    ensures { IfOk result (λ ts. map view.term_of ts.items
+        ≡ terms_of table.now scope (map expression_of es.now)) }
+{
+    let mut all = Vec::new(alloc);
+    for e in es {
+        all.push(term(alloc, table, scope, e)?)?;
+    }
+    Ok(all)
+}

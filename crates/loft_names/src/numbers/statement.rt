@@ -1,0 +1,222 @@
+//! Statements, with the bodies in them.
+
+ghost use Rattle.std.specs.Prelude.{◌≡◌, ◌+◌, ◌≤◌, ◌<◌, ◌^◌, IfOk, OnOk};
+ghost use Rattle.loft_tree.specs.View.{statement_of, statements_of};
+ghost use Rattle.loft_tree.specs.NamedView as view;
+ghost use Rattle.loft_names.specs.Numbers as numbers;
+ghost use Rattle.loft_names.specs.Numbers.{stops_in, body_stops};
+
+use crate::numbers::call::making;
+use crate::numbers::expression::{term, term_if, terms};
+use crate::numbers::name::{event, event_use, event_uses, module, scheduler, target};
+use crate::scope::Scope;
+use crate::table::Table;
+use loft_base::{NoMemory, Sequence};
+use loft_tree::{Statement, Stmt};
+use std::alloc::Global;
+
+/// The number of the next stop.
+fn next_stop(stops: &mut u32) -> u32
+    requires { stops.old + 1 < 2 ^ 32 }
+    ensures number { result ≡ stops.old + 1 }
+    ensures counted { stops.new ≡ stops.old + 1 }
+{
+    *stops += 1;
+    *stops
+}
+
+/// A statement, behind so many stops of its module.
+#[cycle(statement)]
+#[tactic(auto, using(crate::proofs::Stops::numbered_statements))]
+fn statement(
+    alloc: Global,
+    table: &Table,
+    scope: Scope,
+    s: &Stmt,
+    stops: &mut u32,
+) -> Result<Statement, NoMemory>
+    requires { stops.old + stops_in (statement_of s.now) < 2 ^ 32 }
+    ensures statement { IfOk result (λ t. view.statement_of t
+        ≡ numbers.statement_of table.now scope (statement_of s.now) stops.old) }
+    ensures counted { OnOk result (stops.new ≡ stops.old + stops_in (statement_of s.now)) }
+{
+    match s {
+        Stmt::Assign {
+            target: name,
+            value,
+        } => Ok(Statement::Assign {
+            target: target(table, scope, name),
+            value: term(alloc, table, scope, value)?,
+        }),
+        Stmt::AssignCreate {
+            target: name,
+            at,
+            creation,
+        } => Ok(Statement::AssignCreate {
+            target: target(table, scope, name),
+            at: *at,
+            making: making(alloc, table, scope, creation)?,
+        }),
+        Stmt::Create { at, creation } => Ok(Statement::Create {
+            at: *at,
+            making: making(alloc, table, scope, creation)?,
+        }),
+        Stmt::PrintText { at, text, value } => Ok(Statement::PrintText {
+            at: *at,
+            text: Sequence::from_slice(alloc, text.bytes())?,
+            value: term_if(alloc, table, scope, value)?,
+        }),
+        Stmt::PrintValue { at, value } => Ok(Statement::PrintValue {
+            at: *at,
+            value: term(alloc, table, scope, value)?,
+        }),
+        Stmt::Cooperate { at, instants } => Ok(Statement::Cooperate {
+            at: *at,
+            stop: next_stop(stops),
+            instants: term_if(alloc, table, scope, instants)?,
+        }),
+        Stmt::Generate {
+            at,
+            event: name,
+            value,
+        } => Ok(Statement::Generate {
+            at: *at,
+            event: event_use(table, scope, name),
+            value: term_if(alloc, table, scope, value)?,
+        }),
+        Stmt::Await {
+            at,
+            event: name,
+            limit,
+        } => Ok(Statement::Await {
+            at: *at,
+            stop: next_stop(stops),
+            event: event_use(table, scope, name),
+            limit: term_if(alloc, table, scope, limit)?,
+        }),
+        Stmt::Select { at, events, limit } => Ok(Statement::Select {
+            at: *at,
+            stop: next_stop(stops),
+            events: event_uses(alloc, table, scope, events.as_slice())?,
+            limit: term_if(alloc, table, scope, limit)?,
+        }),
+        Stmt::Get {
+            at,
+            event: name,
+            index,
+            target: into,
+        } => Ok(Statement::Get {
+            at: *at,
+            stop: next_stop(stops),
+            event: event_use(table, scope, name),
+            index: term(alloc, table, scope, index)?,
+            target: target(table, scope, into),
+        }),
+        Stmt::Join { at, thread, limit } => Ok(Statement::Join {
+            at: *at,
+            stop: next_stop(stops),
+            thread: term(alloc, table, scope, thread)?,
+            limit: term_if(alloc, table, scope, limit)?,
+        }),
+        Stmt::Control {
+            at,
+            control,
+            thread,
+            scheduler: name,
+        } => Ok(Statement::Control {
+            at: *at,
+            control: *control,
+            thread: term(alloc, table, scope, thread)?,
+            scheduler: scheduler(table, scope, name),
+        }),
+        Stmt::Broadcast {
+            at,
+            event: name,
+            value,
+        } => Ok(Statement::Broadcast {
+            at: *at,
+            event: event(table, scope, name),
+            value: term_if(alloc, table, scope, value)?,
+        }),
+        Stmt::Link {
+            at,
+            scheduler: name,
+        } => Ok(Statement::Link {
+            at: *at,
+            stop: next_stop(stops),
+            scheduler: scheduler(table, scope, name),
+        }),
+        Stmt::Unlink { at } => Ok(Statement::Unlink {
+            at: *at,
+            stop: next_stop(stops),
+        }),
+        Stmt::Run {
+            at,
+            called,
+            arguments,
+        } => Ok(Statement::Run {
+            at: *at,
+            stop: next_stop(stops),
+            called: called.at(),
+            module: module(table, scope, called),
+            arguments: terms(alloc, table, scope, arguments.as_slice())?,
+        }),
+        Stmt::Halt { at } => Ok(Statement::Halt {
+            at: *at,
+            stop: next_stop(stops),
+        }),
+        Stmt::If {
+            at,
+            test,
+            first,
+            second,
+        } => Ok(Statement::If {
+            at: *at,
+            test: term(alloc, table, scope, test)?,
+            first: body(alloc, table, scope, first.as_slice(), stops)?,
+            second: body(alloc, table, scope, second.as_slice(), stops)?,
+        }),
+        Stmt::While {
+            at,
+            test,
+            body: inner,
+        } => Ok(Statement::While {
+            at: *at,
+            test: term(alloc, table, scope, test)?,
+            body: body(alloc, table, scope, inner.as_slice(), stops)?,
+        }),
+        Stmt::Repeat {
+            at,
+            count,
+            body: inner,
+        } => Ok(Statement::Repeat {
+            at: *at,
+            count: term(alloc, table, scope, count)?,
+            body: body(alloc, table, scope, inner.as_slice(), stops)?,
+        }),
+    }
+}
+
+/// The statements of a body, behind so many stops of its module.
+#[cycle(statement)]
+#[tactic(auto, using(crate::proofs::Stops::numbered_statements))]
+pub fn body(
+    alloc: Global,
+    table: &Table,
+    scope: Scope,
+    statements: &[Stmt],
+    stops: &mut u32,
+) -> Result<Vec<Statement>, NoMemory>
+    requires { stops.old + body_stops (statements_of statements.now) < 2 ^ 32 }
+    ensures body { IfOk result (λ body. view.statements_of body.items
+        ≡ numbers.body_of table.now scope (statements_of statements.now) stops.old) }
+    ensures counted { OnOk result (stops.new
+        ≡ stops.old + body_stops (statements_of statements.now)) }
+{
+    let mut all = Vec::new(alloc);
+    for s in statements {
+        let numbered = statement(alloc, table, scope, s, stops)?;
+        all.push(numbered)?;
+    }
+    Ok(all)
+}

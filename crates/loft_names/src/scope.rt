@@ -1,0 +1,10 @@
+//! Where declarations can be seen.
+
+/// Where a declaration can be seen.
+#[derive(Clone, Copy, Debug, PartialEq, Eq, Hash)]
+pub enum Scope {
+    /// In the whole program.
+    Everywhere,
+    /// In the module with this number.
+    Within(u32),
+}
