@@ -1,0 +1,4 @@
+pub mod NeedLemmas
+pub mod Rests
+pub mod Decided
+pub mod Meeting

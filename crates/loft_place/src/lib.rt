@@ -1,0 +1,14 @@
+//! Links: where the threads of a program are linked at each of its statements.
+#![tactic(auto)]
+
+mod error;
+mod laws;
+mod needs;
+mod placed;
+#[cfg(test)]
+mod tests;
+mod walk;
+
+pub use error::PlaceError;
+pub use laws::{links_are_decided, placed_programs_never_meet};
+pub use placed::{Placed, place};

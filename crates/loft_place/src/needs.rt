@@ -1,0 +1,225 @@
+//! What statements name, and whether a thread is linked where that is.
+
+ghost use Rattle.std.specs.Prelude.{◌≡◌, [], ◌∷◌, map, false, slice_get};
+ghost use Rattle.loft_tree.specs.NamedView.{term_of, value_of, making_of, statement_of};
+ghost use Rattle.loft_place.specs.Goes.{event_home, shared_home, begin_of, end_of, IsAnswer, shared_need, event_need, run_need, making_need, term_needs, value_needs, terms_needs, target_needs, events_needs, making_needs, needs_of};
+
+use crate::error::PlaceError;
+use loft_base::{EventId, ModuleId, SchedId, SharedId};
+use loft_tree::{EventUse, Heads, Making, Place, Statement, Target, Term};
+
+/// Where an event is.
+fn event_home(heads: &Heads, event: EventId) -> Place
+    ensures { result ≡ event_home (slice_get heads.now.events event.0) }
+{
+    match heads.events.as_slice().get(event.0 as usize) {
+        Some(head) => Place::Sched(head.scheduler),
+        None => Place::Unlinked,
+    }
+}
+
+/// Where a shared variable is.
+fn shared_home(heads: &Heads, shared: SharedId) -> Place
+    ensures { result ≡ shared_home (slice_get heads.now.shared shared.0) }
+{
+    match heads.shared.as_slice().get(shared.0 as usize) {
+        Some(head) => Place::Sched(head.scheduler),
+        None => Place::Unlinked,
+    }
+}
+
+/// Where the threads of a module begin.
+fn begin_of(heads: &Heads, module: ModuleId) -> Place
+    ensures { result ≡ begin_of (slice_get heads.now.modules «module».0) }
+{
+    match heads.modules.as_slice().get(module.0 as usize) {
+        Some(signature) => signature.begin,
+        None => Place::Unlinked,
+    }
+}
+
+/// Where the threads of a module end.
+pub fn end_of(heads: &Heads, module: ModuleId) -> Place
+    ensures { result ≡ end_of (slice_get heads.now.modules «module».0) }
+{
+    match heads.modules.as_slice().get(module.0 as usize) {
+        Some(signature) => signature.end,
+        None => Place::Unlinked,
+    }
+}
+
+/// Whether what is named in the text has the place that it needs.
+fn check_place(at: u32, needs: Place, has: Place) -> Result<(), PlaceError>
+    ensures { IsAnswer (record { at = at; needs = needs; has = has; is_shared = false } ∷ []) result }
+{
+    if needs == has {
+        Ok(())
+    } else {
+        Err(PlaceError::NotHere { at, needs, has })
+    }
+}
+
+/// Whether a shared variable is where the thread is.
+fn check_shared(heads: &Heads, here: Place, at: u32, shared: SharedId) -> Result<(), PlaceError>
+    ensures { IsAnswer (shared_need heads.now here at shared ∷ []) result }
+{
+    match here {
+        Place::Sched(_) => check_place(at, shared_home(heads, shared), here),
+        Place::Unlinked => Err(PlaceError::Unlinked(at)),
+    }
+}
+
+/// Whether an event is where the thread is.
+fn check_event(heads: &Heads, here: Place, event: EventUse) -> Result<(), PlaceError>
+    ensures { IsAnswer (event_need heads.now here event ∷ []) result }
+{
+    check_place(event.at, event_home(heads, event.event), here)
+}
+
+/// Whether the module that is run begins where the thread is.
+fn check_run(heads: &Heads, here: Place, called: u32, module: ModuleId) -> Result<(), PlaceError>
+    ensures { IsAnswer (run_need heads.now here called «module» ∷ []) result }
+{
+    check_place(called, begin_of(heads, module), here)
+}
+
+/// Whether a module begins in the scheduler that is to have its new thread.
+pub fn check_maker(
+    heads: &Heads,
+    at: u32,
+    scheduler: SchedId,
+    module: ModuleId,
+) -> Result<(), PlaceError>
+    ensures { IsAnswer (making_need heads.now at scheduler «module» ∷ []) result }
+{
+    check_place(at, begin_of(heads, module), Place::Sched(scheduler))
+}
+
+/// Whether the shared variables in an expression are where the thread is.
+#[tactic(auto, using(crate::proofs::NeedLemmas::needs))]
+fn check_term(heads: &Heads, here: Place, term: &Term) -> Result<(), PlaceError>
+    ensures { IsAnswer (term_needs heads.now here (term_of term.now)) result }
+{
+    match term {
+        Term::Number(_) | Term::Slot(_) | Term::Builtin(_) => Ok(()),
+        Term::Shared { at, shared } => check_shared(heads, here, *at, *shared),
+        Term::Unary { operand, .. } => check_term(heads, here, operand),
+        Term::Binary { left, right, .. } => {
+            check_term(heads, here, left)?;
+            check_term(heads, here, right)
+        }
+    }
+}
+
+/// The same of an expression that may be left out.
+#[tactic(auto, using(crate::proofs::NeedLemmas::needs))]
+fn check_value(heads: &Heads, here: Place, value: &Option<Term>) -> Result<(), PlaceError>
+    ensures { IsAnswer (value_needs heads.now here (value_of value.now)) result }
+{
+    match value {
+        Some(term) => check_term(heads, here, term),
+        None => Ok(()),
+    }
+}
+
+/// The same of expressions.
+fn check_terms(heads: &Heads, here: Place, terms: &[Term]) -> Result<(), PlaceError>
+    ensures { IsAnswer (terms_needs heads.now here (map term_of terms.now)) result }
+{
+    for term in terms {
+        check_term(heads, here, term)?;
+    }
+    Ok(())
+}
+
+/// Whether a variable that is set is where the thread is.
+fn check_target(heads: &Heads, here: Place, target: Target) -> Result<(), PlaceError>
+    ensures { IsAnswer (target_needs heads.now here target) result }
+{
+    match target {
+        Target::Slot(_) => Ok(()),
+        Target::Shared { at, shared } => check_shared(heads, here, at, shared),
+    }
+}
+
+/// Whether all events are where the thread is.
+fn check_events(heads: &Heads, here: Place, events: &[EventUse]) -> Result<(), PlaceError>
+    ensures { IsAnswer (events_needs heads.now here events.now) result }
+{
+    for event in events {
+        check_event(heads, here, *event)?;
+    }
+    Ok(())
+}
+
+/// Whether a thread may be made so: its module begins in its scheduler, and the shared variables in its arguments are
+/// where the thread is that makes it.
+#[tactic(auto, using(crate::proofs::NeedLemmas::needs))]
+fn check_making(heads: &Heads, here: Place, making: &Making) -> Result<(), PlaceError>
+    ensures { IsAnswer (making_needs heads.now here (making_of making.now)) result }
+{
+    check_maker(heads, making.at, making.scheduler, making.module)?;
+    check_terms(heads, here, making.arguments.as_slice())
+}
+
+/// Whether all that a statement names, but in its bodies, is where the thread is.
+#[tactic(auto, using(crate::proofs::NeedLemmas::needs, loft_tree::proofs::NamedTrees::named_statements))]
+pub fn check_names(heads: &Heads, here: Place, statement: &Statement) -> Result<(), PlaceError>
+    ensures { IsAnswer (needs_of heads.now here (statement_of statement.now)) result }
+{
+    match statement {
+        Statement::Assign { target, value } => {
+            check_target(heads, here, *target)?;
+            check_term(heads, here, value)
+        }
+        Statement::AssignCreate { target, making, .. } => {
+            check_target(heads, here, *target)?;
+            check_making(heads, here, making)
+        }
+        Statement::Create { making, .. } => check_making(heads, here, making),
+        Statement::PrintText { value, .. } => check_value(heads, here, value),
+        Statement::PrintValue { value, .. } => check_term(heads, here, value),
+        Statement::Cooperate { instants, .. } => check_value(heads, here, instants),
+        Statement::Generate { event, value, .. } => {
+            check_event(heads, here, *event)?;
+            check_value(heads, here, value)
+        }
+        Statement::Await { event, limit, .. } => {
+            check_event(heads, here, *event)?;
+            check_value(heads, here, limit)
+        }
+        Statement::Select { events, limit, .. } => {
+            check_events(heads, here, events.as_slice())?;
+            check_value(heads, here, limit)
+        }
+        Statement::Get {
+            event,
+            index,
+            target,
+            ..
+        } => {
+            check_event(heads, here, *event)?;
+            check_term(heads, here, index)?;
+            check_target(heads, here, *target)
+        }
+        Statement::Join { thread, limit, .. } => {
+            check_term(heads, here, thread)?;
+            check_value(heads, here, limit)
+        }
+        Statement::Control { thread, .. } => check_term(heads, here, thread),
+        Statement::Broadcast { value, .. } => check_value(heads, here, value),
+        Statement::Link { .. } | Statement::Unlink { .. } | Statement::Halt { .. } => Ok(()),
+        Statement::Run {
+            called,
+            module,
+            arguments,
+            ..
+        } => {
+            check_run(heads, here, *called, *module)?;
+            check_terms(heads, here, arguments.as_slice())
+        }
+        Statement::If { test, .. } => check_term(heads, here, test),
+        Statement::While { test, .. } => check_term(heads, here, test),
+        Statement::Repeat { count, .. } => check_term(heads, here, count),
+    }
+}
