@@ -6,10 +6,8 @@ use Rattle.loft_base.specs.Outside.{appended, GrowsByPrefix}
 use Rattle.loft_base.specs.declared.ids.SchedId.{SchedId}
 use Rattle.loft_tree.specs.declared.small_program.SmallProgram.{SmallProgram}
 use Rattle.loft_tree.specs.Source.{Source}
-use Rattle.loft_tree.specs.Small.{IsSmall}
 use Rattle.loft_tree.specs.Resolved.{Resolved}
 use Rattle.loft_tree.specs.SmallView.{resolved_of}
-use Rattle.loft_tree.specs.Numbering.{resolved}
 use Rattle.loft_sense.specs.declared.limits.Limits.{Limits}
 use Rattle.loft_sense.specs.declared.limits.RunOptions.{RunOptions}
 use Rattle.loft_sense.specs.declared.note.Standing.{Standing}
@@ -24,6 +22,7 @@ use Rattle.loft_plain.specs.Turns.{entries_of}
 use Rattle.loft_log.specs.RunReport.{run_lines, run_report}
 use Rattle.loft_plain.specs.Running.{choices_of, IsWholeRun}
 use Rattle.loft_app.specs.Command.{Command}
+use Rattle.loft_app.specs.Reading.{IsNumbersOf}
 use Rattle.loft_app.specs.Written.{Appends, IsFirstPart}
 use Rattle.loft_app.specs.Promise.{default_limits, default_options, IsReport}
 use Rattle.loft_app.proofs.NumberLemmas.{first, one_scheduler}
@@ -47,20 +46,20 @@ promised x o s turns linked one zero run = record {
 }
 
 -- the report of a whole run of a small program, with the options for which none is given
-pub whole_report : (p : Source) (n : SmallProgram) (o : RunOptions) (e : PlainEngine) (run : Finished) → IsSmall p → resolved_of n ≡ resolved p → o ≡ default_options
+pub whole_report : (n : SmallProgram) (o : RunOptions) (e : PlainEngine) (run : Finished) → (p : Source) × IsNumbersOf n p → o ≡ default_options
     → program_of e ≡ Tree (resolved_of n) → limits_of e ≡ o.limits → IsWholeRun (program_of e) (limits_of e) first run.turns.items run.last.linked
-    → IsReport (Tree (resolved p)) default_options (run_report n.heads o first run)
-whole_report p n o e run small same options of_program of_limits made =
-    let x = Tree (resolved p) in
+    → IsReport (Tree (resolved_of n)) default_options (run_report n.heads o first run)
+whole_report n o e run (p, numbers) options program of_limits made =
+    let x = Tree (resolved_of n) in
     let turns = run.turns.items in
     let linked = run.last.linked in
-    let program : program_of e ≡ x = of_program ∙ ap Tree same in
+    let one : length (heads x).schedulers ≡ 1 = ap (λ (r : Resolved). length r.heads.schedulers) numbers.means ∙ one_scheduler p numbers.small in
     let limits : limits_of e ≡ default_limits = of_limits ∙ ap (λ (q : RunOptions). q.limits) options in
     let whole : IsWholeRun x default_limits first turns linked =
     subst (λ (l : Limits). IsWholeRun x l first turns linked) limits (subst (λ (q : Prog). IsWholeRun q (limits_of e) first turns linked) program made) in
     let written : run_report n.heads o first run ≡ text_of (run_lines (heads x) default_options first turns linked) =
-    ap (λ (r : Resolved). run_report r.heads o first run) same ∙ ap (λ (q : RunOptions). run_report (heads x) q first run) options in
-    subst (IsReport x default_options) (sym written) (promised x default_options first turns linked (one_scheduler p small) refl whole)
+    ap (λ (q : RunOptions). run_report (heads x) q first run) options in
+    subst (IsReport x default_options) (sym written) (promised x default_options first turns linked one refl whole)
 
 -- what was appended is a text of which P holds
 pub appends : {old new : Option (List ℕ)} {P : List ℕ → Type 0} (text : List ℕ) → new ≡ appended old text → P text → Appends old new P

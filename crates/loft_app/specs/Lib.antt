@@ -3,6 +3,7 @@ pub mod Asked
 pub mod Written
 pub mod Refusals
 pub mod Reading
+pub mod Unfit
 pub mod Promise
 pub mod Endings
 pub mod Answer

@@ -1,5 +1,5 @@
 -- What the program promises of its answers.
-use Rattle.std.specs.Prelude.{◌≡◌, ℕ, List, ◌++◌, Ok}
+use Rattle.std.specs.Prelude.{◌≡◌, ℕ, List, ◌++◌, Ok, codes}
 use Rattle.loft_tree.specs.declared.heads.Heads.{Heads}
 use Rattle.loft_tree.specs.Source.{Source}
 use Rattle.loft_tree.specs.Small.{IsSmall}
@@ -12,7 +12,9 @@ use Rattle.loft_sense.specs.Machine.{Prog, Tree, heads}
 use Rattle.loft_sense.specs.History.{Entry, Choice, hist, HasEnded}
 use Rattle.loft_sense.specs.Legal.{IsLegal}
 use Rattle.loft_sense.specs.Report.{text_of, head_lines, report}
-use Rattle.loft_app.specs.Command.{Command, Run, Show}
+use Rattle.loft_app.specs.Command.{Command, Run, Show, Check}
+use Rattle.loft_app.specs.Written.{IsLine}
+use Rattle.loft_app.specs.Refusals.{Well}
 
 -- the options of a run for which none is given
 abbrev pub default_limits : Limits
@@ -40,6 +42,7 @@ pub record IsReport (x : Prog) (o : RunOptions) (text : List ℕ) : Type 0 where
 pub record IsRunOf (contents text : List ℕ) : Type 0 where
   pub source : Source
   pub reads : Reads contents source
+  pub well : Well source
   pub small : IsSmall source
   pub report_of : IsReport (Tree (resolved source)) default_options text
 
@@ -49,7 +52,15 @@ pub record IsCanonOf (contents text : List ℕ) : Type 0 where
   pub reads : Reads contents source
   pub canon : text ≡ Canon source
 
+-- the answer to contents whose program is well
+pub record IsCheckOf (contents text : List ℕ) : Type 0 where
+  pub source : Source
+  pub reads : Reads contents source
+  pub well : Well source
+  pub ok : IsLine (codes "ok") text
+
 -- what a command answers to contents
 abbrev pub IsAnswer : Command → List ℕ → List ℕ → Type 0
 IsAnswer (Run file) contents text = IsRunOf contents text
 IsAnswer (Show file) contents text = IsCanonOf contents text
+IsAnswer (Check file) contents text = IsCheckOf contents text

@@ -2,7 +2,11 @@
 use Rattle.std.specs.Prelude.{◌≡◌, ℕ, ◌≤◌, List, length}
 use Rattle.loft_base.specs.declared.errors.FileError.{FileError}
 use Rattle.loft_base.specs.declared.errors.FileError.TheVariants as file
+use Rattle.loft_tree.specs.declared.small_program.SmallProgram.{SmallProgram}
 use Rattle.loft_tree.specs.Source.{Source}
+use Rattle.loft_tree.specs.Small.{IsSmall}
+use Rattle.loft_tree.specs.SmallView.{resolved_of}
+use Rattle.loft_tree.specs.Numbering.{resolved}
 use Rattle.loft_parse.specs.declared.error.ParseError.{ParseError}
 use Rattle.loft_parse.specs.declared.error.ParseError.TheVariants.{Lex, Expected, TooDeep, TooMany, TooLong, NoMemory}
 use Rattle.loft_parse.specs.Source.{Reads}
@@ -36,3 +40,8 @@ pub record IsProgramOf (contents : List ℕ) (p : Source) : Type 0 where
 pub record IsFaultOf (contents : List ℕ) (e : ParseError) : Type 0 where
   pub fault : ContentsFault contents e
   pub none : (p : Source) → length contents ≤ most_source → Reads contents p → ⊥
+
+-- the program in numbers is the one that this small source means
+pub record IsNumbersOf (n : SmallProgram) (p : Source) : Type 0 where
+  pub small : IsSmall p
+  pub means : resolved_of n ≡ resolved p

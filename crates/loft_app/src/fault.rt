@@ -1,11 +1,17 @@
 //! The line of a fault.
 
-ghost use Rattle.std.specs.Prelude.{◌≡◌, [], ◌∷◌, ◌++◌, IfOk, string_bytes};
-ghost use Rattle.loft_app.specs.Refusals.{lexical_line, fault_line};
+ghost use Rattle.std.specs.Prelude.{◌≡◌, [], ◌∷◌, ◌++◌, IfOk, IsErr, string_bytes};
+ghost use Rattle.std.specs.Fmt.{decimal};
+ghost use Rattle.loft_app.specs.Refusals.{lexical_line, fault_line, name_line, place_text, two_places, place_line};
+ghost use Rattle.loft_app.specs.Unfit.{unfit_line};
 
+use crate::unfit::Unfit;
 use loft_base::NoMemory;
 use loft_lex::LexError;
+use loft_names::NameError;
 use loft_parse::ParseError;
+use loft_place::PlaceError;
+use loft_tree::{Names, Place};
 use std::alloc::Global;
 
 /// The line of a lexical fault, with its line feed. `NoMemory` where there is no memory for it, or the fault is want of
@@ -39,4 +45,135 @@ pub fn fault_line(alloc: Global, fault: &ParseError) -> Result<String, NoMemory>
         ParseError::NoMemory => return Err(NoMemory),
     };
     Ok(line?)
+}
+
+/// A line of two places in the text, each behind its words, with its line feed.
+fn two_numbers(
+    alloc: Global,
+    what: &str,
+    at: u32,
+    between: &str,
+    first: u32,
+) -> Result<String, NoMemory>
+    ensures { IfOk result (λ line. string_bytes line
+        ≡ (what.now ++ (decimal at ++ (between.now ++ decimal first))) ++ 10 ∷ []) }
+{
+    Ok(format!(in alloc; "{what}{at}{between}{first}\n")?)
+}
+
+/// The line of a fault of names and kinds, with its line feed. `NoMemory` where there is no memory for it, or the fault
+/// is want of memory.
+fn name_line(alloc: Global, fault: &NameError) -> Result<String, NoMemory>
+    ensures { IfOk result (λ line. string_bytes line ≡ name_line fault.now ++ 10 ∷ []) }
+{
+    let line = match fault {
+        NameError::NoScheduler => String::from_str(alloc, "source: no scheduler\n"),
+        NameError::Unknown(at) => format!(in alloc; "source: unknown name at {at}\n"),
+        NameError::Twice { at, first } => {
+            return two_numbers(
+                alloc,
+                "source: name at ",
+                *at,
+                " declared twice, first at ",
+                *first,
+            );
+        }
+        NameError::Arity(at) => format!(in alloc; "source: arity at {at}\n"),
+        NameError::Kind(at) => format!(in alloc; "source: kind at {at}\n"),
+        NameError::NoMemory => return Err(NoMemory),
+    };
+    Ok(line?)
+}
+
+/// Where a thread is linked: the name of the scheduler with this number, or `unlinked`.
+fn place_text(schedulers: &Names, place: Place) -> &[u8]
+    ensures { result.now ≡ place_text schedulers.now place }
+{
+    match place {
+        Place::Sched(scheduler) => match schedulers.as_slice().get(scheduler.0 as usize) {
+            Some(name) => name.as_slice(),
+            None => b"",
+        },
+        Place::Unlinked => b"unlinked",
+    }
+}
+
+/// A line of a place in the text and two places of threads, each behind its words, with its line feed.
+fn two_places(
+    alloc: Global,
+    schedulers: &Names,
+    what: &str,
+    at: u32,
+    first: (&str, Place),
+    second: (&str, Place),
+) -> Result<Vec<u8>, NoMemory>
+    ensures { IfOk result (λ line. line.items ≡ two_places schedulers.now what.now at
+        first.entry.0.now first.entry.1 second.entry.0.now second.entry.1 ++ 10 ∷ []) }
+{
+    let mut line = format!(in alloc; "{what}{at}")?.into_bytes();
+    line.extend_from_slice(first.0.as_bytes())?;
+    line.extend_from_slice(place_text(schedulers, first.1))?;
+    line.extend_from_slice(second.0.as_bytes())?;
+    line.extend_from_slice(place_text(schedulers, second.1))?;
+    line.push(b'\n')?;
+    Ok(line)
+}
+
+/// The line of a fault of links, with its line feed. `NoMemory` where there is no memory for it, or the fault is want of
+/// memory.
+fn place_line(alloc: Global, schedulers: &Names, fault: &PlaceError) -> Result<Vec<u8>, NoMemory>
+    ensures { IfOk result (λ line. line.items ≡ place_line schedulers.now fault.now ++ 10 ∷ []) }
+{
+    let (what, at, first, second) = match fault {
+        PlaceError::NotHere { at, needs, has } => {
+            (
+                "source: not here at ",
+                at,
+                (", needs ", *needs),
+                (", has ", *has),
+            )
+        }
+        PlaceError::Unlinked(at) => {
+            return Ok(format!(in alloc; "source: unlinked at {at}\n")?.into_bytes());
+        }
+        PlaceError::Branches { at, left, right } => {
+            (
+                "source: branches at ",
+                at,
+                (" end at ", *left),
+                (" and ", *right),
+            )
+        }
+        PlaceError::LoopEnds { at, start, end } => {
+            (
+                "source: loop at ",
+                at,
+                (" begins at ", *start),
+                (", ends at ", *end),
+            )
+        }
+        PlaceError::ModuleEnds { at, declared, end } => {
+            (
+                "source: module at ",
+                at,
+                (" declares ", *declared),
+                (", ends at ", *end),
+            )
+        }
+        PlaceError::NoMemory => return Err(NoMemory),
+    };
+    two_places(alloc, schedulers, what, *at, first, second)
+}
+
+/// The line that says what is wrong with the names or links of a program, with its line feed. `NoMemory` where there is
+/// no memory for it, or for the program.
+pub fn unfit_line(alloc: Global, unfit: &Unfit) -> Result<Vec<u8>, NoMemory>
+    ensures line { IfOk result (λ line. line.items ≡ unfit_line unfit.now ++ 10 ∷ []) }
+    ensures memory { unfit.now ≡ Unfit.NoMemory → IsErr result }
+{
+    match unfit {
+        Unfit::Names(fault) => Ok(name_line(alloc, fault)?.into_bytes()),
+        Unfit::Links { fault, schedulers } => place_line(alloc, schedulers, fault),
+        Unfit::NoMemory => Err(NoMemory),
+    }
 }

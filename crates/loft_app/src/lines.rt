@@ -21,7 +21,8 @@ fn line_end(text: &[u8]) -> usize
 /// Writes a piece of a text.
 fn write_piece<S: Sink>(piece: &[u8], sink: &mut S) -> Result<(), WriteError>
     requires { 0 < length piece.now }
-    ensures { Writes result (S.written sink.old) (S.written sink.new) (S.faults sink.old) (S.faults sink.new) piece.now }
+    ensures { Writes result (S.written sink.old) (S.written sink.new)
+        (S.faults sink.old) (S.faults sink.new) piece.now }
 {
     sink.put(piece)?;
     Ok(())
@@ -30,7 +31,8 @@ fn write_piece<S: Sink>(piece: &[u8], sink: &mut S) -> Result<(), WriteError>
 /// Writes a text, each line with its line feed as a piece of its own. `Sink` comes where the sink failed, and its count
 /// of faults rose; a prefix of the text was then written.
 pub fn write_lines<S: Sink>(text: &[u8], sink: &mut S) -> Result<(), WriteError>
-    ensures { Writes result (S.written sink.old) (S.written sink.new) (S.faults sink.old) (S.faults sink.new) text.now }
+    ensures { Writes result (S.written sink.old) (S.written sink.new)
+        (S.faults sink.old) (S.faults sink.new) text.now }
 {
     let mut rest = text;
     'lines: while !rest.is_empty() {

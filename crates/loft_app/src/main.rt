@@ -8,6 +8,7 @@ mod number;
 mod source;
 #[cfg(test)]
 mod tests;
+mod unfit;
 mod words;
 
 use app::{Status, loft_main};

@@ -1,11 +1,12 @@
 //! The program that a small source means: numbers in text order in place of names.
 
-ghost use Rattle.std.specs.Prelude.{◌≡◌, ◌<◌, ◌^◌, length, map, All, IfOk};
+ghost use Rattle.std.specs.Prelude.{◌≡◌, ◌<◌, ◌^◌, length, map, All, IfOk, MatchOption};
 ghost use Rattle.loft_tree.specs.Source.{Source};
 ghost use Rattle.loft_tree.specs.View.{source_of, place_name_of, head_of, statements_of};
 ghost use Rattle.loft_tree.specs.Small.{IsSmall, schedulers as schedulers_of, modules as modules_of};
 ghost use Rattle.loft_tree.specs.SmallView.{resolved_of, steps_of, module_of};
 ghost use Rattle.loft_tree.specs.Numbering.{number_of, place_number, signature_of, signatures_in, starts_in, numbered, bodies_in, heads_of, resolved};
+ghost use Rattle.loft_app.specs.Reading.{IsNumbersOf};
 ghost use Rattle.loft_sense.specs.Machine.{Tree};
 ghost use Rattle.loft_sense.specs.Fits.{Fits};
 ghost use Rattle.loft_sense.specs.History.{starts_of};
@@ -18,7 +19,7 @@ use loft_tree::{
 use std::alloc::Global;
 
 /// The names of the schedulers, in text order.
-fn scheduler_names(alloc: Global, items: &[Item]) -> Result<Names, NoMemory>
+pub fn scheduler_names(alloc: Global, items: &[Item]) -> Result<Names, NoMemory>
     ensures { IfOk result (λ names. names ≡ schedulers_of (source_of items.now)) }
 {
     let mut names = Sequence::new(alloc);
@@ -63,7 +64,8 @@ fn number_of(name: &Ident, names: &Names) -> u32
 /// Where a thread is linked, by the scheduler's number.
 fn place(schedulers: &Names, name: &PlaceName) -> Place
     requires { length schedulers.now < 2 ^ 32 }
-    ensures { (p : Source) → schedulers.now ≡ schedulers_of p → result ≡ place_number p (place_name_of name.now) }
+    ensures { (p : Source) → schedulers.now ≡ schedulers_of p
+        → result ≡ place_number p (place_name_of name.now) }
 {
     match name {
         PlaceName::Scheduler(scheduler) => Place::Sched(SchedId(number_of(scheduler, schedulers))),
@@ -74,7 +76,8 @@ fn place(schedulers: &Names, name: &PlaceName) -> Place
 /// The name of a module, and the schedulers where its threads begin and end.
 fn signature(alloc: Global, schedulers: &Names, head: &ModuleHead) -> Result<Signature, NoMemory>
     requires { length schedulers.now < 2 ^ 32 }
-    ensures { IfOk result (λ signature. (p : Source) → schedulers.now ≡ schedulers_of p → signature ≡ signature_of p (head_of head.now)) }
+    ensures { IfOk result (λ signature. (p : Source) → schedulers.now ≡ schedulers_of p
+        → signature ≡ signature_of p (head_of head.now)) }
 {
     let end = match &head.end {
         Some(end) => place(schedulers, end),
@@ -96,7 +99,8 @@ fn signatures(
     items: &[Item],
 ) -> Result<Sequence<Signature>, NoMemory>
     requires { length schedulers.now < 2 ^ 32 }
-    ensures { IfOk result (λ signatures. (p : Source) → schedulers.now ≡ schedulers_of p → signatures ≡ signatures_in p (source_of items.now)) }
+    ensures { IfOk result (λ signatures. (p : Source) → schedulers.now ≡ schedulers_of p
+        → signatures ≡ signatures_in p (source_of items.now)) }
 {
     let mut signatures = Sequence::new(alloc);
     for item in items {
@@ -117,7 +121,8 @@ fn starts(
 ) -> Result<Sequence<Start>, NoMemory>
     requires schedulers { length schedulers.now < 2 ^ 32 }
     requires modules { length modules.now < 2 ^ 32 }
-    ensures { IfOk result (λ starts. (p : Source) → schedulers.now ≡ schedulers_of p → modules.now ≡ modules_of p → starts ≡ starts_in p (source_of items.now)) }
+    ensures { IfOk result (λ starts. (p : Source) → schedulers.now ≡ schedulers_of p
+        → modules.now ≡ modules_of p → starts ≡ starts_in p (source_of items.now)) }
 {
     let mut starts = Sequence::new(alloc);
     for item in items {
@@ -206,6 +211,18 @@ pub fn number(alloc: Global, program: &Program) -> Result<SmallProgram, NoMemory
         heads,
         modules: bodies(alloc, items)?,
     })
+}
+
+/// The numbers of a program, where it is small. `NoMemory` where there is no memory for them.
+pub fn number_if_small(alloc: Global, program: &Program) -> Result<Option<SmallProgram>, NoMemory>
+    ensures { IfOk result (λ small. MatchOption small (IsSmall (source_of program.now) → ⊥)
+        (λ named. IsNumbersOf named (source_of program.now))) }
+{
+    if program.is_small() {
+        Ok(Some(number(alloc, program)?))
+    } else {
+        Ok(None)
+    }
 }
 
 /// The law that the run of a small program rests on: it has one scheduler, whose number is 0, and

@@ -40,16 +40,23 @@ fn answer<R: Threads + Wait + Sync + AllocGlobal>(
 /// Words that are no command.
 #[test]
 fn refuses_words(rt: HostRuntime) -> Result<(), Fail> {
-    let cases: [&[&str]; 9] = [
+    let cases: [&[&str]; 16] = [
         &[],
+        &[""],
+        &["--help"],
         &["run"],
         &["run", ""],
         &["run", "-"],
-        &["--help"],
+        &["run", "-a"],
+        &["run", "--"],
         &["run", "a", "a"],
-        &["check", "a"],
+        &["run", "-a", "--"],
+        &["run", "--", "--", "a"],
+        &["run", "--", "-"],
+        &["--", "run", "a"],
+        &["Run", "a"],
+        &["check", "a", "--instants", "1"],
         &["show"],
-        &["show", "-a"],
     ];
     for asked in cases {
         let (status, text) = answer(&rt, asked, b"scheduler A;")?;
@@ -59,26 +66,100 @@ fn refuses_words(rt: HostRuntime) -> Result<(), Fail> {
     Ok(())
 }
 
-/// Programs that aren't small.
+/// Words that are a command: files' names before and behind `--`. Only `a` is there.
+#[test]
+fn takes_words(rt: HostRuntime) -> Result<(), Fail> {
+    let cases: [(&[&str], u8); 7] = [
+        (&["check", "a"], 0),
+        (&["check", "--", "a"], 0),
+        (&["check", "a", "--"], 0),
+        (&["check", "b"], 5),
+        (&["check", "--", "-a"], 5),
+        (&["check", "--", "--"], 5),
+        (&["show", "--", "a"], 0),
+    ];
+    for (asked, want) in cases {
+        let (status, _) = answer(&rt, asked, b"scheduler A;")?;
+        assert_eq!(rt; status, want, "of {asked:?}");
+    }
+    Ok(())
+}
+
+/// Programs that are well, but aren't small.
 #[test]
 fn runs_small_programs_only(rt: HostRuntime) -> Result<(), Fail> {
-    let cases: [&[u8]; 11] = [
-        b"",
-        b"// nothing",
+    let cases: [&[u8]; 7] = [
         b"scheduler A; scheduler B;",
         b"event e in A; scheduler A;",
         b"scheduler A; module m(int x) in A end",
         b"scheduler A; module m() in A local int x; end",
-        b"scheduler A; module m() in A to unlinked end",
+        b"scheduler A; module m() in A to unlinked unlink; end",
         b"scheduler A; module m() in A print 1; end",
         b"scheduler A; module m() in A cooperate 2; end",
-        b"scheduler A; module A() in A end",
-        b"scheduler A; start A.m();",
     ];
     for contents in cases {
         let (status, text) = answer(&rt, &["run", "a"], contents)?;
         assert_eq!(rt; status, 3, "of {contents:?}");
         assert_eq!(rt; text.as_slice(), b"source: not built\n".as_slice());
+        let (status, text) = answer(&rt, &["check", "a"], contents)?;
+        assert_eq!(rt; status, 0, "of {contents:?}");
+        assert_eq!(rt; text.as_slice(), b"ok\n".as_slice());
+    }
+    Ok(())
+}
+
+/// Programs that aren't well, and what is wrong with them.
+const UNFIT: [(&[u8], &[u8]); 10] = [
+    (b"event e in Z;", b"source: no scheduler\n"),
+    (
+        b"scheduler A;event e in Z;",
+        b"source: unknown name at 23\n",
+    ),
+    (
+        b"scheduler A;scheduler A;",
+        b"source: name at 22 declared twice, first at 10\n",
+    ),
+    (
+        b"scheduler A;module m(int a) in A end start A.m();",
+        b"source: arity at 45\n",
+    ),
+    (
+        b"scheduler A;event e in A;module m() in A print e + 1; end",
+        b"source: kind at 47\n",
+    ),
+    (
+        b"scheduler A;module n() in unlinked to A link A; end module m() in A create A.n(); end",
+        b"source: not here at 75, needs unlinked, has A\n",
+    ),
+    (
+        b"scheduler A;module m() in A to unlinked unlink; print 1; end",
+        b"source: unlinked at 48\n",
+    ),
+    (
+        b"scheduler A;scheduler B;module m() in A if (1) then link B; end end",
+        b"source: branches at 40 end at B and A\n",
+    ),
+    (
+        b"scheduler A;scheduler B;module m() in A repeat (2) do link B; end end",
+        b"source: loop at 40 begins at A, ends at B\n",
+    ),
+    (
+        b"scheduler A;module m() in unlinked link A; end start A.m();",
+        b"source: module at 19 declares unlinked, ends at A\n",
+    ),
+];
+
+/// `check` and `run` tell what is wrong with names and links; `show` shows such a program.
+#[test]
+fn tells_what_is_unfit(rt: HostRuntime) -> Result<(), Fail> {
+    for (contents, line) in UNFIT {
+        for command in ["check", "run"] {
+            let (status, text) = answer(&rt, &[command, "a"], contents)?;
+            assert_eq!(rt; status, 3, "of {contents:?}");
+            assert_eq!(rt; text.as_slice(), line);
+        }
+        let (status, _) = answer(&rt, &["show", "a"], contents)?;
+        assert_eq!(rt; status, 0, "of {contents:?}");
     }
     Ok(())
 }
@@ -107,10 +188,10 @@ const FAULTS: [(&[u8], &[u8]); 8] = [
     ),
 ];
 
-/// Both commands tell the fault of a text.
+/// Each command tells the fault of a text.
 #[test]
 fn tells_faults(rt: HostRuntime) -> Result<(), Fail> {
-    for command in ["show", "run"] {
+    for command in ["show", "check", "run"] {
         for (contents, line) in FAULTS {
             let (status, text) = answer(&rt, &[command, "a"], contents)?;
             assert_eq!(rt; status, 3, "of {contents:?}");
@@ -125,7 +206,7 @@ fn tells_faults(rt: HostRuntime) -> Result<(), Fail> {
 fn refuses_a_long_source(rt: HostRuntime) -> Result<(), Fail> {
     let mut contents = Vec::from_slice(rt.alloc(), b"a//")?;
     contents.resize(4_194_307, b'x')?;
-    for command in ["show", "run"] {
+    for command in ["show", "check", "run"] {
         let (status, text) = answer(&rt, &[command, "a"], contents.as_slice())?;
         assert_eq!(rt; status, 3);
         assert_eq!(rt; text.as_slice(), b"source: too long\n".as_slice());

@@ -1,7 +1,8 @@
 //! The words behind the program's name.
 
-ghost use Rattle.std.specs.Prelude.{◌≡◌};
-ghost use Rattle.loft_app.specs.Command.{command, named, words_of, file_of, is_file_name};
+ghost use Rattle.std.specs.Prelude.{◌≡◌, [], ◌∷◌, None, if◌then◌else◌};
+ghost use Rattle.std.specs.Option.{option_copied};
+ghost use Rattle.loft_app.specs.Command.{command, named, words_of, file_of, file_in, is_file_name, is_option, only_file};
 ghost use Rattle.loft_app.specs.Asked.{meant, command_of};
 
 /// What the words ask for.
@@ -11,6 +12,8 @@ pub enum Asked<'a> {
     Run(&'a str),
     /// To show the source in this file in its canonical text.
     Show(&'a str),
+    /// To check the source in this file.
+    Check(&'a str),
 }
 
 impl<'a> Asked<'a> {
@@ -19,18 +22,63 @@ impl<'a> Asked<'a> {
         ensures { result.now ≡ file_of (command_of self.entry) }
     {
         match self {
-            Asked::Run(file) | Asked::Show(file) => file,
+            Asked::Run(file) | Asked::Show(file) | Asked::Check(file) => file,
         }
     }
 }
 
-/// Whether a word can be a file's name: it isn't empty and doesn't begin with `-`.
+/// Whether a word begins as an option does.
+fn is_option(word: &str) -> bool
+    ensures { result ≡ is_option word.now }
+{
+    match word.as_bytes() {
+        [] => false,
+        [first, ..] => *first == b'-',
+    }
+}
+
+/// Whether a word can be a file's name: it isn't empty, and isn't `-`.
 fn is_file(word: &str) -> bool
     ensures { result ≡ is_file_name word.now }
 {
     match word.as_bytes() {
         [] => false,
-        [first, ..] => *first != b'-',
+        [only] => *only != b'-',
+        [_, _, ..] => true,
+    }
+}
+
+/// The word behind `--`, where it can be a file's name.
+fn behind(word: &str) -> Option<&str>
+    ensures { option_copied result ≡ only_file (word.now ∷ []) }
+{
+    if is_file(word) { Some(word) } else { None }
+}
+
+/// The word before `--`, where it is no option and can be a file's name.
+fn before(word: &str) -> Option<&str>
+    ensures { option_copied result ≡ (if is_option word.now then None else only_file (word.now ∷ [])) }
+{
+    if is_option(word) { None } else { behind(word) }
+}
+
+/// The only file that the words name, of which `--` may be one: what stands behind it is no option.
+fn file_in(words: &[String]) -> Option<&str>
+    ensures { option_copied result ≡ file_in (words_of words.now) }
+{
+    match words {
+        [] => None,
+        [file] => before(file.as_str()),
+        [first, second] => {
+            if first.as_str() == "--" {
+                behind(second.as_str())
+            } else if second.as_str() == "--" {
+                before(first.as_str())
+            } else {
+                None
+            }
+        }
+        [_, _, _, ..] => None,
     }
 }
 
@@ -42,23 +90,19 @@ fn with_file<'a>(word: &str, file: &'a str) -> Option<Asked<'a>>
         Some(Asked::Run(file))
     } else if word == "show" {
         Some(Asked::Show(file))
+    } else if word == "check" {
+        Some(Asked::Check(file))
     } else {
         None
     }
 }
 
-/// What the words ask for: `run` or `show` and the name of a file. All other words are refused.
+/// What the words ask for: `run`, `show` or `check` and the name of a file. All other words are refused.
 pub fn command(words: &[String]) -> Option<Asked<'_>>
     ensures { meant result ≡ command (words_of words.now) }
 {
-    match words {
-        [word, file] => {
-            if is_file(file.as_str()) {
-                with_file(word.as_str(), file.as_str())
-            } else {
-                None
-            }
-        }
-        _ => None,
-    }
+    let [word, rest @ ..] = words else {
+        return None;
+    };
+    with_file(word.as_str(), file_in(rest)?)
 }
