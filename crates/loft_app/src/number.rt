@@ -256,6 +256,7 @@ mod tests {
         let text =
             b"start A.two(); scheduler A; module one() in A print \"a\"; cooperate; cooperate; end start A.one(); module two() in A cooperate; end";
         let program = parse(rt.alloc(), text.as_slice()).expect(&rt, "a program");
+        assert!(rt; program.is_small());
         let named = number(rt.alloc(), &program)?;
         let schedulers = named.heads.schedulers.as_slice();
         assert_eq!(rt; schedulers.len(), 1);
