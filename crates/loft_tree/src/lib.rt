@@ -5,6 +5,7 @@ mod expression;
 mod heads;
 mod ident;
 mod kinds;
+pub mod limits;
 mod named;
 mod program;
 mod small;
