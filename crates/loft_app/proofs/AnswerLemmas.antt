@@ -1,284 +1,105 @@
 -- From what a command did to what it promises of its answer.
-use Rattle.std.proofs.Common.{◌≡◌, ℕ, ◌≤◌, ◌⊎◌, inl, inr, List, [], ◌∷◌, ◌++◌, length, refl, sym, ap, subst, Option, Some, Result, Ok, Err, codes}
-use Rattle.std.specs.Prelude.{OnOk, OnErr}
-use Rattle.loft_base.specs.Outside.{appended, GrowsByPrefix}
+use Rattle.std.proofs.Common.{◌≡◌, ℕ, ◌⊎◌, inl, inr, List, [], ◌∷◌, ◌++◌, refl, sym, ◌∙◌, subst, Option, Some, Ok, Err, codes}
+use Rattle.loft_base.specs.Outside.{appended, GrowsByPrefix, Rose}
 use Rattle.loft_tree.specs.Source.{Source}
-use Rattle.loft_tree.specs.Small.{IsSmall}
-use Rattle.loft_tree.specs.Resolved.{Resolved}
-use Rattle.loft_tree.specs.declared.small_program.SmallProgram.{SmallProgram}
-use Rattle.loft_tree.specs.SmallView.{resolved_of}
-use Rattle.loft_names.specs.declared.error.NameError.{NameError}
-use Rattle.loft_names.specs.Faults.{NameFault, NamesFit}
-use Rattle.loft_names.specs.Numbers.{numbered}
-use Rattle.loft_place.specs.declared.error.PlaceError.{PlaceError}
-use Rattle.loft_place.specs.Goes.{PlaceFault}
-use Rattle.loft_parse.specs.declared.error.ParseError.{ParseError}
-use Rattle.loft_parse.specs.Source.{Reads}
-use Rattle.loft_show.specs.Canon.{Canon}
-use Rattle.loft_sense.specs.Machine.{Tree}
-use Rattle.loft_log.specs.declared.report.WriteError.{WriteError}
-use Rattle.loft_log.specs.declared.report.WriteError.TheVariants as write
-use Rattle.loft_app.specs.declared.app.Status.{Status}
-use Rattle.loft_app.specs.declared.app.Status.TheVariants as status
-use Rattle.loft_app.specs.Command.{Command, Run, Show, Check}
-use Rattle.loft_app.specs.Written.{Appends, IsLine, IsFirstPart}
-use Rattle.loft_app.specs.Refusals.{most_source, ContentsFault, fault_line, name_line, place_line, scheduler_names, Well, IsTextOf, IsMisnamed, IsMisplaced, Refuses, IsRefusal, Takes}
-use Rattle.loft_app.specs.Reading.{IsProgramOf, IsFaultOf, IsNumbersOf}
-use Rattle.loft_app.specs.declared.unfit.Unfit.{Unfit}
-use Rattle.loft_app.specs.declared.unfit.Unfit.TheVariants as unfit
-use Rattle.loft_app.specs.Unfit.{IsUnfit, unfit_line}
-use Rattle.loft_app.specs.Promise.{default_options, IsReport, IsRunOf, IsCanonOf, IsCheckOf}
-use Rattle.loft_app.specs.Endings.{status_of, IsRefused, IsAccepted}
-use Rattle.loft_app.specs.Answer.{IsText, Answers}
-use Rattle.loft_app.proofs.FitLemmas.{names_fit, links_fit}
-use Rattle.loft_app.proofs.PromiseLemmas.{appends, begun, not_begun, part_of}
+use Rattle.loft_app.specs.declared.status.Status.{Status}
+use Rattle.loft_app.specs.declared.status.Status.TheVariants as status
+use Rattle.loft_app.specs.declared.refusal.Refusal.{Refusal}
+use Rattle.loft_app.specs.declared.refusal.Stopped.TheVariants as stopped
+use Rattle.loft_app.specs.Command.{Command}
+use Rattle.loft_app.specs.Written.{Appends, IsLine, IsPrefix}
+use Rattle.loft_app.specs.Refusals.{line_of, IsRefusal}
+use Rattle.loft_app.specs.Promise.{IsAnswer}
+use Rattle.loft_app.specs.Status.{IsRefused, IsAccepted}
+use Rattle.loft_app.specs.Answer.{Attempts, IsText, Answers}
+use Rattle.loft_app.proofs.Deciding.{Decided, taken_not_refused}
+use Rattle.loft_app.proofs.Written.{appends, begun, not_begun, part_of}
 
--- the sink fails, or no memory is left
-gives_up : (c : Command) (told : Option (List ℕ)) (end : Status) (old new : Option (List ℕ)) → end ≡ status.SinkFault ⊎ end ≡ status.NoMemory
-    → ((contents : List ℕ) → told ≡ Some contents → Appends old new (IsFirstPart (IsText c contents)))
-    → Answers c told end old new
-gives_up c told end old new is part = record {
-  done = λ contents t d. absurd (elim is [ inl e ↦ cc | inr e ↦ cc ]);
-  source = λ contents t d. absurd (elim is [ inl e ↦ cc | inr e ↦ cc ]);
-  refused = λ contents line t r. elim is [ inl e ↦ subst IsRefused (sym e) tt | inr e ↦ subst IsRefused (sym e) tt ];
-  accepted = λ contents p t l r k. elim is [ inl e ↦ subst IsAccepted (sym e) tt | inr e ↦ subst IsAccepted (sym e) tt ];
-  first_part = λ contents t d. part contents t;
-  file_line = λ d. absurd (elim is [ inl e ↦ cc | inr e ↦ cc ]);
-  never_usage = λ d. elim is [ inl e ↦ cc | inr e ↦ cc ];
-  never_log = λ d. elim is [ inl e ↦ cc | inr e ↦ cc ];
+-- the answer is whole
+pub done_answers : {c : Command} {known old new : Option (List ℕ)} (before after : ℕ) → Decided → Attempts c known (Ok tt) old new → Answers c known status.Done old new before after
+done_answers {c = c} before after d a = record {
+  done = λ contents k e. a.written contents k refl;
+  source = λ contents k e. absurd cc;
+  refused = λ contents line k (r, asks, cause, is).
+      let (p, text, takes) = a.takes contents k refl in absurd (taken_not_refused d c contents p r text takes asks cause);
+  accepted = λ contents p k text takes. tt;
+  prefix = λ contents k e. absurd (elim e [ inl f ↦ cc | inr f ↦ cc ]);
+  file_line = λ e. absurd cc;
+  never_usage = λ e. cc;
+  never_log = λ e. cc;
 }
 
--- the line of a file's fault is written, or the sink fails
-pub tells_file_fault : (c : Command) (told : Option (List ℕ)) (end : Status) (old new : Option (List ℕ)) → end ≡ status.FileFault ⊎ end ≡ status.SinkFault
-    → (end ≡ status.FileFault → new ≡ appended old (codes "files: fault" ++ 10 ∷ []))
-    → (end ≡ status.SinkFault → GrowsByPrefix old new (codes "files: fault" ++ 10 ∷ []))
-    → Answers c told end old new
-tells_file_fault c told end old new (inl e) grew cut = record {
-  done = λ contents t d. absurd cc;
-  source = λ contents t d. absurd cc;
-  refused = λ contents line t r. subst IsRefused (sym e) tt;
-  accepted = λ contents p t l r k. subst IsAccepted (sym e) tt;
-  first_part = λ contents t d. absurd (elim d [ inl f ↦ cc | inr f ↦ cc ]);
-  file_line = λ d. appends {P = IsLine (codes "files: fault")} (codes "files: fault" ++ 10 ∷ []) (grew e) refl;
-  never_usage = λ d. cc;
-  never_log = λ d. cc;
-}
-tells_file_fault c told end old new (inr e) grew cut =
-    gives_up c told end old new (inl e) (λ contents t. begun (IsText c contents) (codes "files: fault" ++ 10 ∷ []) (cut e) (inr (inr refl)))
-
--- the contents are refused by this line
-refuses : (c : Command) (told : Option (List ℕ)) (end : Status) (old new : Option (List ℕ)) (line : List ℕ)
-    → end ≡ status.Source → new ≡ appended old (line ++ 10 ∷ [])
-    → ((contents : List ℕ) → told ≡ Some contents → Refuses c contents line)
-    → ((contents : List ℕ) (p : Source) → told ≡ Some contents → length contents ≤ most_source → Reads contents p → Takes c p → ⊥)
-    → Answers c told end old new
-refuses c told end old new line e grew refused not_taken = record {
-  done = λ contents t d. absurd cc;
-  source = λ contents t d. appends {P = IsRefusal c contents} (line ++ 10 ∷ []) grew (line, refused contents t, refl);
-  refused = λ contents line t r. subst IsRefused (sym e) tt;
-  accepted = λ contents p t l r k. absurd (not_taken contents p t l r k);
-  first_part = λ contents t d. absurd (elim d [ inl f ↦ cc | inr f ↦ cc ]);
-  file_line = λ d. absurd cc;
-  never_usage = λ d. cc;
-  never_log = λ d. cc;
+-- the sink fails, or the program is out of memory
+pub cut_answers : (c : Command) (known : Option (List ℕ)) (end : Status) (old new : Option (List ℕ)) (before after : ℕ) → end ≡ status.SinkFault ⊎ end ≡ status.NoMemory
+    → ((contents : List ℕ) → known ≡ Some contents → Appends old new (IsPrefix (IsText c contents before after)))
+    → Answers c known end old new before after
+cut_answers c known end old new before after is part = record {
+  done = λ contents k e. absurd (elim is [ inl f ↦ cc | inr f ↦ cc ]);
+  source = λ contents k e. absurd (elim is [ inl f ↦ cc | inr f ↦ cc ]);
+  refused = λ contents line k r. elim is [ inl f ↦ subst IsRefused (sym f) tt | inr f ↦ subst IsRefused (sym f) tt ];
+  accepted = λ contents p k text takes. elim is [ inl f ↦ subst IsAccepted (sym f) tt | inr f ↦ subst IsAccepted (sym f) tt ];
+  prefix = λ contents k e. part contents k;
+  file_line = λ e. absurd (elim is [ inl f ↦ cc | inr f ↦ cc ]);
+  never_usage = λ e. elim is [ inl f ↦ cc | inr f ↦ cc ];
+  never_log = λ e. elim is [ inl f ↦ cc | inr f ↦ cc ];
 }
 
--- the line of a refusal is written, or the sink fails, or no memory is left
-refuses_line : (c : Command) (told : Option (List ℕ)) (end : Status) (old new : Option (List ℕ)) (line : List ℕ)
-    → ((contents : List ℕ) → told ≡ Some contents → Refuses c contents line)
-    → ((contents : List ℕ) (p : Source) → told ≡ Some contents → length contents ≤ most_source → Reads contents p → Takes c p → ⊥)
+-- what the command wrote breaks off
+pub broken_answers : (c : Command) (known : Option (List ℕ)) (end : Status) (old new : Option (List ℕ)) (before after : ℕ) → end ≡ status.SinkFault ⊎ end ≡ status.NoMemory
+    → ((contents : List ℕ) → known ≡ Some contents → Appends old new (IsPrefix (IsAnswer c contents)))
+    → Answers c known end old new before after
+broken_answers c known end old new before after is part = cut_answers c known end old new before after is
+    (λ contents k. part_of (IsAnswer c contents) (IsText c contents before after) (λ text holds. inl holds) (part contents k))
+
+-- the line of a failed file is written, or the sink fails
+pub file_answers : (c : Command) (known : Option (List ℕ)) (end : Status) (old mid new : Option (List ℕ)) (before after : ℕ)
+    → mid ≡ old → Rose before after → end ≡ status.FileFault ⊎ end ≡ status.SinkFault
+    → (end ≡ status.FileFault → new ≡ appended mid (codes "files: fault" ++ 10 ∷ []))
+    → (end ≡ status.SinkFault → GrowsByPrefix mid new (codes "files: fault" ++ 10 ∷ []))
+    → Answers c known end old new before after
+file_answers c known end old mid new before after same rose (inl e) grew cut = record {
+  done = λ contents k f. absurd cc;
+  source = λ contents k f. absurd cc;
+  refused = λ contents line k r. subst IsRefused (sym e) tt;
+  accepted = λ contents p k text takes. subst IsAccepted (sym e) tt;
+  prefix = λ contents k f. absurd (elim f [ inl g ↦ cc | inr g ↦ cc ]);
+  file_line = λ f. appends {P = IsLine (codes "files: fault")} (codes "files: fault" ++ 10 ∷ []) (subst (λ (o : Option (List ℕ)). new ≡ appended o (codes "files: fault" ++ 10 ∷ [])) same (grew e)) refl;
+  never_usage = λ f. cc;
+  never_log = λ f. cc;
+}
+file_answers c known end old mid new before after same rose (inr e) grew cut =
+    cut_answers c known end old new before after (inl e)
+    (λ contents k. begun (IsText c contents before after) (codes "files: fault" ++ 10 ∷ [])
+    (subst (λ (o : Option (List ℕ)). GrowsByPrefix o new (codes "files: fault" ++ 10 ∷ [])) same (cut e)) (inr (inr (refl, rose))))
+
+-- the line of a refusal is written, or the sink fails, or the program is out of memory
+pub refused_answers : {c : Command} {known old mid : Option (List ℕ)} {r : Refusal} (end : Status) (new : Option (List ℕ)) (before after : ℕ)
+    → Decided → Attempts c known (Err (stopped.Refused r)) old mid
     → end ≡ status.Source ⊎ (end ≡ status.SinkFault ⊎ end ≡ status.NoMemory)
-    → (end ≡ status.Source → new ≡ appended old (line ++ 10 ∷ []))
-    → (end ≡ status.SinkFault → GrowsByPrefix old new (line ++ 10 ∷ []))
-    → (end ≡ status.NoMemory → new ≡ old)
-    → Answers c told end old new
-refuses_line c told end old new line refused not_taken (inl is) grew cut same = refuses c told end old new line is (grew is) refused not_taken
-refuses_line c told end old new line refused not_taken (inr (inl is)) grew cut same =
-    gives_up c told end old new (inl is) (λ contents t. begun (IsText c contents) (line ++ 10 ∷ []) (cut is) (inr (inl (line, refused contents t, refl))))
-refuses_line c told end old new line refused not_taken (inr (inr is)) grew cut same =
-    gives_up c told end old new (inr is) (λ contents t. not_begun (IsText c contents) (same is))
-
--- each command refuses contents that have a fault
-faulty : (c : Command) (contents : List ℕ) (e : ParseError) → ContentsFault contents e → Refuses c contents (fault_line e)
-faulty (Run file) contents e fault = inl (e, fault, refl)
-faulty (Show file) contents e fault = (e, fault, refl)
-faulty (Check file) contents e fault = inl (e, fault, refl)
-
--- the line of a fault is written, or the sink fails, or no memory is left
-pub refuses_fault : (c : Command) (told : Option (List ℕ)) (end : Status) (old new : Option (List ℕ)) (e : ParseError)
-    → ((contents : List ℕ) → told ≡ Some contents → IsFaultOf contents e)
-    → end ≡ status.Source ⊎ (end ≡ status.SinkFault ⊎ end ≡ status.NoMemory)
-    → (end ≡ status.Source → new ≡ appended old (fault_line e ++ 10 ∷ []))
-    → (end ≡ status.SinkFault → GrowsByPrefix old new (fault_line e ++ 10 ∷ []))
-    → (end ≡ status.NoMemory → new ≡ old)
-    → Answers c told end old new
-refuses_fault c told end old new e has = refuses_line c told end old new (fault_line e)
-    (λ contents t. faulty c contents e (has contents t).fault) (λ contents p t l r k. (has contents t).none p l r)
-
--- ---- names and links
-
--- the command asks for them
-abbrev pub Asks : Command → Type 0
-Asks (Run file) = Unit {0}
-Asks (Show file) = ⊥
-Asks (Check file) = Unit {0}
-
-text_of_program : (contents : List ℕ) (p : Source) → IsProgramOf contents p → IsTextOf contents p
-text_of_program contents p is = record { short = is.short; reads = is.reads }
-
-misnamed : (c : Command) (contents line : List ℕ) → Asks c → IsMisnamed contents line → Refuses c contents line
-misnamed (Run file) contents line asks is = inr (inl is)
-misnamed (Show file) contents line asks is = absurd asks
-misnamed (Check file) contents line asks is = inr (inl is)
-
-misplaced : (c : Command) (contents line : List ℕ) → Asks c → IsMisplaced contents line → Refuses c contents line
-misplaced (Run file) contents line asks is = inr (inr (inl is))
-misplaced (Show file) contents line asks is = absurd asks
-misplaced (Check file) contents line asks is = inr (inr is)
-
--- what such a command takes is well
-taken_well : (c : Command) (p : Source) → Asks c → Takes c p → Well p
-taken_well (Run file) p asks taken = taken.0
-taken_well (Show file) p asks taken = absurd asks
-taken_well (Check file) p asks taken = taken
-
--- the program of the contents isn't well, so they are none that is taken
-not_well : (c : Command) (contents : List ℕ) (p : Source) → Asks c → IsProgramOf contents p → (Well p → ⊥)
-    → (q : Source) → Reads contents q → Takes c q → ⊥
-not_well c contents p asks is ill q reads taken = ill (subst Well (sym (is.only q reads)) (taken_well c q asks taken))
-
--- the line of what is wrong with names or links is written, or the sink fails, or no memory is left
-pub refuses_unfit : (c : Command) (told : Option (List ℕ)) (end : Status) (old new : Option (List ℕ)) (p : Source) (u : Unfit) → Asks c
-    → ((contents : List ℕ) → told ≡ Some contents → IsProgramOf contents p) → IsUnfit p u
-    → end ≡ status.Source ⊎ (end ≡ status.SinkFault ⊎ end ≡ status.NoMemory)
-    → (end ≡ status.Source → new ≡ appended old (unfit_line u ++ 10 ∷ []))
-    → (end ≡ status.SinkFault → GrowsByPrefix old new (unfit_line u ++ 10 ∷ []))
-    → (end ≡ status.NoMemory → new ≡ old)
-    → (u ≡ unfit.NoMemory → end ≡ status.NoMemory)
-    → Answers c told end old new
-refuses_unfit c told end old new p (unfit.Names e) asks is fault ends grew cut same memory = refuses_line c told end old new (name_line e)
-    (λ contents t. misnamed c contents (name_line e) asks (p, text_of_program contents p (is contents t), e, fault, refl))
-    (λ contents q t l r. not_well c contents p asks (is contents t) (λ well. names_fit p e well.names fault) q r) ends grew cut same
-refuses_unfit c told end old new p (unfit.Links e names) asks is fault ends grew cut same memory = refuses_line c told end old new (place_line names e)
-    (λ contents t. misplaced c contents (place_line names e) asks
-    (p, text_of_program contents p (is contents t), fault.0, e, fault.1, ap (λ (ns : List (List ℕ)). place_line ns e) fault.2))
-    (λ contents q t l r. not_well c contents p asks (is contents t) (λ well. links_fit p e well fault.1) q r) ends grew cut same
-refuses_unfit c told end old new p unfit.NoMemory asks is fault ends grew cut same memory =
-    gives_up c told end old new (inr (memory refl)) (λ contents t. not_begun (IsText c contents) (same (memory refl)))
-
--- a program of other contents that isn't well
-fits_all : (contents line : List ℕ) (p : Source) → IsProgramOf contents p → Well p → IsMisnamed contents line ⊎ IsMisplaced contents line → ⊥
-fits_all contents line p is well (inl (q, are, e, fault, same)) = names_fit q e (subst Well (is.only q are.reads) well).names fault
-fits_all contents line p is well (inr (q, are, names, e, fault, same)) = links_fit q e (subst Well (is.only q are.reads) well) fault
-
--- ---- a program that isn't small
-
-not_built : (file contents : List ℕ) (p : Source) → IsProgramOf contents p → Well p → (IsSmall p → ⊥) → Refuses (Run file) contents (codes "source: not built")
-not_built file contents p is well large = inr (inr (inr (p, text_of_program contents p is, well, large, refl)))
-
-pub refuses_to_run : (file : List ℕ) (told : Option (List ℕ)) (end : Status) (old new : Option (List ℕ)) (p : Source)
-    → ((contents : List ℕ) → told ≡ Some contents → IsProgramOf contents p) → Well p → (IsSmall p → ⊥)
-    → end ≡ status.Source ⊎ end ≡ status.SinkFault
-    → (end ≡ status.Source → new ≡ appended old (codes "source: not built" ++ 10 ∷ []))
-    → (end ≡ status.SinkFault → GrowsByPrefix old new (codes "source: not built" ++ 10 ∷ []))
-    → Answers (Run file) told end old new
-refuses_to_run file told end old new p is well large ends grew cut = refuses_line (Run file) told end old new (codes "source: not built")
-    (λ contents t. not_built file contents p (is contents t) well large)
-    (λ contents q t l r taken. large (subst IsSmall (sym ((is contents t).only q r)) taken.1))
-    (elim ends [ inl e ↦ inl e | inr e ↦ inr (inl e) ]) grew cut (λ none. absurd (elim ends [ inl e ↦ cc | inr e ↦ cc ]))
-
--- nothing refuses a small program that is well
-not_refused : (file contents line : List ℕ) (p : Source) → IsProgramOf contents p → Well p → IsSmall p → Refuses (Run file) contents line → ⊥
-not_refused file contents line p is well small (inl (e, fault, same)) = is.faultless e fault
-not_refused file contents line p is well small (inr (inl ill)) = fits_all contents line p is well (inl ill)
-not_refused file contents line p is well small (inr (inr (inl ill))) = fits_all contents line p is well (inr ill)
-not_refused file contents line p is well small (inr (inr (inr (q, are, good, large, same)))) = large (subst IsSmall (is.only q are.reads) small)
-
--- how the program ends where a text wasn't written whole
-broke_off : (e : WriteError) → status_of (Err e) ≡ status.SinkFault ⊎ status_of (Err e) ≡ status.NoMemory
-broke_off write.Sink = inl refl
-broke_off write.NoMemory = inr refl
-
--- the report of the contents' program is that of a run of the contents
-run_of : (contents : List ℕ) (p : Source) (n : SmallProgram) → IsProgramOf contents p → Well p → IsNumbersOf n p
-    → (text : List ℕ) → IsReport (Tree (resolved_of n)) default_options text → IsRunOf contents text
-run_of contents p n is well numbers text report = record {
-  source = p;
-  reads = is.reads;
-  well = well;
-  small = numbers.small;
-  report_of = subst (λ (r : Resolved). IsReport (Tree r) default_options text) numbers.means report;
-}
-
--- a report was written, or a first part of it
-pub ran : (file : List ℕ) (told : Option (List ℕ)) (w : Result (Unit {0}) WriteError) (old new : Option (List ℕ)) (p : Source) (n : SmallProgram)
-    → ((contents : List ℕ) → told ≡ Some contents → IsProgramOf contents p) → Well p → IsNumbersOf n p
-    → OnOk w (Appends old new (IsReport (Tree (resolved_of n)) default_options))
-    → OnErr w (Appends old new (IsFirstPart (IsReport (Tree (resolved_of n)) default_options)))
-    → Answers (Run file) told (status_of w) old new
-ran file told (Ok u) old new p n is well numbers report part = record {
-  done = λ contents t d written w. let (text, grew, holds) = report written w in (text, grew, run_of contents p n (is contents t) well numbers text holds);
-  source = λ contents t d. absurd cc;
-  refused = λ contents line t r. not_refused file contents line p (is contents t) well numbers.small r;
-  accepted = λ contents q t l r k. tt;
-  first_part = λ contents t d. absurd (elim d [ inl f ↦ cc | inr f ↦ cc ]);
-  file_line = λ d. absurd cc;
-  never_usage = λ d. cc;
-  never_log = λ d. cc;
-}
-ran file told (Err e) old new p n is well numbers report part =
-    gives_up (Run file) told (status_of (Err e)) old new (broke_off e)
-    (λ contents t. part_of (IsReport (Tree (resolved_of n)) default_options) (IsText (Run file) contents)
-    (λ text holds. inl (run_of contents p n (is contents t) well numbers text holds)) part)
-
--- nothing refuses the check of a program that is well
-passes : (file contents line : List ℕ) (p : Source) → IsProgramOf contents p → Well p → Refuses (Check file) contents line → ⊥
-passes file contents line p is well (inl (e, fault, same)) = is.faultless e fault
-passes file contents line p is well (inr ill) = fits_all contents line p is well ill
-
-check_of : (contents : List ℕ) (p : Source) → IsProgramOf contents p → Well p → IsCheckOf contents (codes "ok" ++ 10 ∷ [])
-check_of contents p is well = record { source = p; reads = is.reads; well = well; ok = refl }
-
--- the line of a program that is well was written, or the sink failed
-pub checked : (file : List ℕ) (told : Option (List ℕ)) (end : Status) (old new : Option (List ℕ)) (p : Source)
-    → ((contents : List ℕ) → told ≡ Some contents → IsProgramOf contents p) → Well p
-    → end ≡ status.Done ⊎ end ≡ status.SinkFault
-    → (end ≡ status.Done → new ≡ appended old (codes "ok" ++ 10 ∷ []))
-    → (end ≡ status.SinkFault → GrowsByPrefix old new (codes "ok" ++ 10 ∷ []))
-    → Answers (Check file) told end old new
-checked file told end old new p is well (inl e) grew cut = record {
-  done = λ contents t d. appends {P = IsCheckOf contents} (codes "ok" ++ 10 ∷ []) (grew e) (check_of contents p (is contents t) well);
-  source = λ contents t d. absurd cc;
-  refused = λ contents line t r. absurd (passes file contents line p (is contents t) well r);
-  accepted = λ contents q t l r k. subst IsAccepted (sym e) tt;
-  first_part = λ contents t d. absurd (elim d [ inl f ↦ cc | inr f ↦ cc ]);
-  file_line = λ d. absurd cc;
-  never_usage = λ d. cc;
-  never_log = λ d. cc;
-}
-checked file told end old new p is well (inr e) grew cut =
-    gives_up (Check file) told end old new (inl e)
-    (λ contents t. begun (IsText (Check file) contents) (codes "ok" ++ 10 ∷ []) (cut e) (inl (check_of contents p (is contents t) well)))
-
--- the canonical text of the contents' program is that of the contents
-canon_of : (contents : List ℕ) (p : Source) → IsProgramOf contents p → IsCanonOf contents (Canon p)
-canon_of contents p is = record { source = p; reads = is.reads; canon = refl }
-
--- a canonical text was written, or a first part of it
-pub showed : (file : List ℕ) (told : Option (List ℕ)) (w : Result (Unit {0}) WriteError) (old new : Option (List ℕ)) (p : Source)
-    → ((contents : List ℕ) → told ≡ Some contents → IsProgramOf contents p)
-    → OnOk w (new ≡ appended old (Canon p)) → OnErr w (GrowsByPrefix old new (Canon p))
-    → Answers (Show file) told (status_of w) old new
-showed file told (Ok u) old new p is grew cut = record {
-  done = λ contents t d. appends {P = IsCanonOf contents} (Canon p) grew (canon_of contents p (is contents t));
-  source = λ contents t d. absurd cc;
-  refused = λ contents line t r. (is contents t).faultless r.0 r.1;
-  accepted = λ contents q t l r k. tt;
-  first_part = λ contents t d. absurd (elim d [ inl f ↦ cc | inr f ↦ cc ]);
-  file_line = λ d. absurd cc;
-  never_usage = λ d. cc;
-  never_log = λ d. cc;
-}
-showed file told (Err e) old new p is grew cut =
-    gives_up (Show file) told (status_of (Err e)) old new (broke_off e)
-    (λ contents t. begun (IsText (Show file) contents) (Canon p) cut (inl (canon_of contents p (is contents t))))
+    → (end ≡ status.Source → new ≡ appended mid (line_of r ++ 10 ∷ []))
+    → (end ≡ status.SinkFault → GrowsByPrefix mid new (line_of r ++ 10 ∷ []))
+    → (end ≡ status.NoMemory → new ≡ mid)
+    → Answers c known end old new before after
+refused_answers {c = c} {known = known} {old = old} {mid = mid} {r = r} end new before after d a (inl e) grew cut same =
+    let still : mid ≡ old = a.silent r refl in
+    record {
+      done = λ contents k f. absurd cc;
+      source = λ contents k f. appends {P = IsRefusal c contents} (line_of r ++ 10 ∷ [])
+          (subst (λ (o : Option (List ℕ)). new ≡ appended o (line_of r ++ 10 ∷ [])) still (grew e))
+          (line_of r, (r, (a.refused contents r k refl).0, (a.refused contents r k refl).1, refl), refl);
+      refused = λ contents line k x. subst IsRefused (sym e) tt;
+      accepted = λ contents p k text takes.
+          let (asks, cause) = a.refused contents r k refl in absurd (taken_not_refused d c contents p r text takes asks cause);
+      prefix = λ contents k f. absurd (elim f [ inl g ↦ cc | inr g ↦ cc ]);
+      file_line = λ f. absurd cc;
+      never_usage = λ f. cc;
+      never_log = λ f. cc;
+    }
+refused_answers {c = c} {known = known} {old = old} {mid = mid} {r = r} end new before after d a (inr (inl e)) grew cut same =
+    cut_answers c known end old new before after (inl e)
+    (λ contents k. begun (IsText c contents before after) (line_of r ++ 10 ∷ [])
+    (subst (λ (o : Option (List ℕ)). GrowsByPrefix o new (line_of r ++ 10 ∷ [])) (a.silent r refl) (cut e))
+    (inr (inl (line_of r, (r, (a.refused contents r k refl).0, (a.refused contents r k refl).1, refl), refl))))
+refused_answers {c = c} {known = known} {old = old} {mid = mid} {r = r} end new before after d a (inr (inr e)) grew cut same =
+    cut_answers c known end old new before after (inr e)
+    (λ contents k. not_begun (IsText c contents before after) (same e ∙ a.silent r refl))

@@ -1,6 +1,6 @@
-pub mod NumberLemmas
-pub mod ReadingLemmas
-pub mod PromiseLemmas
+pub mod Written
+pub mod Deciding
 pub mod AnswerLemmas
+pub mod Doing
+pub mod Reported
 pub mod WordLemmas
-pub mod FitLemmas

@@ -1,4 +1,4 @@
--- What the words behind the program's name ask for (docs/REPORT.md, "Words").
+-- What the words after the program's name ask for (docs/COMMANDS.md, "Words").
 use Rattle.std.specs.Prelude.{ℕ, Bool, true, false, not, ◌==◌, List, [], ◌∷◌, map, codes, Option, Some, None, String, string_bytes, if◌then◌else◌, option_and_then}
 use Rattle.std.specs.Option.{option_map}
 use Rattle.std.specs.Str.{bytes_eq}
@@ -28,7 +28,7 @@ abbrev pub is_option : List ℕ → Bool
 is_option [] = false
 is_option (b ∷ bs) = b == 45
 
--- The words that name files: all behind the first `--`, and all before it, where no option is known.
+-- The words that name files: all after the first `--`, and all before it, where no option is known.
 abbrev pub files : List (List ℕ) → Option (List (List ℕ))
 files [] = Some []
 files (word ∷ words) =

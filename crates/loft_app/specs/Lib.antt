@@ -1,9 +1,9 @@
 pub mod Command
-pub mod Asked
+pub mod CommandView
 pub mod Written
 pub mod Refusals
-pub mod Reading
-pub mod Unfit
+pub mod Stops
+pub mod Found
 pub mod Promise
-pub mod Endings
+pub mod Status
 pub mod Answer

@@ -1,26 +1,31 @@
--- Why contents are refused, and the line that says so (docs/REPORT.md, "Statuses and fault lines").
+-- Why contents are refused, and the line that says so (docs/COMMANDS.md, "Fault lines").
 use Rattle.std.specs.Prelude.{◌≡◌, ℕ, ◌<◌, ◌≤◌, ◌⊎◌, List, [], ◌++◌, length, codes, slice_get, unwrap_or}
 use Rattle.std.specs.Fmt.{decimal}
+use Rattle.loft_lex.specs.declared.TheConstants.{MAX_TEXT_LEN}
 use Rattle.loft_lex.specs.declared.token.LexError.{LexError}
 use Rattle.loft_lex.specs.declared.token.LexError.TheVariants as lexical
 use Rattle.loft_tree.specs.declared.heads.Place.{Place}
 use Rattle.loft_tree.specs.declared.heads.Place.TheVariants as place
 use Rattle.loft_tree.specs.Source.{Source}
-use Rattle.loft_tree.specs.Small.{IsSmall}
 use Rattle.loft_names.specs.declared.error.NameError.{NameError}
 use Rattle.loft_names.specs.declared.error.NameError.TheVariants as name
 use Rattle.loft_names.specs.Faults.{NameFault, NamesFit}
 use Rattle.loft_names.specs.Numbers.{numbered}
 use Rattle.loft_place.specs.declared.error.PlaceError.{PlaceError}
 use Rattle.loft_place.specs.declared.error.PlaceError.TheVariants as links
-use Rattle.loft_place.specs.Goes.{IsPlaced, PlaceFault}
+use Rattle.loft_place.specs.Links.{IsPlaced, PlaceFault}
+use Rattle.loft_plain.specs.Built.{IsBuilt}
 use Rattle.loft_parse.specs.declared.error.ParseError.{ParseError}
 use Rattle.loft_parse.specs.declared.error.ParseError.TheVariants.{Lex, Expected, TooDeep, TooMany, TooLong, NoMemory}
 use Rattle.loft_parse.specs.Source.{Reads, SourceFault}
+use Rattle.loft_app.specs.declared.refusal.Refusal.{Refusal}
+use Rattle.loft_app.specs.declared.refusal.Refusal.TheVariants as refusal
 use Rattle.loft_app.specs.Command.{Command, Run, Show, Check}
 use Rattle.loft_app.specs.Written.{IsLine}
 
--- the line of a lexical fault; want of memory has none
+-- ---- lines
+
+-- the line of a lexical fault; out of memory has none
 abbrev pub lexical_line : LexError → List ℕ
 lexical_line (lexical.BadByte at) = codes "source: bad byte at " ++ decimal at
 lexical_line (lexical.OpenText at) = codes "source: open text at " ++ decimal at
@@ -29,16 +34,16 @@ lexical_line (lexical.LongText at) = codes "source: long text at " ++ decimal at
 lexical_line (lexical.BadNumber at) = codes "source: bad number at " ++ decimal at
 lexical_line lexical.NoMemory = []
 
--- the line of a fault; want of memory has none
-abbrev pub fault_line : ParseError → List ℕ
-fault_line (Lex e) = lexical_line e
-fault_line (Expected at) = codes "source: expected at " ++ decimal at
-fault_line (TooDeep at) = codes "source: too deep at " ++ decimal at
-fault_line (TooMany at limit) = codes "source: too many at " ++ (decimal at ++ (codes " (limit " ++ (decimal limit ++ codes ")")))
-fault_line TooLong = codes "source: too long"
-fault_line NoMemory = []
+-- the line of a fault of a text; out of memory has none
+abbrev pub text_line : ParseError → List ℕ
+text_line (Lex e) = lexical_line e
+text_line (Expected at) = codes "source: expected at " ++ decimal at
+text_line (TooDeep at) = codes "source: too deep at " ++ decimal at
+text_line (TooMany at limit) = codes "source: too many at " ++ (decimal at ++ (codes " (limit " ++ (decimal limit ++ codes ")")))
+text_line TooLong = codes "source: too long"
+text_line NoMemory = []
 
--- the line of a fault of names and kinds; want of memory has none
+-- the line of a fault of names and kinds; out of memory has none
 abbrev pub name_line : NameError → List ℕ
 name_line name.NoScheduler = codes "source: no scheduler"
 name_line (name.Unknown at) = codes "source: unknown name at " ++ decimal at
@@ -52,70 +57,85 @@ abbrev pub place_text : List (List ℕ) → Place → List ℕ
 place_text names (place.Sched s) = unwrap_or (slice_get names s.0) []
 place_text names place.Unlinked = codes "unlinked"
 
--- a line of a place in the text and two places of threads, each behind its words
+-- a line of an offset in the text and two places of threads, each after its words
 abbrev pub two_places : List (List ℕ) → List ℕ → ℕ → List ℕ → Place → List ℕ → Place → List ℕ
 two_places names what at before first between second = what ++ (decimal at ++ (before ++ (place_text names first ++ (between ++ place_text names second))))
 
--- the line of a fault of links; want of memory has none
-abbrev pub place_line : List (List ℕ) → PlaceError → List ℕ
-place_line names (links.NotHere at needs has) = two_places names (codes "source: not here at ") at (codes ", needs ") needs (codes ", has ") has
-place_line names (links.Unlinked at) = codes "source: unlinked at " ++ decimal at
-place_line names (links.Branches at left right) = two_places names (codes "source: branches at ") at (codes " end at ") left (codes " and ") right
-place_line names (links.LoopEnds at start end) = two_places names (codes "source: loop at ") at (codes " begins at ") start (codes ", ends at ") end
-place_line names (links.ModuleEnds at declared end) = two_places names (codes "source: module at ") at (codes " declares ") declared (codes ", ends at ") end
-place_line names links.NoMemory = []
+-- the line of a fault of links; the schedulers have these names; out of memory has none
+abbrev pub link_line : List (List ℕ) → PlaceError → List ℕ
+link_line names (links.NotHere at needs has) = two_places names (codes "source: not here at ") at (codes ", needs ") needs (codes ", has ") has
+link_line names (links.Unlinked at) = codes "source: unlinked at " ++ decimal at
+link_line names (links.Branches at left right) = two_places names (codes "source: branches at ") at (codes " end at ") left (codes " and ") right
+link_line names (links.LoopEnds at start end) = two_places names (codes "source: loop at ") at (codes " begins at ") start (codes ", ends at ") end
+link_line names (links.ModuleEnds at declared end) = two_places names (codes "source: module at ") at (codes " declares ") declared (codes ", ends at ") end
+link_line names links.NoMemory = []
 
--- the names of the schedulers, by their numbers
-abbrev pub scheduler_names : Source → List (List ℕ)
-scheduler_names p = (numbered p).heads.schedulers
+-- the line of a refusal
+abbrev pub line_of : Refusal → List ℕ
+line_of (refusal.Text e) = text_line e
+line_of (refusal.Names e) = name_line e
+line_of (refusal.Links e schedulers) = link_line schedulers e
+line_of refusal.NotBuilt = codes "source: not built"
 
--- the names, kinds and links of a program are as they are to be
+-- ---- causes
+
+-- the names, kinds and links of a program are correct
 pub record Well (p : Source) : Type 0 where
   pub names : NamesFit p
   pub links : IsPlaced (numbered p)
 
--- the most bytes of a source
-abbrev pub most_source : ℕ
-most_source = 4194304
+-- why a program is refused
+abbrev pub IsRefusedFor : Source → Refusal → Type 0
+IsRefusedFor p (refusal.Text e) = ⊥
+IsRefusedFor p (refusal.Names e) = NameFault p e
+IsRefusedFor p (refusal.Links e schedulers) = NamesFit p × PlaceFault (numbered p) e × (schedulers ≡ (numbered p).heads.schedulers)
+IsRefusedFor p refusal.NotBuilt = Well p × (IsBuilt (numbered p) → ⊥)
 
 -- the fault of the contents: they are too long, or else the fault of their text
 abbrev pub ContentsFault : List ℕ → ParseError → Type 0
-ContentsFault contents e = ((most_source < length contents) × (e ≡ TooLong)) ⊎ ((length contents ≤ most_source) × SourceFault contents e)
-
--- no program reads the contents, and this is the line of their fault
-abbrev pub IsFaulty : List ℕ → List ℕ → Type 0
-IsFaulty contents line = (e : ParseError) × ContentsFault contents e × (line ≡ fault_line e)
+ContentsFault contents e = ((MAX_TEXT_LEN < length contents) × (e ≡ TooLong)) ⊎ ((length contents ≤ MAX_TEXT_LEN) × SourceFault contents e)
 
 -- the contents are the text of the program
 pub record IsTextOf (contents : List ℕ) (p : Source) : Type 0 where
-  pub short : length contents ≤ most_source
+  pub short : length contents ≤ MAX_TEXT_LEN
   pub reads : Reads contents p
 
--- a program reads the contents, and this is the line of the fault of its names
-abbrev pub IsMisnamed : List ℕ → List ℕ → Type 0
-IsMisnamed contents line = (p : Source) × IsTextOf contents p × (e : NameError) × NameFault p e × (line ≡ name_line e)
+-- the program whose text the contents are is refused for this
+abbrev pub ProgramRefused : List ℕ → Refusal → Type 0
+ProgramRefused contents r = (p : Source) × IsTextOf contents p × IsRefusedFor p r
 
--- a program reads the contents, its names fit, and this is the line of the fault of its links
-abbrev pub IsMisplaced : List ℕ → List ℕ → Type 0
-IsMisplaced contents line =
-    (p : Source) × IsTextOf contents p × NamesFit p × (e : PlaceError) × PlaceFault (numbered p) e × (line ≡ place_line (scheduler_names p) e)
+-- why contents are refused: they are the text of no program, or of one that is refused
+abbrev pub IsCause : List ℕ → Refusal → Type 0
+IsCause contents (refusal.Text e) = ContentsFault contents e
+IsCause contents (refusal.Names e) = ProgramRefused contents (refusal.Names e)
+IsCause contents (refusal.Links e schedulers) = ProgramRefused contents (refusal.Links e schedulers)
+IsCause contents refusal.NotBuilt = ProgramRefused contents refusal.NotBuilt
 
--- a program reads the contents, and is well, but can't be run
-abbrev pub IsNotBuilt : List ℕ → List ℕ → Type 0
-IsNotBuilt contents line = (p : Source) × IsTextOf contents p × Well p × (IsSmall p → ⊥) × (line ≡ codes "source: not built")
+-- ---- commands
 
--- the line with which a command refuses contents
+-- what a command asks of a program: `show` nothing, `check` its names and links, `run` besides that it runs yet
+abbrev pub Asks : Command → Refusal → Type 0
+Asks c (refusal.Text e) = Unit {0}
+Asks (Run file) (refusal.Names e) = Unit {0}
+Asks (Show file) (refusal.Names e) = ⊥
+Asks (Check file) (refusal.Names e) = Unit {0}
+Asks (Run file) (refusal.Links e schedulers) = Unit {0}
+Asks (Show file) (refusal.Links e schedulers) = ⊥
+Asks (Check file) (refusal.Links e schedulers) = Unit {0}
+Asks (Run file) refusal.NotBuilt = Unit {0}
+Asks (Show file) refusal.NotBuilt = ⊥
+Asks (Check file) refusal.NotBuilt = ⊥
+
+-- a command refuses contents by this line
 abbrev pub Refuses : Command → List ℕ → List ℕ → Type 0
-Refuses (Run file) contents line = IsFaulty contents line ⊎ (IsMisnamed contents line ⊎ (IsMisplaced contents line ⊎ IsNotBuilt contents line))
-Refuses (Show file) contents line = IsFaulty contents line
-Refuses (Check file) contents line = IsFaulty contents line ⊎ (IsMisnamed contents line ⊎ IsMisplaced contents line)
+Refuses c contents line = (r : Refusal) × Asks c r × IsCause contents r × (line ≡ line_of r)
 
 -- the text is the line with which a command refuses contents
 abbrev pub IsRefusal : Command → List ℕ → List ℕ → Type 0
 IsRefusal c contents text = (line : List ℕ) × Refuses c contents line × IsLine line text
 
--- the command can be done for a program: each can be shown, well ones pass the check, and those of them that are small run
+-- the command can be done for a program: each can be shown, well ones pass the check, and those of them that are built run
 abbrev pub Takes : Command → Source → Type 0
-Takes (Run file) p = Well p × IsSmall p
+Takes (Run file) p = Well p × IsBuilt (numbered p)
 Takes (Show file) p = Unit {0}
 Takes (Check file) p = Well p

@@ -9,6 +9,6 @@ Appends old new P = (written : List ℕ) → old ≡ Some written → (text : Li
 abbrev pub IsLine : List ℕ → List ℕ → Type 0
 IsLine line text = text ≡ line ++ 10 ∷ []
 
--- the text is empty, or it is the first part of one of which P holds
-abbrev pub IsFirstPart : (List ℕ → Type 0) → List ℕ → Type 0
-IsFirstPart P text = (text ≡ []) ⊎ ((rest : List ℕ) × P (text ++ rest))
+-- the text is empty, or a prefix of one of which P holds
+abbrev pub IsPrefix : (List ℕ → Type 0) → List ℕ → Type 0
+IsPrefix P text = (text ≡ []) ⊎ ((rest : List ℕ) × P (text ++ rest))

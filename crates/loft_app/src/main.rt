@@ -1,23 +1,24 @@
-//! Runs programs of fair threads, and tells what they did.
+//! Runs programs of fair threads, and reports what they did.
 #![tactic(auto)]
 
 mod app;
-mod fault;
-mod lines;
-mod number;
+mod command;
+mod fault_line;
+mod refusal;
 mod source;
+mod status;
 #[cfg(test)]
 mod tests;
-mod unfit;
 mod words;
 
-use app::{Status, loft_main};
+use app::loft_main;
 use loft_base::{HostFiles, HostSink, OpenGate};
+use status::Status;
 use std::process::ExitCode;
 use std::rt::Env;
 use std::{env, io};
 
-/// The words behind the program's name.
+/// The words after the program's name.
 fn arguments<R: Env + AllocGlobal>(rt: &R) -> io::Result<Vec<String>> {
     let mut words = Vec::new(rt.alloc());
     for word in env::args(rt)?.skip(1) {

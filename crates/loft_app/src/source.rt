@@ -1,67 +1,48 @@
-//! The program in a file.
+//! The program in a file, and the same placed.
 
-ghost use Rattle.std.specs.Prelude.{◌≡◌, ℕ, List, Some, IfOk, IsTrue, IsErrOf, Err};
+ghost use Rattle.std.specs.Prelude.{◌≡◌, ◌≤◌, ℕ, List, Some, IfOk, IfErr, IsErrOf, IsTrue, OnOk};
 ghost use Rattle.loft_base.specs.Outside.{Rose};
 ghost use Rattle.loft_tree.specs.View.{source_of};
-ghost use Rattle.loft_app.specs.Reading.{IsProgramOf, IsFaultOf};
+ghost use Rattle.loft_tree.specs.ProgramView.{program_of};
+ghost use Rattle.loft_names.specs.Numbers.{numbered};
+ghost use Rattle.loft_app.specs.Refusals.{IsTextOf, Well};
+ghost use Rattle.loft_app.specs.Found.{IsFault, IsUnfit};
 
-use loft_base::{FileError, Files, read_whole};
-use loft_parse::{ParseError, parse};
+use crate::refusal::{Refusal, Stopped};
+use loft_base::{Files, read_whole};
+use loft_lex::MAX_TEXT_LEN;
+use loft_names::resolve;
+use loft_parse::parse;
+use loft_place::{Placed, place};
 use loft_tree::Program;
 use std::alloc::Global;
 
-/// Why there is no program.
-#[derive(Debug, Drop)]
-pub enum Unread {
-    /// The file could not be read; its count of faults rose.
-    Failed,
-    /// The contents are refused.
-    Source(ParseError),
-    /// No memory was left for the contents or the program.
-    NoMemory,
-}
-
-impl From<FileError> for Unread {
-    ghost use Rattle.std.specs.Prelude.{◌≡◌};
-    ghost use Rattle.loft_app.specs.Reading.{unread_file};
-
-    ghost from_gives = { λ e unread. unread ≡ unread_file e };
-
-    fn from(error: FileError) -> Unread {
-        match error {
-            FileError::Failed => Unread::Failed,
-            FileError::TooLong => Unread::Source(ParseError::TooLong),
-            FileError::NoMemory => Unread::NoMemory,
-        }
-    }
-}
-
-impl From<ParseError> for Unread {
-    ghost use Rattle.std.specs.Prelude.{◌≡◌};
-    ghost use Rattle.loft_app.specs.Reading.{unread_text};
-
-    ghost from_gives = { λ e unread. unread ≡ unread_text e };
-
-    fn from(error: ParseError) -> Unread {
-        match error {
-            ParseError::NoMemory => Unread::NoMemory,
-            fault => Unread::Source(fault),
-        }
-    }
-}
-
-/// The most bytes of a source.
-const MOST_SOURCE: u64 = 4194304;
-
 /// Reads the program in a file.
-pub fn read_program<F: Files>(alloc: Global, files: &mut F, name: &str) -> Result<Program, Unread>
+pub fn read_program<F: Files>(alloc: Global, files: &mut F, name: &str) -> Result<Program, Stopped>
     requires { IsTrue (F.may_ask files.old name.now) }
     ensures program { (contents : List ℕ) → F.contents files.old name.now ≡ Some contents
-        → IfOk result (λ p. IsProgramOf contents (source_of p)) }
-    ensures source { (contents : List ℕ) (e : ParseError) → F.contents files.old name.now ≡ Some contents
-        → result ≡ Err (Unread.Source e) → IsFaultOf contents e }
-    ensures failed { IsErrOf result Unread.Failed → Rose (F.faults files.old) (F.faults files.new) }
+        → IfOk result (λ p. IsTextOf contents (source_of p)) }
+    ensures refused { (contents : List ℕ) → F.contents files.old name.now ≡ Some contents
+        → IfErr result (IsFault contents) }
+    ensures file_fault { IsErrOf result Stopped.FileFault → Rose (F.faults files.old) (F.faults files.new) }
+    ensures no_sink { IfErr result (λ e. e ≡ Stopped.SinkFault → ⊥) }
+    ensures never_falls { F.faults files.old ≤ F.faults files.new }
 {
-    let text = read_whole(alloc, files, name, MOST_SOURCE)?;
+    let text = read_whole(alloc, files, name, MAX_TEXT_LEN as u64)?;
     Ok(parse(alloc, text.as_slice())?)
+}
+
+/// The program with numbers in place of names, its threads linked wherever its statements need it; else why not, names
+/// before links.
+pub fn placed(alloc: Global, program: Program) -> Result<Placed, Stopped>
+    ensures program { IfOk result (λ p. program_of p ≡ numbered (source_of program)) }
+    ensures well { OnOk result (Well (source_of program)) }
+    ensures refused { IfErr result (IsUnfit (source_of program)) }
+{
+    let named = resolve(alloc, program)?;
+    let schedulers = named.program().heads.schedulers.clone()?;
+    match place(alloc, named) {
+        Ok(placed) => Ok(placed),
+        Err(fault) => Err(Stopped::Refused(Refusal::Links { fault, schedulers })),
+    }
 }

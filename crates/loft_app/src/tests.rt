@@ -1,9 +1,10 @@
-ghost use Rattle.std.specs.Prelude.{◌≡◌, ◌+◌, ℕ, List, Option, None, true, Bool};
+ghost use Rattle.std.specs.Prelude.{◌+◌, ◌≤◌, None, true, length};
 
 use crate::app::loft_main;
-use loft_base::{Failed, Files, MemFiles, MemSink, OpenGate, Sink};
+use loft_base::{Failed, Files, Gate, MemFiles, MemSink, OpenGate, SchedId, Sink, Turn};
 use std::alloc::{AllocError, Global};
 use std::sync::Wait;
+use std::sync::atomic::{AtomicU64, Ordering};
 use std::test::Fail;
 use std::thread::Threads;
 
@@ -66,7 +67,7 @@ fn refuses_words(rt: HostRuntime) -> Result<(), Fail> {
     Ok(())
 }
 
-/// Words that are a command: files' names before and behind `--`. Only `a` is there.
+/// Words that are a command: files' names before and after `--`. Only `a` is there.
 #[test]
 fn takes_words(rt: HostRuntime) -> Result<(), Fail> {
     let cases: [(&[&str], u8); 7] = [
@@ -85,16 +86,12 @@ fn takes_words(rt: HostRuntime) -> Result<(), Fail> {
     Ok(())
 }
 
-/// Programs that are well, but aren't small.
+/// Programs that are well, but can't be run yet.
 #[test]
-fn runs_small_programs_only(rt: HostRuntime) -> Result<(), Fail> {
-    let cases: [&[u8]; 7] = [
+fn runs_built_programs_only(rt: HostRuntime) -> Result<(), Fail> {
+    let cases: [&[u8]; 3] = [
         b"scheduler A; scheduler B;",
-        b"event e in A; scheduler A;",
-        b"scheduler A; module m(int x) in A end",
         b"scheduler A; module m() in A local int x; end",
-        b"scheduler A; module m() in A to unlinked unlink; end",
-        b"scheduler A; module m() in A print 1; end",
         b"scheduler A; module m() in A cooperate 2; end",
     ];
     for contents in cases {
@@ -108,91 +105,25 @@ fn runs_small_programs_only(rt: HostRuntime) -> Result<(), Fail> {
     Ok(())
 }
 
-/// Programs that aren't well, and what is wrong with them.
-const UNFIT: [(&[u8], &[u8]); 10] = [
+/// Programs that are refused: for their text, their names, their links.
+const REFUSED: [(&[u8], &[u8]); 4] = [
+    (b";", b"source: expected at 0\n"),
     (b"event e in Z;", b"source: no scheduler\n"),
-    (
-        b"scheduler A;event e in Z;",
-        b"source: unknown name at 23\n",
-    ),
     (
         b"scheduler A;scheduler A;",
         b"source: name at 22 declared twice, first at 10\n",
     ),
     (
-        b"scheduler A;module m(int a) in A end start A.m();",
-        b"source: arity at 45\n",
-    ),
-    (
-        b"scheduler A;event e in A;module m() in A print e + 1; end",
-        b"source: kind at 47\n",
-    ),
-    (
         b"scheduler A;module n() in unlinked to A link A; end module m() in A create A.n(); end",
         b"source: not here at 75, needs unlinked, has A\n",
     ),
-    (
-        b"scheduler A;module m() in A to unlinked unlink; print 1; end",
-        b"source: unlinked at 48\n",
-    ),
-    (
-        b"scheduler A;scheduler B;module m() in A if (1) then link B; end end",
-        b"source: branches at 40 end at B and A\n",
-    ),
-    (
-        b"scheduler A;scheduler B;module m() in A repeat (2) do link B; end end",
-        b"source: loop at 40 begins at A, ends at B\n",
-    ),
-    (
-        b"scheduler A;module m() in unlinked link A; end start A.m();",
-        b"source: module at 19 declares unlinked, ends at A\n",
-    ),
 ];
 
-/// `check` and `run` tell what is wrong with names and links; `show` shows such a program.
+/// `check` and `run` refuse a program by the line of its first fault.
 #[test]
-fn tells_what_is_unfit(rt: HostRuntime) -> Result<(), Fail> {
-    for (contents, line) in UNFIT {
+fn refuses_programs(rt: HostRuntime) -> Result<(), Fail> {
+    for (contents, line) in REFUSED {
         for command in ["check", "run"] {
-            let (status, text) = answer(&rt, &[command, "a"], contents)?;
-            assert_eq!(rt; status, 3, "of {contents:?}");
-            assert_eq!(rt; text.as_slice(), line);
-        }
-        let (status, _) = answer(&rt, &["show", "a"], contents)?;
-        assert_eq!(rt; status, 0, "of {contents:?}");
-    }
-    Ok(())
-}
-
-/// Texts that no program reads, and their faults.
-const FAULTS: [(&[u8], &[u8]); 8] = [
-    (b";", b"source: expected at 0\n"),
-    (b"#", b"source: bad byte at 0\n"),
-    (b"\"abc", b"source: open text at 0\n"),
-    (b"9223372036854775808", b"source: bad number at 0\n"),
-    (
-        b"aaaaaaaaaaaaaaaaaaaaaaaaaaaaaaaaaaaaaaaaaaaaaaaaaaaaaaaaaaaaaaaaa",
-        b"source: long name at 0\n",
-    ),
-    (
-        b"\"aaaaaaaaaaaaaaaaaaaaaaaaaaaaaaaaaaaaaaaaaaaaaaaaaaaaaaaaaaaaaaaaaaaaaaaaaaaaaaaaaaaaaaaaaaaaaaaaaaaaaaaaaaaaaaaaaaaaaaaaa\"",
-        b"source: long text at 0\n",
-    ),
-    (
-        b"scheduler S00;scheduler S01;scheduler S02;scheduler S03;scheduler S04;scheduler S05;scheduler S06;scheduler S07;scheduler S08;scheduler S09;scheduler S10;scheduler S11;scheduler S12;scheduler S13;scheduler S14;scheduler S15;scheduler S16;",
-        b"source: too many at 224 (limit 16)\n",
-    ),
-    (
-        b"scheduler A;module m() in A print (((((((((((((((((((((((((((((((((1)))))))))))))))))))))))))))))))));end",
-        b"source: too deep at 66\n",
-    ),
-];
-
-/// Each command tells the fault of a text.
-#[test]
-fn tells_faults(rt: HostRuntime) -> Result<(), Fail> {
-    for command in ["show", "check", "run"] {
-        for (contents, line) in FAULTS {
             let (status, text) = answer(&rt, &[command, "a"], contents)?;
             assert_eq!(rt; status, 3, "of {contents:?}");
             assert_eq!(rt; text.as_slice(), line);
@@ -214,7 +145,7 @@ fn refuses_a_long_source(rt: HostRuntime) -> Result<(), Fail> {
     Ok(())
 }
 
-/// A program whose text isn't the canonical one, and a program that isn't small.
+/// A program whose text isn't the canonical one, and which can't be run yet.
 const SHOWN: &[u8] = b"scheduler A; module m(int x) in A to A print \"//\"; end";
 
 /// The canonical text of a program.
@@ -273,9 +204,9 @@ impl Files for BrokenFiles {
     }
 }
 
-/// A file that can't be read is told in one line.
+/// A file that can't be read is reported in one line.
 #[test]
-fn tells_a_file_fault(rt: HostRuntime) -> Result<(), Fail> {
+fn reports_a_file_fault(rt: HostRuntime) -> Result<(), Fail> {
     let asked = words(rt.alloc(), &["run", "a"])?;
     let mut files = BrokenFiles { faults: 0 };
     let mut sink = MemSink::new(rt.alloc(), 4096)?;
@@ -340,14 +271,10 @@ fn cut_off<R: Threads + Wait + Sync + AllocGlobal>(
     Ok((status.code(), sink.bytes))
 }
 
-/// Behind a failure of the sink nothing more is written; each line is a piece of its own.
+/// After a failure of the sink nothing more is written; each line is a piece of its own.
 #[test]
 fn stops_at_a_sink_fault(rt: HostRuntime) -> Result<(), Fail> {
-    let (status, text) = cut_off(
-        &rt,
-        &["run", "a"],
-        b"scheduler A; module m() in A print \"one\"; cooperate; print \"two\"; end start A.m();",
-    )?;
+    let (status, text) = cut_off(&rt, &["run", "a"], TWO_PRINTS)?;
     assert_eq!(rt; status, 6);
     assert_eq!(rt;
         text.as_slice(),
@@ -359,5 +286,124 @@ fn stops_at_a_sink_fault(rt: HostRuntime) -> Result<(), Fail> {
         text.as_slice(),
         b"scheduler A;\nmodule m(int x) in A\n".as_slice()
     );
+    Ok(())
+}
+
+/// The program of two prints.
+const TWO_PRINTS: &[u8] =
+    b"scheduler A; module m() in A print \"one\"; cooperate; print \"two\"; end start A.m();";
+
+/// A gate that notes the numbers of the instants of scheduler 0 as decimal digits, and each other turn as 0.
+#[derive(Drop)]
+struct NotingGate {
+    noted: AtomicU64,
+}
+
+impl Gate for NotingGate {
+    fn pass<R: Threads + Wait + Sync>(&self, _rt: &R, turn: Turn) {
+        let digit = match turn {
+            Turn::Instant {
+                s: SchedId(0),
+                number,
+            } => number,
+            _ => 0,
+        };
+        let noted = self.noted.load(Ordering::SeqCst);
+        self.noted.store(noted.wrapping_mul(10).wrapping_add(digit), Ordering::SeqCst);
+    }
+}
+
+/// Each turn passes the gate once, in order, with the number of its instant.
+#[test]
+fn each_turn_passes_the_gate(rt: HostRuntime) -> Result<(), Fail> {
+    let asked = words(rt.alloc(), &["run", "a"])?;
+    let mut files = MemFiles::new(rt.alloc())?;
+    files.add(rt.alloc(), "a", TWO_PRINTS)?;
+    let mut sink = MemSink::new(rt.alloc(), 4096)?;
+    let gate = NotingGate {
+        noted: AtomicU64::new(0),
+    };
+    let status = loft_main(
+        &rt,
+        rt.alloc(),
+        asked.as_slice(),
+        &mut files,
+        &mut sink,
+        &gate,
+    );
+    assert_eq!(rt; status.code(), 0);
+    assert_eq!(rt; gate.noted.load(Ordering::SeqCst), 12);
+    Ok(())
+}
+
+/// A file that fails where it is begun a second time, and where another one is asked.
+#[derive(Drop)]
+struct OnceFiles {
+    bytes: Vec<u8>,
+    is_begun: bool,
+    faults: u64,
+    place: u64,
+}
+
+impl Files for OnceFiles {
+    ghost contents = { λ _ _. None };
+
+    ghost faults = { λ files. files.faults };
+
+    ghost may_ask = { λ _ _. true };
+
+    ghost place = { λ files. files.place };
+
+    fn part(&mut self, name: &str, from: u64, into: &mut [u8]) -> Result<usize, Failed> {
+        if name != "a" || from == 0 && self.is_begun {
+            self.faults = self.faults.saturating_add(1);
+            self.place = 0;
+            return Err(Failed);
+        }
+        self.is_begun = true;
+        let count = copy_from(self.bytes.as_slice(), from, into);
+        self.place = from + count as u64;
+        Ok(count)
+    }
+}
+
+/// Copies what fits of a file's bytes from an offset, and gives how many these are.
+fn copy_from(file: &[u8], from: u64, into: &mut [u8]) -> usize
+    ensures { result ≤ length into.old }
+{
+    let Ok(start) = usize::try_from(from) else {
+        return 0;
+    };
+    if file.len() <= start {
+        return 0;
+    }
+    let rest = &file[start..];
+    let count = rest.len().min(into.len());
+    into[..count].copy_from_slice(&rest[..count]);
+    count
+}
+
+/// Each command reads its file once.
+#[test]
+fn a_source_is_read_once(rt: HostRuntime) -> Result<(), Fail> {
+    for command in ["show", "check", "run"] {
+        let asked = words(rt.alloc(), &[command, "a"])?;
+        let mut files = OnceFiles {
+            bytes: Vec::from_slice(rt.alloc(), TWO_PRINTS)?,
+            is_begun: false,
+            faults: 0,
+            place: 0,
+        };
+        let mut sink = MemSink::new(rt.alloc(), 4096)?;
+        let status = loft_main(
+            &rt,
+            rt.alloc(),
+            asked.as_slice(),
+            &mut files,
+            &mut sink,
+            &OpenGate,
+        );
+        assert_eq!(rt; status.code(), 0, "of {command}");
+    }
     Ok(())
 }

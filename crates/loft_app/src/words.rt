@@ -1,13 +1,13 @@
-//! The words behind the program's name.
+//! The words after the program's name (docs/COMMANDS.md, "Words").
 
 ghost use Rattle.std.specs.Prelude.{◌≡◌, [], ◌∷◌, None, if◌then◌else◌};
 ghost use Rattle.std.specs.Option.{option_copied};
 ghost use Rattle.loft_app.specs.Command.{command, named, words_of, file_of, file_in, is_file_name, is_option, only_file};
-ghost use Rattle.loft_app.specs.Asked.{meant, command_of};
+ghost use Rattle.loft_app.specs.CommandView.{meant, command_of};
 
-/// What the words ask for.
+/// A command, and the file that it reads.
 #[derive(Clone, Copy, Debug)]
-pub enum Asked<'a> {
+pub enum Command<'a> {
     /// To run the source in this file.
     Run(&'a str),
     /// To show the source in this file in its canonical text.
@@ -16,13 +16,13 @@ pub enum Asked<'a> {
     Check(&'a str),
 }
 
-impl<'a> Asked<'a> {
+impl<'a> Command<'a> {
     /// The file that is to be read.
     pub fn file(self) -> &'a str
         ensures { result.now ≡ file_of (command_of self.entry) }
     {
         match self {
-            Asked::Run(file) | Asked::Show(file) | Asked::Check(file) => file,
+            Command::Run(file) | Command::Show(file) | Command::Check(file) => file,
         }
     }
 }
@@ -48,8 +48,8 @@ fn is_file(word: &str) -> bool
     }
 }
 
-/// The word behind `--`, where it can be a file's name.
-fn behind(word: &str) -> Option<&str>
+/// The word after `--`, where it can be a file's name.
+fn after(word: &str) -> Option<&str>
     ensures { option_copied result ≡ only_file (word.now ∷ []) }
 {
     if is_file(word) { Some(word) } else { None }
@@ -59,10 +59,10 @@ fn behind(word: &str) -> Option<&str>
 fn before(word: &str) -> Option<&str>
     ensures { option_copied result ≡ (if is_option word.now then None else only_file (word.now ∷ [])) }
 {
-    if is_option(word) { None } else { behind(word) }
+    if is_option(word) { None } else { after(word) }
 }
 
-/// The only file that the words name, of which `--` may be one: what stands behind it is no option.
+/// The only file that the words name, of which `--` may be one: what stands after it is no option.
 fn file_in(words: &[String]) -> Option<&str>
     ensures { option_copied result ≡ file_in (words_of words.now) }
 {
@@ -71,7 +71,7 @@ fn file_in(words: &[String]) -> Option<&str>
         [file] => before(file.as_str()),
         [first, second] => {
             if first.as_str() == "--" {
-                behind(second.as_str())
+                after(second.as_str())
             } else if second.as_str() == "--" {
                 before(first.as_str())
             } else {
@@ -83,22 +83,22 @@ fn file_in(words: &[String]) -> Option<&str>
 }
 
 /// What the word asks for with this file.
-fn with_file<'a>(word: &str, file: &'a str) -> Option<Asked<'a>>
+fn with_file<'a>(word: &str, file: &'a str) -> Option<Command<'a>>
     ensures { meant result ≡ named word.now file.now }
 {
     if word == "run" {
-        Some(Asked::Run(file))
+        Some(Command::Run(file))
     } else if word == "show" {
-        Some(Asked::Show(file))
+        Some(Command::Show(file))
     } else if word == "check" {
-        Some(Asked::Check(file))
+        Some(Command::Check(file))
     } else {
         None
     }
 }
 
 /// What the words ask for: `run`, `show` or `check` and the name of a file. All other words are refused.
-pub fn command(words: &[String]) -> Option<Asked<'_>>
+pub fn read_words(words: &[String]) -> Option<Command<'_>>
     ensures { meant result ≡ command (words_of words.now) }
 {
     let [word, rest @ ..] = words else {

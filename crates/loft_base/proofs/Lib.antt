@@ -1,3 +1,6 @@
 pub mod Division
+pub mod LineLemmas
 pub mod Reading
+pub mod StreamLemmas
 pub mod Wrapping
+pub mod WritesLemmas

@@ -3,16 +3,16 @@ use Rattle.std.proofs.Common.{◌≡◌, ℕ, ◌+◌, ◌≤◌, List, ◌++◌
 use Rattle.std.proofs.Math.Seq.{take-add}
 use Rattle.loft_base.specs.Outside.{IsPart}
 
--- these bytes are the first of the file, so many
+-- these bytes are the first `at` of the file
 pub record IsFront (whole : List ℕ) (at : ℕ) (file : List ℕ) : Type 0 where
   pub bytes : whole ≡ take at file
   pub inside : at ≤ length file
 
--- a part behind the front makes a longer front
+-- a part after the front makes a longer front
 pub front-part : (file whole into : List ℕ) (at k : ℕ) → IsFront whole at file → IsPart file at k into → k ≤ length into → IsFront (whole ++ take k into) (at + k) file
 front-part file whole into at k front part fits = record { bytes = rw (front.bytes, part.bytes, take-add at k file); inside = omega (arith, ap length part.bytes, length-take k into, length-take k (drop at file), length-drop at file, front.inside) }
 
--- the same where the file is told
-pub told-front-part : (told : Option (List ℕ)) (whole into : List ℕ) (at k : ℕ) → IfSome told (IsFront whole at) → IfSome told (λ file. IsPart file at k into) → k ≤ length into → IfSome told (IsFront (whole ++ take k into) (at + k))
-told-front-part None whole into at k front part fits = front
-told-front-part (Some file) whole into at k front part fits = front-part file whole into at k front part fits
+-- the same where the file is known
+pub known-front-part : (known : Option (List ℕ)) (whole into : List ℕ) (at k : ℕ) → IfSome known (IsFront whole at) → IfSome known (λ file. IsPart file at k into) → k ≤ length into → IfSome known (IsFront (whole ++ take k into) (at + k))
+known-front-part None whole into at k front part fits = front
+known-front-part (Some file) whole into at k front part fits = front-part file whole into at k front part fits

@@ -6,7 +6,7 @@ use Rattle.std.specs.Int.{w64, int_wrap}
 abbrev pub wrapped : ℤ → ℤ
 wrapped z = int_wrap w64 z
 
--- x and z are equal modulo 2 ^ 64: they meet after so many steps of 2 ^ 64 each
+-- x and z are equal modulo 2 ^ 64: they are equal after some steps of 2 ^ 64 on each side
 abbrev pub AreCongruent : ℤ → ℤ → Type 0
 AreCongruent x z = (j : ℕ) × ((k : ℕ) × (x +ℤ pos (j * 2 ^ 64) ≡ z +ℤ pos (k * 2 ^ 64)))
 

@@ -3,3 +3,5 @@ pub mod Outside
 pub mod MemFiles
 pub mod MemSink
 pub mod Lists
+pub mod Streams
+pub mod Writing

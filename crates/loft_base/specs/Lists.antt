@@ -3,7 +3,7 @@ use Rattle.std.specs.Prelude.{ℕ, List, ◌++◌, length, take, drop, slice_set
 use Rattle.std.specs.Borrow.{Lends, Fml, RattleType, MutBor, Array}
 use Rattle.loft_base.specs.contracts.lists.Sequence.{the_row}
 
--- the list with what a slice over it was left as in place of its elements
+-- the list with its first elements replaced by what a slice over it was left as
 abbrev pub overwritten : {X : Type 0} → List X → List X → List X
 overwritten list left = take (length list) (left ++ drop (length left) list)
 

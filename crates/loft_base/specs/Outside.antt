@@ -14,21 +14,21 @@ Rose old new = new < last_count → old < new
 abbrev pub IsNextPlace : ℕ → ℕ → Type 0
 IsNextPlace from place = (from ≡ 0) ⊎ (from ≡ place)
 
--- the first `count` bytes of `into` are the file's from the place `from`; none come only at or past its end
+-- the first `count` bytes of `into` are the file's from the offset `from`; none come only at or past its end
 pub record IsPart (file : List ℕ) (from count : ℕ) (into : List ℕ) : Type 0 where
   pub bytes : take count into ≡ take count (drop from file)
   pub end : count ≡ 0 → length file ≤ from
 
--- what is told of the bytes written, after these were appended
+-- the bytes written, where they are known, after these were appended
 abbrev pub appended : Option (List ℕ) → List ℕ → Option (List ℕ)
 appended None bytes = None
 appended (Some written) bytes = Some (written ++ bytes)
 
--- what is told of the bytes written grew by a prefix of these
+-- the bytes written, where they are known, grew by a prefix of these
 abbrev pub GrowsByPrefix : Option (List ℕ) → Option (List ℕ) → List ℕ → Type 0
 GrowsByPrefix old new bytes = (n : ℕ) × (new ≡ appended old (take n bytes))
 
 -- two pieces appended one after the other are their join appended
-pub appended-append : (told : Option (List ℕ)) (a b : List ℕ) → appended (appended told a) b ≡ appended told (a ++ b)
+pub appended-append : (known : Option (List ℕ)) (a b : List ℕ) → appended (appended known a) b ≡ appended known (a ++ b)
 appended-append None a b = refl
 appended-append (Some written) a b = ap (λ x. Some x) (append_assoc written a b)

@@ -5,7 +5,7 @@ ghost use Rattle.loft_base.specs.declared.errors.FileError.TheVariants.{Failed a
 
 use std::alloc::{AllocError, AllocFailed};
 
-/// No memory was left for what the call had to make.
+/// Out of memory for what the call had to make.
 #[derive(Clone, Copy, Debug, PartialEq, Eq)]
 pub struct NoMemory;
 
@@ -24,7 +24,7 @@ pub enum FileError {
     Failed,
     /// It is longer than the limit.
     TooLong,
-    /// No memory was left for its bytes.
+    /// Out of memory for its bytes.
     NoMemory,
 }
 

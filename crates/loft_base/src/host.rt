@@ -1,18 +1,20 @@
-//! The outside over the host: real files and standard output. Nothing is told of contents.
+//! The outside over the host: real files and standard output. Of contents nothing is known.
 
-ghost use Rattle.std.specs.Prelude.{◌≡◌, ◌≤◌, ◌<◌, ◌^◌, None, true, length, IfOk, OnErr};
-ghost use Rattle.loft_base.specs.Outside.{Rose};
+ghost use Rattle.std.specs.Prelude.{◌≡◌, ◌≢◌, ◌≤◌, ◌<◌, None, true, length, IfOk};
+ghost use Rattle.loft_base.specs.Streams.{ReadsOn};
 
 use crate::errors::Failed;
 use crate::outside::{Files, Sink};
+use crate::streams::{read_some, write_whole};
 use std::io::Read;
-use std::{fs, rt};
+use std::{fs, io, rt};
 
-/// Files of the host. Every name may be asked, as a path.
+/// Files of the host. Every name may be asked, as a path. A part from offset 0 opens the file of its
+/// name; a later part goes on in the file that was opened last.
 #[derive(Drop)]
 pub struct HostFiles<'a, R: rt::Files> {
     rt: &'a R,
-    open: Option<R::File>,
+    file: Option<R::File>,
     faults: u64,
     place: u64,
 }
@@ -25,22 +27,35 @@ impl<'a, R: rt::Files> HostFiles<'a, R> {
     {
         HostFiles {
             rt,
-            open: None,
+            file: None,
             faults: 0,
             place: 0,
         }
     }
 
-    /// Opens the file where the place is its start, and reads on in the open one.
+    /// Opens the file of the name where the part begins at its start, and reads on in the open
+    /// file.
     fn read_part(&mut self, name: &str, from: u64, into: &mut [u8]) -> Result<usize, Failed>
         ensures count { IfOk result (λ k. k ≤ length into.old) }
+        ensures reads_on { from ≢ 0 →
+            ReadsOn ⟦<R::File as Read>⟧.remaining self.old.file self.new.file result into.new }
         ensures same_faults { self.new.faults ≡ self.old.faults }
     {
         if from == 0 {
-            self.open = Some(fs::open(self.rt, name).map_err(|_| Failed)?);
+            self.file = Some(fs::open(self.rt, name).map_err(|_| Failed)?);
         }
-        let file = self.open.as_mut().ok_or(Failed)?;
-        file.read(into).map_err(|_| Failed)
+        read_on(&mut self.file, into)
+    }
+}
+
+/// Reads some bytes of the open file. `Failed` comes where none is open, or the read failed.
+fn read_on<F: Read>(file: &mut Option<F>, into: &mut [u8]) -> Result<usize, Failed>
+    ensures count { IfOk result (λ k. k ≤ length into.old) }
+    ensures reads_on { ReadsOn F.remaining file.old file.new result into.new }
+{
+    match file {
+        Some(file) => read_some(file, into),
+        None => Err(Failed),
     }
 }
 
@@ -66,7 +81,8 @@ impl<R: rt::Files> Files for HostFiles<'_, R> {
     }
 }
 
-/// The standard output of a runtime.
+/// The standard output of a runtime. A piece is written whole, however little the output takes at
+/// once.
 #[derive(Drop)]
 pub struct HostSink<'a, R: Print> {
     rt: &'a R,
@@ -80,19 +96,6 @@ impl<'a, R: Print> HostSink<'a, R> {
     {
         HostSink { rt, faults: 0 }
     }
-
-    /// Writes the whole of a piece.
-    fn write_piece(&self, bytes: &[u8]) -> Result<(), Failed> {
-        let mut rest = bytes;
-        while !rest.is_empty() {
-            let count = self.rt.write_some(rest).map_err(|_| Failed)?;
-            if count == 0 {
-                return Err(Failed);
-            }
-            rest = &rest[count..];
-        }
-        Ok(())
-    }
 }
 
 impl<R: Print> Sink for HostSink<'_, R> {
@@ -101,7 +104,7 @@ impl<R: Print> Sink for HostSink<'_, R> {
     ghost faults = { λ sink. sink.faults };
 
     fn put(&mut self, bytes: &[u8]) -> Result<(), Failed> {
-        let written = self.write_piece(bytes);
+        let written = write_whole(&mut io::writer(self.rt), bytes);
         if written.is_err() {
             self.faults = self.faults.saturating_add(1);
         }

@@ -1,18 +1,18 @@
 //! Numbers that name what a program declares, names of threads, and values.
 
-/// A scheduler, by its place among the declarations of schedulers, from 0.
+/// A scheduler, by its index among the declarations of schedulers, from 0.
 #[derive(Clone, Copy, Debug, PartialEq, Eq, PartialOrd, Ord, Hash)]
 pub struct SchedId(pub u32);
 
-/// An event, by its place among the declarations of events, from 0.
+/// An event, by its index among the declarations of events, from 0.
 #[derive(Clone, Copy, Debug, PartialEq, Eq, PartialOrd, Ord, Hash)]
 pub struct EventId(pub u32);
 
-/// A shared variable, by its place among the declarations of shared variables, from 0.
+/// A shared variable, by its index among the declarations of shared variables, from 0.
 #[derive(Clone, Copy, Debug, PartialEq, Eq, PartialOrd, Ord, Hash)]
 pub struct SharedId(pub u32);
 
-/// A module, by its place among the declarations of modules, from 0.
+/// A module, by its index among the declarations of modules, from 0.
 #[derive(Clone, Copy, Debug, PartialEq, Eq, PartialOrd, Ord, Hash)]
 pub struct ModuleId(pub u32);
 

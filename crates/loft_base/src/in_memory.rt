@@ -1,9 +1,9 @@
 //! The outside in memory.
 
-ghost use Rattle.std.specs.Prelude.{◌≡◌, ◌-◌, ◌+◌, ◌^◌, ◌<◌, ◌≤◌, ℕ, List, [], Some, None, true, ◌++◌, ◌↔◌, is_some, is_none, length, IsOk, IfOk, OnOk, OnErr, vec_len, vec_capacity, if◌then◌else◌};
+ghost use Rattle.std.specs.Prelude.{◌≡◌, ◌-◌, ◌+◌, ◌^◌, ◌<◌, ◌≤◌, ℕ, List, [], Some, None, true, false, ◌++◌, ◌↔◌, length, IsOk, IfOk, OnOk, OnErr, vec_len, vec_capacity, if◌then◌else◌};
 ghost use Rattle.std.specs.Str.{bytes_eq};
 ghost use Rattle.loft_base.specs.Outside.{Rose, IsPart};
-ghost use Rattle.loft_base.specs.MemFiles.{contents_of};
+ghost use Rattle.loft_base.specs.MemFiles.{contents_of, is_planned};
 
 use crate::errors::{Failed, NoMemory};
 use crate::outside::{Files, Gate, Sink, Turn};
@@ -21,11 +21,15 @@ pub struct MemFiles {
 }
 
 impl MemFiles {
-    /// No files.
+    ghost use Rattle.loft_base.specs.MemFiles.{faults_of, place_of};
+
+    /// No files, and no fault is planned.
+    #[tactic(auto, unfolding(crate::specs::MemFiles::is_planned))]
     pub fn new(alloc: Global) -> Result<MemFiles, NoMemory>
         ensures empty { IfOk result (λ files. (q : List ℕ) → contents_of files q ≡ None) }
-        ensures no_fault { IfOk result (λ files. ⟦<MemFiles as Files>⟧.faults files ≡ 0) }
-        ensures at_start { IfOk result (λ files. ⟦<MemFiles as Files>⟧.place files ≡ 0) }
+        ensures unplanned { IfOk result (λ files. is_planned files ≡ false) }
+        ensures no_fault { IfOk result (λ files. faults_of files ≡ 0) }
+        ensures at_start { IfOk result (λ files. place_of files ≡ 0) }
     {
         Ok(MemFiles {
             files: HashMap::new(alloc),
@@ -34,13 +38,17 @@ impl MemFiles {
         })
     }
 
-    /// Adds a file. It takes the place of an earlier one of its name; where no memory is left
-    /// the files stay.
+    /// Adds a file, or replaces the earlier one of its name. Where it is out of memory the files
+    /// stay.
+    #[tactic(auto, unfolding(crate::specs::MemFiles::is_planned))]
     pub fn add(&mut self, alloc: Global, name: &str, bytes: &[u8]) -> Result<(), NoMemory>
-        ensures ok { OnOk result ((q : List ℕ) → contents_of self.new q ≡ (if bytes_eq q name.now then Some bytes.now else contents_of self.old q)) }
-        ensures err { OnErr result ((q : List ℕ) → contents_of self.new q ≡ contents_of self.old q) }
-        ensures same_faults { ⟦<MemFiles as Files>⟧.faults self.new ≡ ⟦<MemFiles as Files>⟧.faults self.old }
-        ensures same_place { ⟦<MemFiles as Files>⟧.place self.new ≡ ⟦<MemFiles as Files>⟧.place self.old }
+        ensures ok { OnOk result ((q : List ℕ) → contents_of self.new q ≡
+            (if bytes_eq q name.now then Some bytes.now else contents_of self.old q)) }
+        ensures err { OnErr result
+            ((q : List ℕ) → contents_of self.new q ≡ contents_of self.old q) }
+        ensures same_plan { is_planned self.new ≡ is_planned self.old }
+        ensures same_faults { faults_of self.new ≡ faults_of self.old }
+        ensures same_place { place_of self.new ≡ place_of self.old }
     {
         let name = String::from_str(alloc, name)?;
         let bytes = Vec::from_slice(alloc, bytes)?;
@@ -50,19 +58,48 @@ impl MemFiles {
 }
 
 impl Files for MemFiles {
+    ghost use Rattle.std.specs.Prelude.{IsTrue, IsErr, IfSome};
+    ghost use Rattle.loft_base.specs.MemFiles.{faults_of, place_of, never_fails, always_fails};
+    ghost use Rattle.loft_base.specs.Outside.{IsNextPlace};
+
     ghost contents = { contents_of };
 
-    ghost faults = { λ files. files.faults };
+    ghost faults = { faults_of };
 
     ghost may_ask = { λ _ _. true };
 
-    ghost place = { λ files. files.place };
+    ghost place = { place_of };
 
-    ghost never_fails = { λ files name. is_some (contents_of files name) };
+    ghost never_fails = { never_fails };
 
-    ghost always_fails = { λ files name. is_none (contents_of files name) };
+    ghost always_fails = { always_fails };
 
-    fn part(&mut self, name: &str, from: u64, into: &mut [u8]) -> Result<usize, Failed> {
+    /// Reads some bytes of a file that was added; another name is a fault. A part of an added file
+    /// fails only where a fault was planned.
+    #[tactic(auto, unfolding(crate::specs::MemFiles::is_planned))]
+    fn part(&mut self, name: &str, from: u64, into: &mut [u8]) -> Result<usize, Failed>
+        requires room { 0 < length into.old }
+        requires next { IsNextPlace from (place_of self.old) }
+        requires below { from + length into.old < 2 ^ 63 }
+
+        ensures count { IfOk result (λ k. k ≤ length into.old) }
+        ensures bytes { IfOk result (λ k. IfSome (contents_of self.old name.now)
+            (λ file. IsPart file from k into.new)) }
+        ensures ended { IfOk result (λ k. place_of self.new ≡ from + k) }
+
+        ensures cause { OnErr result (Rose (faults_of self.old) (faults_of self.new)) }
+        ensures restarted { OnErr result (place_of self.new ≡ 0) }
+        ensures never_falls { faults_of self.old ≤ faults_of self.new }
+
+        ensures sure { IsTrue (never_fails self.old name.now) → IsOk result }
+        ensures no_fault { OnOk result (faults_of self.new ≡ faults_of self.old) }
+        ensures refused { IsTrue (always_fails self.old name.now) → IsErr result }
+
+        ensures same_contents { contents_of self.new ≡ contents_of self.old }
+        ensures same_plan { is_planned self.new ≡ is_planned self.old }
+        ensures same_sure { never_fails self.new ≡ never_fails self.old }
+        ensures same_refused { always_fails self.new ≡ always_fails self.old }
+    {
         let Some(file) = self.files.get(name) else {
             self.faults = self.faults.saturating_add(1);
             self.place = 0;
@@ -74,7 +111,7 @@ impl Files for MemFiles {
     }
 }
 
-/// Copies what fits of a file's bytes from a place, and gives how many these are.
+/// Copies what fits of a file's bytes from an offset, and gives how many these are.
 fn copy_from(file: &[u8], from: u64, into: &mut [u8]) -> usize
     requires { 0 < length into.old }
     ensures count { result ≤ length into.old }
@@ -92,8 +129,8 @@ fn copy_from(file: &[u8], from: u64, into: &mut [u8]) -> usize
     count
 }
 
-/// A sink in memory, with a fixed capacity. A piece that doesn't fit is a fault that appends
-/// nothing.
+/// A sink in memory, with a fixed capacity in bytes. A piece that doesn't fit is a fault that
+/// appends nothing.
 #[derive(Drop)]
 pub struct MemSink {
     bytes: Vec<u8>,
@@ -104,13 +141,15 @@ pub struct MemSink {
 }
 
 impl MemSink {
-    ghost use Rattle.loft_base.specs.MemSink.{bytes_of, room_of, faults_of};
+    ghost use Rattle.loft_base.specs.MemSink.{bytes_of, room_of, faults_of, plan_of};
 
-    /// An empty sink that takes so many bytes.
+    /// An empty sink that takes `capacity` bytes; no fault is planned.
+    #[tactic(auto, unfolding(crate::specs::MemSink::plan_of))]
     pub fn new(alloc: Global, capacity: usize) -> Result<MemSink, NoMemory>
         ensures empty { IfOk result (λ sink. bytes_of sink ≡ []) }
         ensures room { IfOk result (λ sink. room_of sink ≡ capacity) }
         ensures no_fault { IfOk result (λ sink. faults_of sink ≡ 0) }
+        ensures unplanned { IfOk result (λ sink. plan_of sink ≡ []) }
     {
         let bytes = Vec::with_capacity(alloc, capacity)?;
         Ok(MemSink {
@@ -129,23 +168,35 @@ impl MemSink {
 }
 
 impl Sink for MemSink {
-    ghost use Rattle.loft_base.specs.MemSink.{bytes_of, room_of, faults_of};
+    ghost use Rattle.std.specs.Prelude.{drop, IsNone, IfNone};
+    ghost use Rattle.loft_base.specs.Outside.{GrowsByPrefix};
+    ghost use Rattle.loft_base.specs.MemSink.{bytes_of, room_of, faults_of, plan_of, planned_keep, known_room};
 
     ghost written = { λ sink. Some (bytes_of sink) };
 
     ghost faults = { faults_of };
 
-    ghost room = { room_of };
+    ghost room = { known_room };
 
-    /// Appends a piece exactly where it fits; else it is a fault that appends nothing.
+    /// Appends a piece exactly where it fits and no fault is planned for it. Else it is a fault,
+    /// and where none is planned nothing is appended.
+    #[tactic(auto, unfolding(crate::specs::MemSink::plan_of))]
     fn put(&mut self, bytes: &[u8]) -> Result<(), Failed>
         requires { 0 < length bytes.now }
 
-        ensures fits { IsOk result ↔ (length bytes.now ≤ room_of self.old) }
+        ensures fits { IsOk result ↔
+            (IsNone (planned_keep self.old) × (length bytes.now ≤ room_of self.old)) }
         ensures ok { OnOk result (bytes_of self.new ≡ bytes_of self.old ++ bytes.now) }
-        ensures failed { OnErr result (bytes_of self.new ≡ bytes_of self.old) }
         ensures room_left { OnOk result (room_of self.new + length bytes.now ≡ room_of self.old) }
-        ensures same_room { OnErr result (room_of self.new ≡ room_of self.old) }
+
+        // A fault appends a prefix, and nothing where no fault is planned.
+        ensures prefix { OnErr result
+            (GrowsByPrefix (Some (bytes_of self.old)) (Some (bytes_of self.new)) bytes.now) }
+        ensures failed { OnErr result
+            (IfNone (planned_keep self.old) (bytes_of self.new ≡ bytes_of self.old)) }
+        ensures same_room { OnErr result
+            (IfNone (planned_keep self.old) (room_of self.new ≡ room_of self.old)) }
+        ensures plan { plan_of self.new ≡ drop 1 (plan_of self.old) }
 
         ensures no_fault { OnOk result (faults_of self.new ≡ faults_of self.old) }
         ensures cause { OnErr result (Rose (faults_of self.old) (faults_of self.new)) }

@@ -1,5 +1,6 @@
-//! What every other crate stands on: ids, values, lists, 64-bit arithmetic, and the outside
-//! (files, a sink for the answer, a gate) with its forms in memory and over the host.
+//! What every other crate stands on: ids, values, lists, 64-bit arithmetic, the outside (files, a
+//! sink for the answer, a gate) with its forms in memory and over the host, and the writing of a
+//! text to a sink.
 #![tactic(auto)]
 
 mod arithmetic;
@@ -9,9 +10,11 @@ mod ids;
 mod in_memory;
 mod lists;
 mod outside;
+mod streams;
 #[cfg(test)]
 mod tests;
 mod whole;
+mod writing;
 
 pub use arithmetic::{add, division_law, less, mul, quot, rem, sub, wrapping_law};
 pub use errors::{Div, Failed, FileError, NoMemory};
@@ -21,3 +24,4 @@ pub use in_memory::{MemFiles, MemSink, OpenGate};
 pub use lists::{Sequence, Values};
 pub use outside::{Files, Gate, Sink, Turn};
 pub use whole::read_whole;
+pub use writing::{WriteError, write_lines, write_piece};

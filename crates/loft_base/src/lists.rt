@@ -92,7 +92,7 @@ impl<T> Sequence<T> {
         self.items.pop()
     }
 
-    /// Takes the element at an index; those behind it move up.
+    /// Takes the element at an index; those after it move down by one index.
     pub fn remove(&mut self, index: usize) -> T
         requires { index < length self.old }
         ensures items { self.new ≡ remove self.old index }
@@ -103,7 +103,7 @@ impl<T> Sequence<T> {
 }
 
 impl<T: Drop> Sequence<T> {
-    /// Appends an element. Where no memory is left it is dropped and the list stays.
+    /// Appends an element. Where it is out of memory the element is dropped and the list stays.
     pub fn push(&mut self, value: T) -> Result<(), NoMemory>
         ensures ok { OnOk result (self.new ≡ self.old ++ value ∷ []) }
         ensures err { OnErr result (self.new ≡ self.old) }
@@ -112,7 +112,7 @@ impl<T: Drop> Sequence<T> {
         Ok(())
     }
 
-    /// Puts an element in place of the one at an index, which is dropped.
+    /// Replaces the element at an index; the old one is dropped.
     pub fn set(&mut self, index: usize, value: T)
         requires { index < length self.old }
         ensures { self.new ≡ slice_set self.old index value }
@@ -120,7 +120,7 @@ impl<T: Drop> Sequence<T> {
         self.items[index] = value;
     }
 
-    /// Keeps the first elements, at most so many.
+    /// Keeps the first elements, at most `count`.
     pub fn truncate(&mut self, count: usize)
         ensures { self.new ≡ take count self.old }
     {
@@ -144,7 +144,7 @@ impl<T: Copy> Sequence<T> {
         Ok(Sequence { items })
     }
 
-    /// Appends a copy of a slice. Where no memory is left the list stays.
+    /// Appends a copy of a slice. Where it is out of memory the list stays.
     pub fn extend_from_slice(&mut self, items: &[T]) -> Result<(), NoMemory>
         ensures ok { OnOk result (self.new ≡ self.old ++ items.now) }
         ensures err { OnErr result (self.new ≡ self.old) }

@@ -1,6 +1,6 @@
-//! The outside, as the program sees it: files that it reads, a sink that takes its answer, and a
-//! gate that threads pass. What an implementation may do is said by meanings that only contracts
-//! see; a fault comes only where its count of faults rose.
+//! The outside, as the program sees it (docs/OUTSIDE.md, "The outside"): files that it reads, a
+//! sink that takes its answer, and a gate that threads pass. What an implementation may do is said
+//! by meanings that only contracts see; a fault comes only where its count of faults rose.
 
 ghost use Rattle.std.specs.Prelude.{◌≡◌, ◌-◌, ◌+◌, ◌^◌, ◌<◌, ◌≤◌, ℕ, List, Option, Bool, false, length, IsTrue, IsOk, IsErr, IfOk, OnOk, OnErr, IfSome};
 ghost use Rattle.loft_base.specs.Outside.{Rose, IsNextPlace, IsPart, appended, GrowsByPrefix};
@@ -13,7 +13,7 @@ use std::thread::Threads;
 
 /// Files that can be read in parts, each named by a text.
 pub trait Files {
-    /// The bytes of the file of a name, where they are told.
+    /// The bytes of the file of a name, where they are known.
     ghost contents: { Self → List ℕ → Option (List ℕ) };
 
     /// How many faults there were.
@@ -22,7 +22,7 @@ pub trait Files {
     /// Whether a name may be asked.
     ghost may_ask: { Self → List ℕ → Bool };
 
-    /// The place where the last part ended: 0 at first and after a fault.
+    /// The offset at which the last part ended: 0 at first and after a fault.
     ghost place: { Self → ℕ };
 
     /// Whether a part of this name is known never to fail.
@@ -31,9 +31,10 @@ pub trait Files {
     /// Whether a part of this name is known to fail.
     ghost always_fails: { Self → List ℕ → Bool } = { λ _ _. false };
 
-    /// Reads some bytes of a file from a place into the front of a slice; what stands in the
-    /// slice behind them is left open. `Ok` has their number, 0 only at or past the file's end.
-    /// `Failed` comes only where the count of faults rose.
+    /// Reads some bytes of a file from an offset into the front of a slice; what stands after them
+    /// in the slice is left open. The offset is 0, or where the last part ended. `Ok` has the
+    /// number of bytes, 0 only at or past the file's end. `Failed` comes only where the count of
+    /// faults rose.
     fn part(&mut self, name: &str, from: u64, into: &mut [u8]) -> Result<usize, Failed>
         requires asked { IsTrue (may_ask self.old name.now) }
         requires room { 0 < length into.old }
@@ -41,7 +42,8 @@ pub trait Files {
         requires below { from + length into.old < 2 ^ 63 }
 
         ensures count { IfOk result (λ k. k ≤ length into.old) }
-        ensures bytes { IfOk result (λ k. IfSome (contents self.old name.now) (λ file. IsPart file from k into.new)) }
+        ensures bytes { IfOk result (λ k. IfSome (contents self.old name.now)
+            (λ file. IsPart file from k into.new)) }
         ensures ended { IfOk result (λ k. place self.new ≡ from + k) }
 
         ensures cause { OnErr result (Rose (faults self.old) (faults self.new)) }
@@ -49,7 +51,8 @@ pub trait Files {
         ensures never_falls { faults self.old ≤ faults self.new }
 
         ensures sure { IsTrue (never_fails self.old name.now) → IsOk result }
-        ensures no_fault { IsTrue (never_fails self.old name.now) → faults self.new ≡ faults self.old }
+        ensures no_fault { IsTrue (never_fails self.old name.now) →
+            faults self.new ≡ faults self.old }
         ensures refused { IsTrue (always_fails self.old name.now) → IsErr result }
 
         ensures same_contents { contents self.new ≡ contents self.old }
@@ -60,7 +63,7 @@ pub trait Files {
 
 /// Where the program writes its answer, piece by piece.
 pub trait Sink {
-    /// All bytes written so far, where they are told.
+    /// All bytes written so far, where they are known.
     ghost written: { Self → Option (List ℕ) };
 
     /// How many faults there were.

@@ -1,13 +1,15 @@
 //! Each public function once, with ample memory, and what no clause says.
 
+mod host;
+mod writing;
+
 use crate::{
-    Div, EventId, Failed, FileError, Files, Gate, HostFiles, HostSink, Maker, MemFiles, MemSink,
-    ModuleId, OpenGate, SchedId, Sequence, SharedId, Sink, ThreadId, Turn, Value, Values, add,
-    division_law, less, mul, quot, read_whole, rem, sub, wrapping_law,
+    Div, EventId, Failed, FileError, Files, Gate, Maker, MemFiles, MemSink, ModuleId, OpenGate,
+    SchedId, Sequence, SharedId, Sink, ThreadId, Turn, Value, Values, add, division_law, less, mul,
+    quot, read_whole, rem, sub, wrapping_law,
 };
 use std::alloc::{AllocError, Global};
 use std::test::Fail;
-use std::{env, fs};
 
 #[test]
 fn ids_compare_by_maker_and_number(rt: HostRuntime) {
@@ -91,7 +93,7 @@ fn lists(rt: HostRuntime) -> Result<(), Fail> {
     Ok(())
 }
 
-/// So many bytes.
+/// A file of `len` bytes.
 fn long_file(alloc: Global, len: usize) -> Result<Vec<u8>, AllocError> {
     vec![in alloc; b'x'; len]
 }
@@ -132,27 +134,4 @@ fn sink_in_memory_and_open_gate(rt: HostRuntime) -> Result<(), Fail> {
     assert_eq!(rt; sink.bytes(), b"abcgh".as_slice());
     OpenGate.pass(&rt, Turn::Block { w: 0 });
     Ok(())
-}
-
-#[test]
-fn files_of_the_host(rt: HostRuntime) -> Result<(), Fail> {
-    let path = env::temp_dir(&rt)?.join(rt.alloc(), "loft_base_files_of_the_host")?;
-    fs::write(&rt, path.as_path(), "some bytes")?;
-    let name = path.as_path().to_str().ok_or("a path that is no text")?;
-    let mut files = HostFiles::new(&rt);
-    let got = read_whole(rt.alloc(), &mut files, name, 10);
-    fs::remove_file(&rt, path.as_path())?;
-    assert_eq!(rt;
-        got.map_err(|_| "not read")?.as_slice(),
-        b"some bytes".as_slice()
-    );
-    let gone = read_whole(rt.alloc(), &mut files, name, 10);
-    assert_eq!(rt; gone.map(|bytes| bytes.len()), Err(FileError::Failed));
-    Ok(())
-}
-
-#[test]
-fn sink_of_the_host(rt: HostRuntime) {
-    let mut sink = HostSink::new(&rt);
-    assert_eq!(rt; sink.put(b"a piece\n"), Ok(()));
 }

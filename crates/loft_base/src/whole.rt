@@ -7,11 +7,11 @@ use crate::errors::FileError;
 use crate::outside::Files;
 use std::alloc::{AllocError, Global};
 
-/// How many bytes of a file are asked at once.
+/// How many bytes of a file are asked for at once.
 const PART: usize = 16384;
 
 /// Reads the whole file of a name. `TooLong` comes where it has more bytes than the limit,
-/// `Failed` only where the count of faults rose, `NoMemory` where no memory was left for the
+/// `Failed` only where the count of faults rose, `NoMemory` where it is out of memory for the
 /// bytes; what was read is then dropped. Each part that isn't the last takes at least one byte.
 pub fn read_whole<F: Files>(
     alloc: Global,
@@ -22,24 +22,29 @@ pub fn read_whole<F: Files>(
     requires asked { IsTrue (F.may_ask files.old name.now) }
     requires bounded { limit < 2 ^ 62 }
 
-    // The answer is the file, where its contents are told, and has at most `limit` bytes.
-    ensures whole { IfOk result (λ v. IfSome (F.contents files.old name.now) (λ file. v.items ≡ file)) }
+    // The answer is the file, where its contents are known, and has at most `limit` bytes.
+    ensures whole { IfOk result
+        (λ v. IfSome (F.contents files.old name.now) (λ file. v.items ≡ file)) }
     ensures within { IfOk result (λ v. vec_len v ≤ limit) }
     ensures ended { IfOk result (λ v. F.place files.new ≡ vec_len v) }
 
-    // A file that is too long ended past the limit, and is longer where its contents are told.
+    // A file that is too long ended past the limit, and is longer where its contents are known.
     ensures past_limit { IsErrOf result FileError.TooLong → limit < F.place files.new }
-    ensures longer { IsErrOf result FileError.TooLong → IfSome (F.contents files.old name.now) (λ file. limit < length file) }
+    ensures longer { IsErrOf result FileError.TooLong →
+        IfSome (F.contents files.old name.now) (λ file. limit < length file) }
 
     // A failure has its cause in this call.
-    ensures cause { IsErrOf result FileError.Failed → Rose (F.faults files.old) (F.faults files.new) }
+    ensures cause { IsErrOf result FileError.Failed →
+        Rose (F.faults files.old) (F.faults files.new) }
     ensures restarted { IsErrOf result FileError.Failed → F.place files.new ≡ 0 }
     ensures never_falls { F.faults files.old ≤ F.faults files.new }
 
     // What is known of a name's faults is known of the answer.
     ensures sure { IsTrue (F.never_fails files.old name.now) → result ≢ Err FileError.Failed }
-    ensures no_fault { IsTrue (F.never_fails files.old name.now) → F.faults files.new ≡ F.faults files.old }
-    ensures refused { IsTrue (F.always_fails files.old name.now) → IsErrOf result FileError.Failed ⊎ IsErrOf result FileError.NoMemory }
+    ensures no_fault { IsTrue (F.never_fails files.old name.now) →
+        F.faults files.new ≡ F.faults files.old }
+    ensures refused { IsTrue (F.always_fails files.old name.now) →
+        IsErrOf result FileError.Failed ⊎ IsErrOf result FileError.NoMemory }
 
     ensures same_contents { F.contents files.new ≡ F.contents files.old }
     ensures same_names { F.may_ask files.new ≡ F.may_ask files.old }
@@ -62,7 +67,7 @@ pub fn read_whole<F: Files>(
     }
 }
 
-/// So many zero bytes.
+/// `count` zero bytes.
 fn zeros(alloc: Global, count: usize) -> Result<Vec<u8>, AllocError>
     ensures { IfOk result (λ bytes. vec_len bytes ≡ count) }
 {

@@ -4,8 +4,8 @@ use Rattle.std.proofs.lemmas.Bool.{lt-leb}
 use Rattle.loft_form.specs.Form.{Language, Form, leaf, ◌▹◌, ◌∣◌, maybe, many, inside, counted, fresh, made, Grammar, Limits, State, begins, next_begins}
 use Rattle.loft_form.specs.Spells.{Below, Adds, Pays, owing, from_zero, Spelling, SpellsEach, Spells, SpellsRule}
 use Rattle.loft_form.specs.Reading.{◌>>=◌, done, with_first, within, tally, allowed, leaf_at, rule_at, read}
-use Rattle.loft_form.proofs.Eats.{least, many_more, many_done}
-use Rattle.loft_form.proofs.Clear.{Told, and_true, or_false, or_true_right, nullable, starts, goes_on, apart, agrees, leading, clear, Fair}
+use Rattle.loft_form.proofs.Progress.{least, many_more, many_done}
+use Rattle.loft_form.proofs.Disjoint.{Told, and_true, or_false, or_true_right, nullable, starts, goes_on, apart, agrees, leading, clear, Fair}
 
 -- ---- truth values
 
@@ -199,7 +199,7 @@ module _ {L : Language} (G : Grammar L) (R : Told L) (fair : Fair G R) (lim : Li
     lags f g cl ld ap' [] ss rest c x d e p = absurd (let h = sym (leading_takes R g ld) ∙ none_taken g c x d p in cc)
     lags f g cl ld ap' (s ∷ front) ss rest c x d e p = ap (next_begins f) e ∙ of_apart (begins f) (begins g) ap' (L.kind s) (sym (leading_starts R g ld (L.kind s)) ∙ starts_first g cl s front c x d p)
 
-    -- what stands behind a form in a sequence doesn't go on with it
+    -- what comes after a form in a sequence doesn't go on with it
     free_then : {a b : Type 0} (f : Form L a) (g : Form L b) → clear R g ≡ true → apart R (goes_on R f) (starts R g) ≡ true → (back rest : List L.Symbol) (c : State L) (y : b) (d : State L) → Sp g back c y d → Free L (goes_on R (f ▹ g)) rest → Free L (goes_on R f) (back ++ rest)
     free_then f g cl ap' [] rest c y d p free =
         free_weaker L (goes_on R (f ▹ g)) (goes_on R f) rest
@@ -279,6 +279,6 @@ module _ {L : Language} (G : Grammar L) (R : Told L) (fair : Fair G R) (lim : Li
       (free_weaker L (R.may_go_on r) (goes_on R (G r)) rest
       (λ k h. implied_not (goes_on R (G r) k) (R.may_go_on r k) (of_agrees (goes_on R (G r)) (R.may_go_on r) (fair.rule_goes_on r) k) h) free)
 
-  -- What is spelled is read, whatever stands behind it that doesn't go on with it.
+  -- What is spelled is read, whatever comes after it that doesn't go on with it.
   pub spelled_read : {a : Type 0} (n : ℕ) (f : Form L a) → clear R f ≡ true → (front rest : List L.Symbol) (c : State L) (x : a) (d : State L) → Spells lim n (SpellsRule G lim n) f front c x d → Free L (goes_on R f) rest → read G lim n f (front ++ rest) c ≡ done x rest d
   spelled_read n f cl front rest c x d p free = complete n (complete_rule n) f cl front (front ++ rest) rest c x d refl p free

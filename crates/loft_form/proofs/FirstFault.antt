@@ -7,14 +7,14 @@ use Rattle.loft_form.specs.declared.fault.Fault.TheVariants.{Expected, TooDeep, 
 use Rattle.loft_form.specs.Form.{Language, Form, Grammar, Limits, State}
 use Rattle.loft_form.specs.Reading.{Read, read, with_rest, all_of}
 use Rattle.loft_form.specs.Faults.{unlimited, SpellsWhole, StopsWhole, HasFault, left_of, rank_of, Precedes, IsFaultOf}
-use Rattle.loft_form.proofs.Clear.{Told}
+use Rattle.loft_form.proofs.Disjoint.{Told}
 use Rattle.loft_form.proofs.Checked.{Checked}
 use Rattle.loft_form.proofs.Raised.{freed, Deeper, Later, Keeps, read_keeps, Behind, Moves, Raised, raised_read}
 use Rattle.loft_form.proofs.Whole.{whole_found, spelled_whole, whole_stops, stopped_whole}
 
 -- ---- raised limits, for all of the symbols
 
--- a fault, if there is one, behind the symbol from which on k are left
+-- a fault, if there is one, after the symbol from which on k are left
 abbrev AllBehind : {A : Type 0} → Bool → ℕ → Result A Fault → Type 0
 AllBehind free k (Ok x) = Unit {0}
 AllBehind free k (Err (Expected j)) = j < k
@@ -69,9 +69,9 @@ all_within : {L : Language} {A : Type 0} (len : ℕ) (r : Read L A) → Keeps le
 all_within len (Ok x) h = rest_within len x.0 x.1.rest h
 all_within len (Err e) h = h
 
--- ---- a fault that is asked for by itself is the first one, or behind it
+-- ---- a fault that is asked for by itself is the first one, or after it
 
--- there is a first fault, and d is it or behind it
+-- there is a first fault, and d is it or after it
 abbrev Beside : {A : Type 0} → Result A Fault → Fault → Type 0
 Beside (Ok x) d = ⊥
 Beside (Err e) d = (d ≡ e) ⊎ Precedes e d
@@ -186,22 +186,6 @@ module _ {L : Language} {a : Type 0} {G : Grammar L} {R : Told L} {f : Form L a}
       go (Ok x) k = absurd (subst (λ r. Beside r e) k (beside e h.there))
       go (Err d) k = two d k (subst (λ r. Beside r e) k (beside e h.there)) (h.first d (has_fault d k))
 
-  -- They have one fault at most,
-  pub one_fault : (d e : Fault) → IsFaultOf G lim n f ss c d → IsFaultOf G lim n f ss c e → d ≡ e
-  one_fault d e p q = same_fault (Reads lim n) d e (only_fault e q) (only_fault d p)
-
-  -- none where they spell a value,
-  pub spelled_faultless : (x : a) (e : Fault) → SpellsWhole G lim n f ss c x → IsFaultOf G lim n f ss c e → ⊥
-  spelled_faultless x e p q = let h = sym (spelled_whole checked lim n ss c x p) ∙ only_fault e q in cc
-
-  -- and else one.
-  pub spelled_or_fault : ((x : a) × SpellsWhole G lim n f ss c x) ⊎ ((e : Fault) × IsFaultOf G lim n f ss c e)
-  spelled_or_fault = go (Reads lim n) refl
-    where
-      go : (r : Result a Fault) → Reads lim n ≡ r → ((x : a) × SpellsWhole G lim n f ss c x) ⊎ ((e : Fault) × IsFaultOf G lim n f ss c e)
-      go (Ok x) k = inl (x, whole_found checked lim n ss c x k)
-      go (Err e) k = inr (e, fault e k)
-
   -- It is where the symbols stop to be of the form with all limits at once, and the other way round.
   pub fault_stops : (e : Fault) → IsFaultOf G lim n f ss c e → StopsWhole G lim n f ss c e
   fault_stops e h = whole_stops checked lim n ss c e (only_fault e h)
@@ -212,6 +196,21 @@ module _ {L : Language} {a : Type 0} {G : Grammar L} {R : Told L} {f : Form L a}
   -- Where nothing is limited an Expected stays the same, however many nestings may be opened besides.
   pub expected_stays : (m k : ℕ) → n ≤ m → StopsWhole G unlimited n f ss c (Expected k) → StopsWhole G unlimited m f ss c (Expected k)
   expected_stays m k l p = whole_stops checked unlimited m ss c (Expected k) (more_kept unlimited n m (Expected k) tt l (stopped_whole checked unlimited n ss c (Expected k) p))
+
+  -- What is spelled within the limits is spelled without them,
+  pub spelled_freed : (x : a) → SpellsWhole G lim n f ss c x → SpellsWhole G unlimited n f ss c x
+  spelled_freed x p = whole_found checked unlimited n ss c x (subst (λ r. AllRaised false true r (Reads unlimited n)) (spelled_whole checked lim n ss c x p) (raised_all lim false true n n refl))
+
+  -- and stays so where more nestings may be opened.
+  pub spelled_stays : (m : ℕ) (x : a) → n ≤ m → SpellsWhole G unlimited n f ss c x → SpellsWhole G unlimited m f ss c x
+  spelled_stays m x l p = whole_found checked unlimited m ss c x (go (eq-or-lt_of_le l))
+    where
+      here : Reads unlimited n ≡ Ok x
+      here = spelled_whole checked unlimited n ss c x p
+
+      go : (n ≡ m) ⊎ (n < m) → Reads unlimited m ≡ Ok x
+      go (inl e) = ap (Reads unlimited) (sym e) ∙ here
+      go (inr h) = subst (λ r. AllRaised true false r (Reads unlimited m)) here (raised_all unlimited true false n m h)
 
 -- ---- a limit is passed before the symbols stop to be of the form
 

@@ -1,10 +1,10 @@
--- When each rule inside stands behind a symbol that opens a nesting.
+-- When each rule inside stands after a symbol that opens a nesting.
 use Rattle.std.proofs.Common.{◌≡◌, ℕ, zero, suc, ◌+◌, ◌<◌, Bool, true, false, cond, ◌==◌, ◌&&◌, ◌||◌, List, [], ◌∷◌, length, Result, Ok, Err, refl, arith}
 use Rattle.loft_form.specs.declared.fault.Fault.{Fault}
 use Rattle.loft_form.specs.Form.{Language, Form, leaf, ◌▹◌, ◌∣◌, maybe, many, inside, counted, fresh, made, Grammar, Limits, State, next_begins}
 use Rattle.loft_form.specs.Spells.{owing, from_zero}
 use Rattle.loft_form.specs.Reading.{Place, Read, ◌>>=◌, done, tally, paid, leaf_at, read}
-use Rattle.loft_form.proofs.Clear.{and_true}
+use Rattle.loft_form.proofs.Disjoint.{and_true}
 
 module _ {L : Language} where
   -- whoever takes the form opens a nesting
@@ -19,7 +19,7 @@ module _ {L : Language} where
   opens_of (fresh w f) = opens_of f
   opens_of (made h f) = opens_of f
 
-  -- each rule inside the form stands behind a symbol that opens a nesting; such a one stands before the form, or not
+  -- each rule inside the form stands after a symbol that opens a nesting; such a one stands before the form, or not
   abbrev pub guarded : {a : Type 0} → Bool → Form L a → Bool
   guarded before (leaf test value opens) = true
   guarded before (f ▹ g) = guarded before f && guarded (before || opens_of f) g

@@ -5,7 +5,7 @@ use Rattle.loft_form.specs.declared.stop.Stop.{Stop}
 use Rattle.loft_form.specs.declared.stop.Stop.TheVariants as stop
 use Rattle.loft_form.specs.Form.{Language, Form, many, Grammar, Limits, State, next_begins}
 use Rattle.loft_form.specs.Reading.{Place, Read, ◌>>=◌, with_first, read, done, Fails}
-use Rattle.loft_form.proofs.Eats.{least, many_more, many_done}
+use Rattle.loft_form.proofs.Progress.{least, many_more, many_done}
 
 abbrev pub with_front : {L : Language} {A : Type 0} → List A → Read L (List A) → Read L (List A)
 with_front xs (Ok y) = Ok (xs ++ y.0, y.1)

@@ -1,4 +1,4 @@
--- A fault depends on no symbol behind it.
+-- A fault depends on no symbol after it.
 use Rattle.std.proofs.Common.{◌≡◌, ℕ, zero, suc, ◌+◌, ◌-◌, ◌<◌, ◌≤◌, Bool, true, false, cond, nat_le, ◌==◌, ◌&&◌, List, [], ◌∷◌, ◌++◌, length, Option, Some, None, Result, Ok, Err, refl, sym, ap, subst, ◌∙◌, arith, ◌⊎◌, inl, inr}
 use Rattle.std.proofs.lemmas.List.{length-append}
 use Rattle.std.proofs.lemmas.Bool.{cases_lt}
@@ -7,16 +7,15 @@ use Rattle.loft_form.specs.declared.fault.Fault.TheVariants.{Expected, TooDeep, 
 use Rattle.loft_form.specs.Form.{Language, Form, leaf, ◌▹◌, ◌∣◌, maybe, many, inside, counted, fresh, made, Grammar, Limits, State, next_begins}
 use Rattle.loft_form.specs.Spells.{owing, from_zero}
 use Rattle.loft_form.specs.Reading.{Place, Read, ◌>>=◌, done, with_first, within, tally, paid, allowed, leaf_at, repeat, rule_at, read, with_rest, all_of}
-use Rattle.loft_form.specs.Faults.{SpellsWhole, IsFaultOf, left_of}
-use Rattle.loft_form.proofs.Eats.{Leaves, weaker, least, read_leaves}
-use Rattle.loft_form.proofs.Clear.{Told, Fair, and_true, clear}
+use Rattle.loft_form.specs.Faults.{IsFaultOf, left_of}
+use Rattle.loft_form.proofs.Progress.{Leaves, weaker, least, read_leaves}
+use Rattle.loft_form.proofs.Disjoint.{Told, Fair, and_true, clear}
 use Rattle.loft_form.proofs.Complete.{leading_least}
 use Rattle.loft_form.proofs.Checked.{Checked}
 use Rattle.loft_form.proofs.Raised.{counting, Keeps, keeps_made, keeps_first, keeps_repeat, read_keeps}
-use Rattle.loft_form.proofs.Whole.{spelled_whole}
 use Rattle.loft_form.proofs.FirstFault.{fault, only_fault}
 
--- the same fault, where k' symbols stand behind in place of k
+-- the same fault, where k' symbols come after in place of k
 abbrev pub moved : ℕ → ℕ → Fault → Fault
 moved k k' (Expected j) = Expected (j - k + k')
 moved k k' (TooDeep j) = TooDeep (j - k + k')
@@ -41,7 +40,7 @@ elsewhere : {L : Language} (lim : Limits L) (left left' : ℕ) (ws : List L.Coun
 elsewhere lim left left' [] c = refl
 elsewhere {L} lim left left' (w ∷ ws) c = elsewhere_within left left' (L.number w c) (lim.most w) (tally lim left ws (L.more w c)) (tally lim left' ws (L.more w c)) (elsewhere lim left left' ws (L.more w c))
 
--- two lists that are the same up to a symbol, at, and have other symbols behind it
+-- two lists that are the same up to and with a symbol, at, and have other symbols after it
 module _ (L : Language) (at : L.Symbol) (behind behind' : List L.Symbol) where
   abbrev one : List L.Symbol → List L.Symbol
   one front = front ++ at ∷ behind
@@ -211,11 +210,6 @@ module _ {L : Language} {a : Type 0} {G : Grammar L} {R : Told L} {f : Form L a}
       let p = all_same L at behind behind' (read G lim n f (front ++ at ∷ behind) c) (read G lim n f (front ++ at ∷ behind') c) (same L at behind behind' G R checked.fair lim n (same_rule L at behind behind' G R checked.fair lim n) f checked.form_clear front c) in
       (subst (λ r. AllSame L at behind behind' r (all_of (read G lim n f (front ++ at ∷ behind') c))) h p) l
 
-  -- A fault at a symbol or before it stays, whatever stands behind the symbol.
+  -- A fault at a symbol or before it stays, whatever comes after the symbol.
   pub fault_whatever : IsFaultOf G lim n f (front ++ at ∷ behind) c e → length behind < left_of e → IsFaultOf G lim n f (front ++ at ∷ behind') c (moved (length behind) (length behind') e)
   fault_whatever h l = fault checked lim n (front ++ at ∷ behind') c (moved (length behind) (length behind') e) (read_whatever (only_fault checked lim n (front ++ at ∷ behind) c e h) l)
-
-  -- So nothing that the form spells begins with the symbols up to a fault.
-  pub none_begins : (x : a) → IsFaultOf G lim n f (front ++ at ∷ behind) c e → length behind < left_of e → SpellsWhole G lim n f (front ++ at ∷ behind') c x → ⊥
-  none_begins x h l p =
-      let k = sym (spelled_whole checked lim n (front ++ at ∷ behind') c x p) ∙ read_whatever (only_fault checked lim n (front ++ at ∷ behind) c e h) l in cc

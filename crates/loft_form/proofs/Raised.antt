@@ -1,5 +1,5 @@
 -- Reading where more nestings may be opened, or nothing that is counted is limited: what was read stays the same, and so does Expected.
--- A fault that the limit gave lies behind its symbol then, if there is one.
+-- A fault that the limit gave lies after its symbol then, if there is one.
 use Rattle.std.proofs.Common.{◌≡◌, ℕ, zero, suc, ◌+◌, ◌<◌, ◌≤◌, Bool, true, false, cond, nat_le, ◌==◌, ◌&&◌, ◌||◌, List, [], ◌∷◌, length, Option, Some, None, Result, Ok, Err, refl, sym, ap, subst, arith}
 use Rattle.std.proofs.Math.Dec.{eqb-suc-zero}
 use Rattle.loft_form.specs.declared.fault.Fault.{Fault}
@@ -8,7 +8,7 @@ use Rattle.loft_form.specs.Form.{Language, Form, leaf, ◌▹◌, ◌∣◌, may
 use Rattle.loft_form.specs.Spells.{owing, from_zero}
 use Rattle.loft_form.specs.Reading.{Place, Read, ◌>>=◌, done, with_first, within, tally, paid, allowed, leaf_at, repeat, rule_at, read}
 use Rattle.loft_form.specs.Faults.{unlimited, left_of}
-use Rattle.loft_form.proofs.Clear.{and_true}
+use Rattle.loft_form.proofs.Disjoint.{and_true}
 use Rattle.loft_form.proofs.Guarded.{opens_of, guarded, or_cases, opened_read}
 
 -- ---- what is counted
@@ -19,7 +19,7 @@ module _ (L : Language) where
   sums [] c = c
   sums (w ∷ ws) c = sums ws (L.more w c)
 
-  -- within the limits all of them are counted; else there are too many at this place
+  -- within the limits all of them are counted; else there are too many at this symbol
   abbrev pub Tallied : ℕ → List L.Counted → L.Counts → Result L.Counts Fault → Type 0
   Tallied left ws c (Ok d) = d ≡ sums ws c
   Tallied left ws c (Err (Expected k)) = ⊥
@@ -143,19 +143,19 @@ abbrev pub Deeper : Bool → ℕ → ℕ → Type 0
 Deeper true n m = n < m
 Deeper false n m = m ≡ n
 
--- behind the symbol from which on k are left, or at it, where counts may still be limited
+-- after the symbol from which on k are left, or at it, where counts may still be limited
 abbrev pub Later : Bool → ℕ → ℕ → Type 0
 Later true k j = j < k
 Later false k j = j ≤ k
 
--- an answer behind the symbol from which on k are left; one more than a count allows may be that symbol itself, where counts are limited
+-- an answer after the symbol from which on k are left; one more than a count allows may be that symbol itself, where counts are limited
 abbrev pub Behind : {L : Language} {A : Type 0} → Bool → ℕ → Read L A → Type 0
 Behind free k (Ok x) = length x.1.rest < k
 Behind free k (Err (Expected j)) = j < k
 Behind free k (Err (TooDeep j)) = j < k
 Behind free k (Err (TooMany j limit)) = Later free k j
 
--- a fault whose limit is raised moves behind its symbol; else it stays
+-- a fault whose limit is raised moves to a symbol after its own; else it stays
 abbrev pub Moves : {L : Language} {A : Type 0} → Bool → Bool → Fault → Read L A → Type 0
 Moves true free e s = Behind free (left_of e) s
 Moves false free e s = s ≡ Err e
@@ -250,7 +250,7 @@ module _ (L : Language) where
   raised_kept deeper x ss left ws c (Err (TooDeep k)) h = absurd h
   raised_kept deeper x ss left ws c (Err (TooMany k limit)) h = refl
 
-  -- what was too deep is behind then
+  -- what was too deep is after the symbol then
   behind_freed : {A : Type 0} (x : A) (ss : List L.Symbol) (left : ℕ) (ws : List L.Counted) (c : L.Counts) (r : Result L.Counts Fault) → length ss < left → Tallied L left ws c r
       → Behind {L = L} false left (counting L x ss r)
   behind_freed x ss left ws c (Ok d) short h = short

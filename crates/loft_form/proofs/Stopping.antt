@@ -7,8 +7,8 @@ use Rattle.loft_form.specs.Form.{Language, Form, leaf, ◌▹◌, ◌∣◌, may
 use Rattle.loft_form.specs.Spells.{Below, Adds, owing, from_zero}
 use Rattle.loft_form.specs.Reading.{Place, Read, ◌>>=◌, done, with_first, within, tally, paid, allowed, leaf_at, repeat, rule_at, read}
 use Rattle.loft_form.specs.Stops.{Passed, Passes, Taking, Stopping, TakesOne, StopsOne, TakesTimes, StopsAfter, Takes, Stops, TakesRule, StopsRule}
-use Rattle.loft_form.proofs.Eats.{Leaves, weaker, least, many_more, many_done, read_leaves}
-use Rattle.loft_form.proofs.Clear.{Told, and_true, or_false, leading, clear, apart, Fair}
+use Rattle.loft_form.proofs.Progress.{Leaves, weaker, least, many_more, many_done, read_leaves}
+use Rattle.loft_form.proofs.Disjoint.{Told, and_true, or_false, leading, clear, apart, Fair}
 use Rattle.loft_form.proofs.Complete.{leaf_ok, leading_least, of_apart}
 
 -- what is read is taken, and a fault is a stop

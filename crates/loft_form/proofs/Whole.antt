@@ -11,7 +11,7 @@ use Rattle.loft_form.specs.Faults.{SpellsWhole, StopsWhole}
 use Rattle.loft_form.proofs.Sound.{Found, read_found}
 use Rattle.loft_form.proofs.Complete.{spelled_read}
 use Rattle.loft_form.proofs.Stopping.{Runs, read_runs, taken_read, stopped_read}
-use Rattle.loft_form.proofs.Clear.{Told}
+use Rattle.loft_form.proofs.Disjoint.{Told}
 use Rattle.loft_form.proofs.Checked.{Checked}
 
 with_rest_more : {A S : Type 0} (x : A) (rest : List S) → 0 < length rest → with_rest x rest ≡ Err (Expected (length rest))

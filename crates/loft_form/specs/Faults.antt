@@ -15,7 +15,7 @@ unlimited = record { most = λ w. None }
 abbrev pub SpellsWhole : {L : Language} {a : Type 0} → Grammar L → Limits L → ℕ → Form L a → List L.Symbol → State L → a → Type 0
 SpellsWhole {L} G lim n f ss c x = (d : State L) × Spells lim n (SpellsRule G lim n) f ss c x d
 
--- the symbols stop to be of the form; or the form takes some of them, and no further one may stand behind
+-- the symbols stop to be of the form; or the form takes some of them, and no further one may come after
 abbrev pub StopsWhole : {L : Language} {a : Type 0} → Grammar L → Limits L → ℕ → Form L a → Stopping L
 StopsWhole {L} G lim n f ss c e =
     Stops lim n (TakesRule G lim n) (StopsRule G lim n) f ss c e

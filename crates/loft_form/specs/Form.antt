@@ -1,7 +1,7 @@
 -- Grammars as data: forms, each with the type of what it stands for.
 use Rattle.std.specs.Prelude.{ℕ, Bool, false, ◌||◌, List, [], ◌∷◌, Option}
 
--- What a grammar is over: symbols, told apart by their kinds; rules that stand inside themselves, and what they stand for;
+-- What a grammar is over: symbols, which differ by their kinds; rules that stand inside themselves, and what they stand for;
 -- and what is counted, where `number` tells how many there are, `more` counts one more and `anew` counts from 0.
 pub record Language : Type 1 where
   pub Symbol : Type 0

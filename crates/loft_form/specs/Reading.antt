@@ -57,7 +57,7 @@ repeat (suc n) goes_on read ss c =
     then (read ss c >>= λ x. with_first x.0 (repeat n goes_on read x.1.rest x.1.state))
     else done [] ss c
 
--- a form, where so many nestings may still be opened, and rules are read by inner
+-- a form, where n nestings may still be opened, and rules are read by inner
 abbrev pub form_at : {L : Language} {a : Type 0} → Limits L → ℕ → ((r : L.Rule) → List L.Symbol → State L → Read L (L.Meaning r)) → Form L a → List L.Symbol → State L → Read L a
 form_at lim n inner (leaf test value opens) ss c = leaf_at lim (opens && n == 0) test value ss c
 form_at lim n inner (f ▹ g) ss c = form_at lim n inner f ss c >>= λ x. form_at lim n inner g x.1.rest x.1.state >>= λ y. Ok ((x.0, y.0), y.1)

@@ -2,7 +2,7 @@
 use Rattle.std.specs.Prelude.{◌≡◌, ℕ, zero, suc, ◌<◌, true, false, ◌==◌, ◌&&◌, List, [], ◌∷◌, ◌++◌, Option, Some, None, ◌⊎◌}
 use Rattle.loft_form.specs.Form.{Language, Form, leaf, ◌▹◌, ◌∣◌, maybe, many, inside, counted, fresh, made, Grammar, Limits, State}
 
--- so many are below the limit, if there is one
+-- n is below the limit, if there is one
 abbrev pub Below : Option ℕ → ℕ → Type 0
 Below None n = Unit {0}
 Below (Some limit) n = n < limit
@@ -25,7 +25,7 @@ module _ {L : Language} (lim : Limits L) where
   abbrev pub Pays : State L → State L → Type 0
   Pays c d = Adds c.due c.counts d.counts × (d.due ≡ [])
 
--- which symbols spell which value, where c was counted before and d behind
+-- which symbols spell which value, where c was counted before and d after
 abbrev pub Spelling : Language → Type 0 → Type 1
 Spelling L A = List L.Symbol → State L → A → State L → Type 0
 

@@ -5,7 +5,7 @@ use Rattle.loft_form.specs.declared.fault.Fault.TheVariants.{Expected, TooDeep, 
 use Rattle.loft_form.specs.Form.{Language, Form, leaf, ◌▹◌, ◌∣◌, maybe, many, inside, counted, fresh, made, Grammar, Limits, State, next_begins}
 use Rattle.loft_form.specs.Spells.{Below, Pays, owing, from_zero}
 
--- one more than so many passes this limit
+-- where n are counted already, one more passes this limit
 abbrev pub Passed : Option ℕ → ℕ → ℕ → Type 0
 Passed None n limit = ⊥
 Passed (Some most) n limit = (most ≤ n) × (limit ≡ most)

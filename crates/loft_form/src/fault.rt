@@ -1,6 +1,7 @@
 //! Where and why reading stops.
 
-/// Why a list of symbols stops to be of a form. A place is told by how many symbols are left there, so 0 is the end.
+/// Why a list of symbols stops to be of a form. Where is given by how many symbols are left there, so 0 is the end
+/// (docs/LANGUAGE.md, "The fault of a text").
 #[derive(Clone, Copy, Debug, PartialEq, Eq)]
 pub enum Fault {
     /// No symbol that may stand here.

@@ -21,7 +21,7 @@ use Rattle.loft_lex.proofs.Runs.{both, left_of, right_of, neither_right, none_of
 use Rattle.loft_lex.proofs.Pieces.{by_test, FrontFits, front_fits}
 use Rattle.loft_lex.proofs.Spelled.{no_sign_of_three}
 
--- A cut of what stands behind the front makes one of the text; a fault is one.
+-- A cut of what stands after the front makes one of the text; a fault is one.
 abbrev FrontCut : ℕ → List ℕ → Front → Type 0
 FrontCut b bs (Gap more) = (found : Found) → Cut (drop more bs) found → Cut (b ∷ bs) (behind (more + 1) found)
 FrontCut b bs (Piece kind more) = (found : Found) → Cut (drop more bs) found → Cut (b ∷ bs) (with_token (token kind 0 (more + 1)) (behind (more + 1) found))

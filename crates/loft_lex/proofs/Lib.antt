@@ -1,10 +1,12 @@
+pub mod Beginning
 pub mod Cuts
-pub mod Laws
 pub mod Numbers
 pub mod Pieces
+pub mod Readable
 pub mod Readings
 pub mod Runs
 pub mod Signs
+pub mod Spans
 pub mod Spelled
 pub mod Steps
 pub mod Words

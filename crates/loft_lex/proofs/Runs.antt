@@ -60,7 +60,7 @@ stops_after : (p : ℕ → Bool) (b : ℕ) (bs : List ℕ) (test : Bool) → p b
 stops_after p b bs true passes stop = let e : 1 + prefix_len p bs ≡ suc (prefix_len p bs) = omega arith in rw e stop
 stops_after p b bs false fails stop = fails
 
--- the byte behind them isn't
+-- the byte after them isn't
 pub run_stops : (p : ℕ → Bool) (bs : List ℕ) → begins p (drop (prefix_len p bs) bs) ≡ false
 run_stops p [] = refl
 run_stops p (b ∷ bs) = stops_after p b bs (p b) refl (run_stops p bs)

@@ -20,7 +20,7 @@ found_after spelling bytes x y others true same later found =
 found_after spelling bytes x y others false same later found = later found
 
 -- what is found by its spelling is spelled so
-found_spelled : {X : Type 0} (spelling : X → List ℕ) (bytes : List ℕ) (xs : List X) (y : X) → find (λ x. bytes_eq (spelling x) bytes) xs ≡ Some y → spelling y ≡ bytes
+pub found_spelled : {X : Type 0} (spelling : X → List ℕ) (bytes : List ℕ) (xs : List X) (y : X) → find (λ x. bytes_eq (spelling x) bytes) xs ≡ Some y → spelling y ≡ bytes
 found_spelled spelling bytes [] y found = cc
 found_spelled spelling bytes (x ∷ xs) y found = found_after spelling bytes x y (find (λ x. bytes_eq (spelling x) bytes) xs) (bytes_eq (spelling x) bytes) refl (found_spelled spelling bytes xs y) found
 

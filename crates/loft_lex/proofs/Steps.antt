@@ -67,7 +67,7 @@ same_steps (Gap more) g h e = e more
 same_steps (Piece kind more) g h e = ap (with_token (token kind 0 (more + 1))) (e more)
 same_steps (Fault fault) g h e = refl
 
--- what a text has is what stands at its front, and what the text behind that has
+-- what a text has is what stands at its front, and what the text after that has
 pub cons_step : (b : ℕ) (bs : List ℕ) → tokens (b ∷ bs) ≡ then_found (front b bs) (λ more. behind (more + 1) (tokens (drop more bs)))
 unfolding tokens_past
 cons_step b bs = same_steps (front b bs) _ _ (λ k.
@@ -80,7 +80,7 @@ first_step (b ∷ bs) h = cons_step b bs ∙ same_steps (front b bs) _ _ (λ k.
     let d : drop k bs ≡ drop (k + 1) (b ∷ bs) = rw add-one refl in
     ap (λ xs. behind (k + 1) (tokens xs)) d)
 
--- what was found before, and what is found behind it
+-- what was found before, and what is found after it
 abbrev pub with_front : List Token → Found → Found
 with_front ts (Ok us) = Ok (ts ++ us)
 with_front ts (Err e) = Err e
@@ -93,7 +93,7 @@ behind_token : (n : ℕ) (t : Token) (found : Found) → behind n (with_token t 
 behind_token n t (Ok us) = refl
 behind_token n t (Err e) = refl
 
--- what the tokens so far and the text from a place on give together
+-- what the tokens so far and the text from an offset on give together
 abbrev pub so_far : List Token → ℕ → List ℕ → Found
 so_far ts at text = with_front ts (behind at (tokens (drop at text)))
 

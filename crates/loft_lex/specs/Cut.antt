@@ -11,7 +11,7 @@ use Rattle.loft_lex.specs.declared.token.TokenKind.{TokenKind}
 use Rattle.loft_lex.specs.declared.token.TokenKind.TheVariants.{Name, Word, Number, Text, Sign}
 use Rattle.loft_lex.specs.declared.token.LexError.TheVariants.{BadByte, OpenText, LongName, LongText, BadNumber}
 
--- the byte behind the sign makes a longer one of it, or a comment
+-- the byte after the sign makes a longer one of it, or a comment
 abbrev pub lengthens : List ℕ → ℕ → Bool
 lengthens sign b = is_sign (sign ++ b ∷ []) || bytes_eq (sign ++ b ∷ []) (codes "//")
 

@@ -9,20 +9,20 @@ use Rattle.loft_lex.specs.declared.token.TokenKind.TheVariants.{Name, Word, Numb
 use Rattle.loft_lex.specs.declared.token.LexError.{LexError}
 use Rattle.loft_lex.specs.declared.token.LexError.TheVariants.{BadByte, OpenText, LongName, LongText, BadNumber}
 
--- A gap and a token take the first byte and so many more; the place of a fault counts from the front.
+-- A gap and a token take the first byte and so many more; the offset of a fault counts from the front.
 pub data Front : Type 0 where
   Gap : ℕ → Front
   Piece : TokenKind → ℕ → Front
   Fault : LexError → Front
 
--- a letter and the name bytes behind it: at most 64, a word where they spell one, else a name
+-- a letter and the name bytes after it: at most 64, a word where they spell one, else a name
 unfoldable pub name_front : ℕ → List ℕ → Front
 name_front b bs =
     let more = prefix_len is_name_byte bs in
     if nat_lt 64 (more + 1) then Fault (LongName 0)
     else (if is_word (b ∷ take more bs) then Piece Word more else Piece Name more)
 
--- a digit and those behind it: not too large, and no letter follows
+-- a digit and those after it: not too large, and no letter follows
 unfoldable pub number_front : ℕ → List ℕ → Front
 number_front b bs =
     let more = prefix_len is_digit bs in
@@ -37,7 +37,7 @@ text_end inside (b ∷ bs) =
     if b == 34 then Piece Text (inside + 1)
     else (if b == 10 then Fault (OpenText 0) else Fault (BadByte (inside + 1)))
 
--- behind a quote: at most 120 bytes that may stand in a text, and what ends it
+-- after a quote: at most 120 bytes that may stand in a text, and what ends it
 unfoldable pub text_front : List ℕ → Front
 text_front bs =
     let inside = prefix_len is_text_byte bs in

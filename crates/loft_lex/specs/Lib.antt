@@ -3,6 +3,7 @@ pub mod Cut
 pub mod Fits
 pub mod Front
 pub mod Scan
+pub mod Seen
 pub mod Sign
 pub mod Symbol
 pub mod Tokens

@@ -10,7 +10,7 @@ use Rattle.loft_lex.specs.declared.token.TokenKind.{TokenKind}
 use Rattle.loft_lex.specs.declared.token.TokenKind.TheVariants.{Name, Word, Number, Text, Sign}
 
 -- A name with its bytes, a word, a number with its value, a text with the bytes between its quotes, a sign.
--- No token of a text is `Unreadable`: its bytes are the word or sign that its kind says.
+-- No token of a text is `Unreadable` (`lex`): its bytes are the word or sign that its kind says.
 pub data What : Type 0 where
   Named : List ℕ → What
   Keyword : LanguageWord → What
@@ -19,7 +19,7 @@ pub data What : Type 0 where
   Mark : LanguageSign → What
   Unreadable : What
 
--- a symbol of the grammar, and the place of its first byte
+-- a symbol of the grammar, and the offset of its first byte
 pub record Symbol : Type 0 where
   pub at : ℕ
   pub what : What

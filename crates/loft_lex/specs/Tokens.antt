@@ -27,18 +27,18 @@ abbrev pub behind : ℕ → Found → Found
 behind n (Ok ts) = Ok (map (token_behind n) ts)
 behind n (Err e) = Err (fault_behind n e)
 
--- a token first, unless a fault comes behind it
+-- a token first, unless a fault comes after it
 abbrev pub with_token : Token → Found → Found
 with_token t (Ok ts) = Ok (t ∷ ts)
 with_token t (Err e) = Err e
 
--- what stands at the front, and what is found behind it
+-- what stands at the front, and what is found after it
 abbrev pub then_found : Front → (ℕ → Found) → Found
 then_found (Gap more) rest = rest more
 then_found (Piece kind more) rest = with_token (record { kind = kind; from = 0; to = more + 1 }) (rest more)
 then_found (Fault e) rest = Err e
 
--- What is found past the first n bytes of a text, which belong to what stands before; places count from its first byte.
+-- What is found past the first n bytes of a text, which belong to what stands before; offsets count from its first byte.
 unfoldable pub tokens_past : ℕ → List ℕ → Found
 tokens_past n [] = Ok []
 tokens_past (suc n) (b ∷ bs) = behind 1 (tokens_past n bs)
@@ -57,7 +57,7 @@ IsFirstFault text (LongText at) = tokens text ≡ Err (LongText at)
 IsFirstFault text (BadNumber at) = tokens text ≡ Err (BadNumber at)
 IsFirstFault text NoMemory = Unit {0}
 
--- spans aren't empty, and each begins at or behind the end of the one before
+-- spans aren't empty, and each begins at or after the end of the one before
 abbrev pub Rising : ℕ → List Token → Type 0
 Rising at [] = Unit {0}
 Rising at (t ∷ ts) = (at ≤ t.from) × (t.from < t.to) × Rising t.to ts

@@ -1,4 +1,4 @@
--- How each word of the language is spelled (docs/LANGUAGE.md, "Words").
+-- How each word of the language is spelled (docs/LANGUAGE.md, "Words of the language").
 use Rattle.std.specs.Prelude.{ℕ, Bool, Option, is_some, List, [], ◌∷◌, codes}
 use Rattle.std.specs.List.{find}
 use Rattle.std.specs.Str.{bytes_eq}

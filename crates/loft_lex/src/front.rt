@@ -1,6 +1,6 @@
 //! What stands at the front of a text.
 
-ghost use Rattle.std.specs.Prelude.{◌≡◌, ◌+◌, ◌<◌, ◌≤◌, ◌^◌, ◌∷◌, ◌==◌, length, MatchOption};
+ghost use Rattle.std.specs.Prelude.{◌≡◌, ◌+◌, ◌<◌, ◌≤◌, ◌∷◌, ◌==◌, length, MatchOption};
 ghost use Rattle.std.specs.List.{prefix_len};
 ghost use Rattle.loft_lex.specs.Bytes.{is_blank, is_digit, is_letter, begins, value_of, max_number};
 ghost use Rattle.loft_lex.specs.Front.{name_front, number_front, text_end, text_front, sign_of_one, sign_front, front_of};
@@ -10,7 +10,7 @@ use crate::sign::Sign;
 use crate::token::{LexError, TokenKind};
 use crate::word::Word;
 
-/// What stands at the front: a gap and a token take the first byte and `more` behind it, and the place of a
+/// What stands at the front: a gap and a token take the first byte and `more` after it, and the offset of a
 /// fault counts from the front.
 #[derive(Clone, Copy, Debug, PartialEq, Eq)]
 pub enum Step {
@@ -111,7 +111,7 @@ fn begins_with_slash(bytes: &[u8]) -> bool
     }
 }
 
-/// The name or word that begins with the letter `b`, with `bytes` behind it.
+/// The name or word that begins with the letter `b`, with `bytes` after it.
 #[tactic(auto, unfolding(crate::specs::Front::name_front))]
 fn name_step(b: u8, bytes: &[u8], rest: &[u8]) -> Step
     requires { rest.now ≡ b ∷ bytes.now }
@@ -129,7 +129,7 @@ fn name_step(b: u8, bytes: &[u8], rest: &[u8]) -> Step
     Step::Piece { kind, more }
 }
 
-/// The number that begins with the digit `b`, with `bytes` behind it.
+/// The number that begins with the digit `b`, with `bytes` after it.
 #[tactic(auto, unfolding(crate::specs::Front::number_front))]
 fn number_step(b: u8, bytes: &[u8], rest: &[u8]) -> Step
     requires { rest.now ≡ b ∷ bytes.now }
@@ -197,7 +197,7 @@ fn sign_of_one(b: u8) -> Step
     }
 }
 
-/// The longest sign that begins with `b`, with `bytes` behind it.
+/// The longest sign that begins with `b`, with `bytes` after it.
 #[tactic(auto, unfolding(crate::specs::Front::sign_front))]
 fn sign_step(b: u8, bytes: &[u8]) -> Step
     ensures front { front_seen result ≡ sign_front b bytes.now }

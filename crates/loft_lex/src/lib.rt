@@ -2,20 +2,24 @@
 #![tactic(auto)]
 
 mod front;
+mod laws;
 mod sign;
+mod symbol;
 #[cfg(test)]
 mod tests;
 mod token;
 mod word;
 
-ghost use Rattle.std.specs.Prelude.{◌≡◌, ◌≤◌, ◌↔◌, Ok, All, IfOk, IfErr, length};
-ghost use Rattle.loft_lex.specs.Tokens.{Found, tokens, IsFirstFault, Rising};
-ghost use Rattle.loft_lex.specs.Cut.{Cut};
+ghost use Rattle.std.specs.Prelude.{◌≡◌, ◌≢◌, ◌≤◌, Ok, All, IfOk, IfErr, length};
+ghost use Rattle.loft_lex.specs.Tokens.{tokens, IsFirstFault, Rising};
 ghost use Rattle.loft_lex.specs.Fits.{Fits};
+ghost use Rattle.loft_lex.specs.Symbol.{symbols, Unreadable};
 
 use crate::front::{Step, next_step};
+pub use laws::tokens_are_cut;
 pub use sign::Sign;
 use std::alloc::Global;
+pub use symbol::{Symbol, What, symbols};
 pub use token::{LexError, Token, TokenKind, Tokens};
 pub use word::Word;
 
@@ -26,17 +30,15 @@ pub const MAX_TEXT_LEN: usize = 4194304;
 ///
 /// # Errors
 ///
-/// The first lexical fault of the text in reading order and its place; `NoMemory` where there was no
-/// memory for the tokens, whatever the text is.
+/// The first lexical fault of the text in reading order and its offset; `NoMemory` where the memory
+/// for the tokens ran out, whatever the text is.
 pub fn lex(alloc: Global, text: &[u8]) -> Result<Tokens, LexError>
     requires { length text.now ≤ MAX_TEXT_LEN }
     ensures found { IfOk result (λ ts. tokens text.now ≡ Ok ts) }
     ensures fault { IfErr result (IsFirstFault text.now) }
     ensures fits { IfOk result (All (Fits text.now)) }
     ensures rising { IfOk result (Rising 0) }
-
-    // What is found is the one way to cut the text, as the page of the language says it.
-    ensures cut { (found : Found) → (tokens text.now ≡ found) ↔ Cut text.now found }
+    ensures readable { IfOk result (λ ts. All (λ s. s.what ≢ Unreadable) (symbols text.now ts)) }
 {
     let mut items = Vec::new(alloc);
     let mut at = 0;

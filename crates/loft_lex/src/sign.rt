@@ -1,9 +1,10 @@
 //! The signs of the language (docs/LANGUAGE.md, "Signs").
 
-ghost use Rattle.std.specs.Prelude.{◌≡◌, Some, IfSome};
-ghost use Rattle.std.specs.List.{find};
+ghost use Rattle.std.specs.Prelude.{◌≡◌, ◌==◌, Some, IfSome};
+ghost use Rattle.std.specs.List.{find, filter};
 ghost use Rattle.std.specs.Str.{bytes_eq};
-ghost use Rattle.loft_lex.specs.Sign.{spelling, sign_of};
+ghost use Rattle.loft_lex.specs.Bytes.{begins};
+ghost use Rattle.loft_lex.specs.Sign.{spelling, signs, sign_of};
 
 /// The signs of the language.
 #[derive(Clone, Copy, Debug, PartialEq, Eq)]
@@ -54,36 +55,36 @@ pub enum Sign {
     Or,
 }
 
-/// Every sign of the language.
-const ALL: [Sign; 22] = [
-    Sign::Semicolon,
-    Sign::Comma,
-    Sign::Dot,
-    Sign::Open,
-    Sign::Close,
-    Sign::OpenBrace,
-    Sign::CloseBrace,
-    Sign::Equals,
-    Sign::Plus,
-    Sign::Minus,
-    Sign::Star,
-    Sign::Slash,
-    Sign::Percent,
-    Sign::Not,
-    Sign::Same,
-    Sign::Differs,
-    Sign::Less,
-    Sign::LessOrSame,
-    Sign::Greater,
-    Sign::GreaterOrSame,
-    Sign::And,
-    Sign::Or,
-];
+/// The signs that begin with this byte.
+fn beginning_with(first: u8) -> &'static [Sign]
+    ensures { result.now ≡ filter (λ sign. begins (λ b. b == first) (spelling sign)) signs }
+{
+    match first {
+        b';' => &[Sign::Semicolon],
+        b',' => &[Sign::Comma],
+        b'.' => &[Sign::Dot],
+        b'(' => &[Sign::Open],
+        b')' => &[Sign::Close],
+        b'{' => &[Sign::OpenBrace],
+        b'}' => &[Sign::CloseBrace],
+        b'=' => &[Sign::Equals, Sign::Same],
+        b'+' => &[Sign::Plus],
+        b'-' => &[Sign::Minus],
+        b'*' => &[Sign::Star],
+        b'/' => &[Sign::Slash],
+        b'%' => &[Sign::Percent],
+        b'!' => &[Sign::Not, Sign::Differs],
+        b'<' => &[Sign::Less, Sign::LessOrSame],
+        b'>' => &[Sign::Greater, Sign::GreaterOrSame],
+        b'&' => &[Sign::And],
+        b'|' => &[Sign::Or],
+        _ => &[],
+    }
+}
 
 /// The first of the signs that the bytes spell.
 fn spelled(signs: &[Sign], bytes: &[u8]) -> Option<Sign>
-    ensures first { result ≡ find (λ sign. bytes_eq (spelling sign) bytes.now) signs.now }
-    ensures same { IfSome result (λ sign. spelling sign ≡ bytes.now) }
+    ensures { result ≡ find (λ sign. bytes_eq (spelling sign) bytes.now) signs.now }
 {
     signs.iter().copied().find(|sign| sign.spelling() == bytes)
 }
@@ -95,7 +96,10 @@ impl Sign {
         ensures spelled { IfSome result (λ sign. spelling sign ≡ bytes.now) }
         ensures every { (sign : Sign) → spelling sign ≡ bytes.now → result ≡ Some sign }
     {
-        spelled(&ALL, bytes)
+        match bytes {
+            [] => None,
+            [first, ..] => spelled(beginning_with(*first), bytes),
+        }
     }
 
     /// The bytes that spell the sign.

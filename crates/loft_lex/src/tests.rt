@@ -1,6 +1,6 @@
 //! The tokens of some texts, and the first faults of others.
 
-use crate::{LexError, MAX_TEXT_LEN, Sign, TokenKind, Word, lex};
+use crate::{LexError, MAX_TEXT_LEN, Sign, Symbol, TokenKind, What, Word, lex, symbols};
 use std::alloc::Global;
 use std::process::Abort;
 use std::test::Fail;
@@ -169,4 +169,25 @@ fn words_and_signs_are_known(rt: HostRuntime) {
     assert_eq!(rt; Sign::of(b"&"), None);
     assert_eq!(rt; Word::of(b"self"), Some(Word::SelfWord));
     assert_eq!(rt; Sign::of(b"!="), Some(Sign::Differs));
+}
+
+#[test]
+fn symbols_say_what_their_tokens_are(rt: HostRuntime) -> Result<(), Fail> {
+    let text = b"print \"a b\", x7 == 12;";
+    let expected = [
+        (What::Word(Word::Print), 0),
+        (What::Text(b"a b"), 6),
+        (What::Sign(Sign::Comma), 11),
+        (What::Name(b"x7"), 13),
+        (What::Sign(Sign::Same), 16),
+        (What::Number(12), 19),
+        (What::Sign(Sign::Semicolon), 21),
+    ];
+    let tokens = lex(rt.alloc(), text)?;
+    let found = symbols(rt.alloc(), text, tokens.as_slice())?;
+    assert_eq!(rt; found.len(), expected.len());
+    for (symbol, (what, at)) in found.iter().zip(expected) {
+        assert_eq!(rt; *symbol, Symbol { what, at });
+    }
+    Ok(())
 }

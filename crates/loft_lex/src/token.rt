@@ -26,9 +26,9 @@ pub enum TokenKind {
 pub struct Token {
     /// What it is.
     pub kind: TokenKind,
-    /// The place of its first byte, from 0.
+    /// The offset of its first byte, from 0.
     pub from: u32,
-    /// The place behind its last byte.
+    /// The offset after its last byte.
     pub to: u32,
 }
 
@@ -43,7 +43,7 @@ impl Token {
     }
 }
 
-/// The first lexical fault of a text and its place, in bytes from 0; or want of memory.
+/// The first lexical fault of a text and its offset, in bytes from 0; or out of memory.
 #[derive(Clone, Copy, Debug, PartialEq, Eq)]
 pub enum LexError {
     /// This byte begins no token, or may not stand in a text.
@@ -56,7 +56,7 @@ pub enum LexError {
     LongText(u32),
     /// The number that begins here is above 9223372036854775807, or a letter or `_` follows it.
     BadNumber(u32),
-    /// There was no memory for the tokens.
+    /// Out of memory for the tokens.
     NoMemory,
 }
 

@@ -1,9 +1,10 @@
-//! The words of the language (docs/LANGUAGE.md, "Words").
+//! The words of the language (docs/LANGUAGE.md, "Words of the language").
 
-ghost use Rattle.std.specs.Prelude.{◌≡◌, Some, IfSome};
-ghost use Rattle.std.specs.List.{find};
+ghost use Rattle.std.specs.Prelude.{◌≡◌, ◌==◌, Some, IfSome};
+ghost use Rattle.std.specs.List.{find, filter};
 ghost use Rattle.std.specs.Str.{bytes_eq};
-ghost use Rattle.loft_lex.specs.Word.{spelling, word_of};
+ghost use Rattle.loft_lex.specs.Bytes.{begins};
+ghost use Rattle.loft_lex.specs.Word.{spelling, words, word_of};
 
 /// The words of the language, which are no names. Each is called as it is spelled; `SelfWord` is `self`.
 #[derive(Clone, Copy, Debug, PartialEq, Eq)]
@@ -52,56 +53,45 @@ pub enum Word {
     Unlinked,
 }
 
-/// Every word of the language.
-const ALL: [Word; 42] = [
-    Word::Scheduler,
-    Word::Event,
-    Word::In,
-    Word::Shared,
-    Word::Module,
-    Word::To,
-    Word::Local,
-    Word::Int,
-    Word::Thread,
-    Word::Start,
-    Word::As,
-    Word::Outside,
-    Word::End,
-    Word::Print,
-    Word::Cooperate,
-    Word::Generate,
-    Word::Await,
-    Word::For,
-    Word::Select,
-    Word::Get,
-    Word::At,
-    Word::Into,
-    Word::Join,
-    Word::Create,
-    Word::Stop,
-    Word::Suspend,
-    Word::Resume,
-    Word::Broadcast,
-    Word::Link,
-    Word::Unlink,
-    Word::If,
-    Word::Then,
-    Word::Else,
-    Word::While,
-    Word::Do,
-    Word::Repeat,
-    Word::Run,
-    Word::Halt,
-    Word::SelfWord,
-    Word::Code,
-    Word::Mask,
-    Word::Unlinked,
-];
+/// The words that begin with this byte.
+fn beginning_with(first: u8) -> &'static [Word]
+    ensures { result.now ≡ filter (λ word. begins (λ b. b == first) (spelling word)) words }
+{
+    match first {
+        b'a' => &[Word::As, Word::Await, Word::At],
+        b'b' => &[Word::Broadcast],
+        b'c' => &[Word::Cooperate, Word::Create, Word::Code],
+        b'd' => &[Word::Do],
+        b'e' => &[Word::Event, Word::End, Word::Else],
+        b'f' => &[Word::For],
+        b'g' => &[Word::Generate, Word::Get],
+        b'h' => &[Word::Halt],
+        b'i' => &[Word::In, Word::Int, Word::Into, Word::If],
+        b'j' => &[Word::Join],
+        b'l' => &[Word::Local, Word::Link],
+        b'm' => &[Word::Module, Word::Mask],
+        b'o' => &[Word::Outside],
+        b'p' => &[Word::Print],
+        b'r' => &[Word::Resume, Word::Repeat, Word::Run],
+        b's' => &[
+            Word::Scheduler,
+            Word::Shared,
+            Word::Start,
+            Word::Select,
+            Word::Stop,
+            Word::Suspend,
+            Word::SelfWord,
+        ],
+        b't' => &[Word::To, Word::Thread, Word::Then],
+        b'u' => &[Word::Unlink, Word::Unlinked],
+        b'w' => &[Word::While],
+        _ => &[],
+    }
+}
 
 /// The first of the words that the bytes spell.
 fn spelled(words: &[Word], bytes: &[u8]) -> Option<Word>
-    ensures first { result ≡ find (λ word. bytes_eq (spelling word) bytes.now) words.now }
-    ensures same { IfSome result (λ word. spelling word ≡ bytes.now) }
+    ensures { result ≡ find (λ word. bytes_eq (spelling word) bytes.now) words.now }
 {
     words.iter().copied().find(|word| word.spelling() == bytes)
 }
@@ -113,7 +103,10 @@ impl Word {
         ensures spelled { IfSome result (λ word. spelling word ≡ bytes.now) }
         ensures every { (word : Word) → spelling word ≡ bytes.now → result ≡ Some word }
     {
-        spelled(&ALL, bytes)
+        match bytes {
+            [] => None,
+            [first, ..] => spelled(beginning_with(*first), bytes),
+        }
     }
 
     /// The bytes that spell the word.

@@ -1,3 +1,3 @@
-pub mod WritesLemmas
+pub mod LineLemmas
 pub mod ReportLemmas
-pub mod TurnLemmas
+pub mod RunReports

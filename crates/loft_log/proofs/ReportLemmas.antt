@@ -9,10 +9,11 @@ use Rattle.loft_sense.specs.declared.order.Sent.{Sent}
 use Rattle.loft_sense.specs.declared.note.Ended.{Ended}
 use Rattle.loft_sense.specs.History.{choice_of}
 use Rattle.loft_sense.specs.Text.{scheduler_name, order_text}
-use Rattle.loft_sense.specs.Report.{text_of, choice_line, end_line, mark_word, ends_at, batch_lines, leave_line, leave_lines, instant_lines, instants_lines}
-use Rattle.loft_plain.specs.declared.turn.Turn.{Turn}
-use Rattle.loft_plain.specs.Turns.{entries_of, batches_of, notes_of}
-use Rattle.loft_log.proofs.WritesLemmas.{text_of-append, drop-at}
+use Rattle.loft_sense.specs.Lines.{text_of, end_line, mark_word, ends_at, batch_lines, leave_line, leave_lines, instant_lines}
+use Rattle.loft_sense.specs.Report.{choice_line, instants_lines}
+use Rattle.loft_sense.specs.declared.turn.SchedulerTurn.{SchedulerTurn}
+use Rattle.loft_sense.specs.Turns.{entries_of, batches_of, notes_of}
+use Rattle.loft_log.proofs.LineLemmas.{text_of-append, drop-at}
 
 ends_at-by : (h : Heads) (k : ℕ) (e : Ended) (es : List Ended) (here : Bool) → (if here then end_line h e.thread e.end ∷ ends_at h k es else ends_at h k es) ≡ (if here then end_line h e.thread e.end ∷ [] else []) ++ ends_at h k es
 ends_at-by h k e es true = refl
@@ -20,7 +21,7 @@ ends_at-by h k e es false = refl
 
 -- one end, and the others
 pub text-ends_at : (h : Heads) (k : ℕ) (e : Ended) (es : List Ended) → text_of (ends_at h k (e ∷ es)) ≡ text_of (ends_at h k (e ∷ [])) ++ text_of (ends_at h k es)
-text-ends_at h k e es = ap text_of (ends_at-by h k e es (e.place == k)) ∙ text_of-append (ends_at h k (e ∷ [])) (ends_at h k es)
+text-ends_at h k e es = ap text_of (ends_at-by h k e es (e.index == k)) ∙ text_of-append (ends_at h k (e ∷ [])) (ends_at h k es)
 
 -- the element at an index is the same, whatever stands for one past the end
 same_at : {A : Type 0} (xs : List A) (i : ℕ) (d e : A) → i < length xs → get_or xs i d ≡ get_or xs i e
@@ -36,11 +37,11 @@ pub leave_lines-from : (h : Heads) (ms : List Sent) (i : ℕ) (m : Sent) → i <
 leave_lines-from h ms i m below is = ap (λ xs. text_of (leave_lines h xs)) (drop-at ms i m below is) ∙ text_of-append (leave_line h m.to m.order) (leave_lines h (drop (i + 1) ms))
 
 -- what is left of the instants begins with the one at this index
-pub instants-from : (h : Heads) (ts : List Turn) (i : ℕ) (t : Turn) → i < length ts → t ≡ get_or ts i t → text_of (instants_lines h (batches_of (drop i ts)) (notes_of (drop i ts))) ≡ text_of (instant_lines h t.batch t.note) ++ text_of (instants_lines h (batches_of (drop (i + 1) ts)) (notes_of (drop (i + 1) ts)))
+pub instants-from : (h : Heads) (ts : List SchedulerTurn) (i : ℕ) (t : SchedulerTurn) → i < length ts → t ≡ get_or ts i t → text_of (instants_lines h (batches_of (drop i ts)) (notes_of (drop i ts))) ≡ text_of (instant_lines h t.batch t.note) ++ text_of (instants_lines h (batches_of (drop (i + 1) ts)) (notes_of (drop (i + 1) ts)))
 instants-from h ts i t below is = ap (λ xs. text_of (instants_lines h (batches_of xs) (notes_of xs))) (drop-at ts i t below is) ∙ text_of-append (instant_lines h t.batch t.note) (instants_lines h (batches_of (drop (i + 1) ts)) (notes_of (drop (i + 1) ts)))
 
 -- what is left of the choices begins with those of the turn at this index
-pub choices-from : (h : Heads) (s : SchedId) (ts : List Turn) (i : ℕ) (t : Turn) → i < length ts → t ≡ get_or ts i t → text_of (map (choice_line h) (map choice_of (entries_of s (drop i ts)))) ≡ text_of ((codes "take " ++ scheduler_name h s) ∷ (codes "give " ++ scheduler_name h s) ∷ []) ++ text_of (map (choice_line h) (map choice_of (entries_of s (drop (i + 1) ts))))
+pub choices-from : (h : Heads) (s : SchedId) (ts : List SchedulerTurn) (i : ℕ) (t : SchedulerTurn) → i < length ts → t ≡ get_or ts i t → text_of (map (choice_line h) (map choice_of (entries_of s (drop i ts)))) ≡ text_of ((codes "take " ++ scheduler_name h s) ∷ (codes "give " ++ scheduler_name h s) ∷ []) ++ text_of (map (choice_line h) (map choice_of (entries_of s (drop (i + 1) ts))))
 choices-from h s ts i t below is =
     ap (λ xs. text_of (map (choice_line h) (map choice_of (entries_of s xs)))) (drop-at ts i t below is)
     ∙ text_of-append ((codes "take " ++ scheduler_name h s) ∷ (codes "give " ++ scheduler_name h s) ∷ []) (map (choice_line h) (map choice_of (entries_of s (drop (i + 1) ts))))
@@ -62,6 +63,6 @@ pub batch-end : (h : Heads) (stopped : List Ended) (os : List Order) (ms : List 
 batch-end h stopped os ms k past = ap text_of (batch-none h stopped k (drop k os) (drop k ms) (omega (arith, length-drop k os, length-drop k ms)))
 
 -- a turn has two choices
-pub choices-count : (s : SchedId) (ts : List Turn) → 2 * length ts ≡ length (map choice_of (entries_of s ts))
+pub choices-count : (s : SchedId) (ts : List SchedulerTurn) → 2 * length ts ≡ length (map choice_of (entries_of s ts))
 choices-count s [] = refl
 choices-count s (t ∷ ts) = omega (arith, choices-count s ts)

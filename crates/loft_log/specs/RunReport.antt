@@ -6,18 +6,19 @@ use Rattle.loft_sense.specs.declared.note.Standing.{Standing}
 use Rattle.loft_sense.specs.declared.limits.RunOptions.{RunOptions}
 use Rattle.loft_sense.specs.History.{choice_of}
 use Rattle.loft_sense.specs.Text.{scheduler_name}
-use Rattle.loft_sense.specs.Report.{text_of, head_lines, instants_lines, final_lines, left_part}
-use Rattle.loft_plain.specs.declared.turn.Turn.{Turn}
-use Rattle.loft_plain.specs.declared.turn.Finished.{Finished}
-use Rattle.loft_plain.specs.Turns.{entries_of, batches_of, notes_of}
+use Rattle.loft_sense.specs.Lines.{text_of}
+use Rattle.loft_sense.specs.Report.{head_lines, instants_lines, final_lines, left_part}
+use Rattle.loft_sense.specs.declared.turn.SchedulerTurn.{SchedulerTurn}
+use Rattle.loft_sense.specs.declared.turn.Finished.{Finished}
+use Rattle.loft_sense.specs.Turns.{entries_of, batches_of, notes_of}
 
--- the scheduler's block, of its turns and of how it stands in the end
-abbrev pub turns_lines : Heads → SchedId → List Turn → List Standing → List (List ℕ)
+-- the scheduler's block, of its turns and of its last state
+abbrev pub turns_lines : Heads → SchedId → List SchedulerTurn → List Standing → List (List ℕ)
 turns_lines h s turns linked =
     (codes "scheduler " ++ scheduler_name h s) ∷ instants_lines h (batches_of turns) (notes_of turns) ++ final_lines h linked
 
 -- the report of a run whose only scheduler makes these turns, and after which nothing waits for it
-abbrev pub run_lines : Heads → RunOptions → SchedId → List Turn → List Standing → List (List ℕ)
+abbrev pub run_lines : Heads → RunOptions → SchedId → List SchedulerTurn → List Standing → List (List ℕ)
 run_lines h o s turns linked =
     head_lines h o (map choice_of (entries_of s turns)) ++ (turns_lines h s turns linked ++ (left_part [] ++ codes "end" ∷ []))
 

@@ -3,4 +3,4 @@
 
 mod report;
 
-pub use report::{WriteError, write_report};
+pub use report::write_report;

@@ -1,11 +1,10 @@
 -- Declarations entered one after the other.
-use Rattle.std.proofs.Common.{◌≡◌, ℕ, ◌+◌, ◌<◌, List, [], ◌∷◌, ◌++◌, length, get_or, drop, drop-cons, add-one, map, Option, refl, sym, ap, subst, ◌∙◌, append_assoc, append-nil}
-use Rattle.loft_tree.specs.declared.program.Variable.{Variable}
+use Rattle.std.proofs.Common.{◌≡◌, ℕ, ◌+◌, ◌<◌, List, [], ◌∷◌, ◌++◌, length, get_or, drop, drop-cons, add-one, Option, refl, sym, ap, subst, ◌∙◌, append_assoc, append-nil}
 use Rattle.loft_tree.specs.declared.program.Item.{Item}
 use Rattle.loft_tree.specs.Source.{ModuleHead, Named}
-use Rattle.loft_tree.specs.View.{named_of, declaration_of, source_of}
+use Rattle.loft_tree.specs.View.{declaration_of, source_of}
 use Rattle.loft_names.specs.declared.error.NameError.{NameError}
-use Rattle.loft_names.specs.Scopes.{Declared, Sofar, Within, AVariable, AModule, after, everywhere, kinds_of, module_declared, declared_by, declared_from, earlier, variables}
+use Rattle.loft_names.specs.Scopes.{Declared, Sofar, AModule, after, everywhere, kinds_of, module_declared, declared_by, declared_from, earlier, variables}
 use Rattle.loft_names.specs.Faults.{again, twice_from}
 use Rattle.loft_names.specs.Least.{least_of}
 use Rattle.loft_names.specs.Tables.{Declares}
@@ -54,13 +53,6 @@ joined old now next first so_far later ds es d e = record {
       ∙ sym (least_of-append first (twice_from old ds) (twice_from (old ++ ds) es)) ∙ ap (least_of first) (sym (twice_from-append old ds es));
 }
 
--- the next variable of those that are left
-pub next_variable : (m n : ℕ) (vs : List Variable) (i : ℕ) (v : Variable) → i < length vs → v ≡ get_or vs i v
-    → variables m n (map named_of (drop i vs)) ≡ record { name = v.name; scope = Within m; sort = AVariable v.kind; number = n } ∷ variables m (n + 1) (map named_of (drop (i + 1) vs))
-next_variable m n vs i v lt is =
-    let split : drop i vs ≡ v ∷ drop (i + 1) vs = drop-cons vs i v lt ∙ rw (← is, add-one) refl in
-    ap (λ xs. variables m n (map named_of xs)) split
-
 -- the next declaration of those that are left
 pub next_item : (n : Sofar) (items : List Item) (i : ℕ) (item : Item) → i < length items → item ≡ get_or items i item
     → declared_from n (source_of (drop i items)) ≡ declared_by n (declaration_of item) ++ declared_from (after n (declaration_of item)) (source_of (drop (i + 1) items))
@@ -69,11 +61,11 @@ next_item n items i item lt is =
     ap (λ xs. declared_from n (source_of xs)) split
 
 -- a module, then its parameters, then its local variables
-pub module_joined : (t₀ t₁ t₂ t₃ : List Declared) (f₀ f₁ f₂ f₃ : Option NameError) (d : Declared) (number behind : ℕ) (head : ModuleHead) (parameters locals : List Named)
-    → parameters ≡ head.parameters → d ≡ everywhere head.name (AModule (kinds_of parameters)) number → behind ≡ length parameters
-    → Declares t₀ t₁ f₀ f₁ (d ∷ []) → Declares t₁ t₂ f₁ f₂ (variables number 0 parameters) → Declares t₂ t₃ f₂ f₃ (variables number behind locals)
+pub module_joined : (t₀ t₁ t₂ t₃ : List Declared) (f₀ f₁ f₂ f₃ : Option NameError) (d : Declared) (number first_local : ℕ) (head : ModuleHead) (parameters locals : List Named)
+    → parameters ≡ head.parameters → d ≡ everywhere head.name (AModule (kinds_of parameters)) number → first_local ≡ length parameters
+    → Declares t₀ t₁ f₀ f₁ (d ∷ []) → Declares t₁ t₂ f₁ f₂ (variables number 0 parameters) → Declares t₂ t₃ f₂ f₃ (variables number first_local locals)
     → Declares t₀ t₃ f₀ f₃ (module_declared number head locals)
-module_joined t₀ t₁ t₂ t₃ f₀ f₁ f₂ f₃ d number behind head parameters locals same is many first second third =
+module_joined t₀ t₁ t₂ t₃ f₀ f₁ f₂ f₃ d number first_local head parameters locals same is many first second third =
     subst (λ (ps : List Named). Declares t₀ t₃ f₀ f₃ (everywhere head.name (AModule (kinds_of ps)) number ∷ (variables number 0 ps ++ variables number (length ps) locals))) same
     (joined t₀ t₁ t₃ f₀ f₁ f₃ (everywhere head.name (AModule (kinds_of parameters)) number ∷ []) (variables number 0 parameters ++ variables number (length parameters) locals)
     (subst (λ (e : Declared). Declares t₀ t₁ f₀ f₁ (e ∷ [])) is first)

@@ -82,7 +82,7 @@ pub got : {A : Type 0} (found : Option (Bor A)) (xs : List A) (i : ℕ) → is_s
 got None xs i e is = let past : length xs ≤ i = ltb-false i (length xs) (sym e) in sym (slice_get_past xs i past)
 got (Some x) xs i e is = let lt : i < length xs = ltb-true i (length xs) (sym e) in sym (slice_get-get_or xs i x.now lt ∙ ap Some (sym is))
 
--- what a name means, by the places of the first declarations of it everywhere and where it is used
+-- what a name means, by the indexes of the first declarations of it everywhere and where it is used
 pub meaning_at : (ds : List Declared) (from : Scope) (name : Ident)
     → slice_get ds (min (position_or_len (is_sought (In Everywhere) name.text) ds) (position_or_len (is_sought (In from) name.text) ds)) ≡ meaning ds from name
 meaning_at ds from name =
@@ -133,7 +133,7 @@ module _ {S : Type 0} (m : IndexMap Key ℕ S) where
       ap (λ o. unwrap_or o n) (at ∙ get_sought q ∙ indexes q) ∙ ap (λ k. unwrap_or (position (is_sought q.0 q.1.now) ds) k) long
       ∙ unwrap_or-position (is_sought q.0 q.1.now) ds ∙ ap (λ t. position_or_len (is_sought q.0 t) ds) is
 
-  -- a key that has a place keeps it
+  -- a key that has an index keeps it
   pub kept : (key : Key) (place : ℕ) → is_some (get same_key m key) ≡ true → NotesFirst m m key place
   kept key place there q =
       elim (same_key q key) as (λ b. same_key q key ≡ b → get same_key m q ≡ option_or (get same_key m q) (if b then Some place else None)) [

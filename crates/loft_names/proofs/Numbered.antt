@@ -1,5 +1,5 @@
 -- The declarations of a program that fits are few enough to be numbered.
-use Rattle.std.proofs.Common.{◌≡◌, ℕ, ◌+◌, ◌<◌, ◌≤◌, ◌^◌, cond, zero, suc, List, [], ◌∷◌, length, get_or, ◌-◌, subst, sym, refl, arith}
+use Rattle.std.proofs.Common.{◌≡◌, ℕ, ◌+◌, ◌<◌, ◌≤◌, ◌^◌, cond, zero, suc, List, [], ◌∷◌, ◌++◌, length, get_or, drop, drop-cons, add-one, ◌-◌, subst, sym, refl, ap, ◌∙◌, append_assoc, arith}
 use Rattle.std.specs.List.{count_by}
 use Rattle.std.proofs.lemmas.List.Sums.{sum_by-cons}
 use Rattle.std.proofs.lemmas.List.{length-map}
@@ -8,6 +8,8 @@ use Rattle.loft_tree.specs.Source.{Declaration, Scheduler, Event, Shared, Module
 use Rattle.loft_tree.specs.View.{declaration_of, source_of}
 use Rattle.loft_tree.specs.Fits.{Each, DeclarationFits, SourceFits, is_scheduler, is_event, is_shared, is_module, is_start, is_outside}
 use Rattle.loft_names.specs.Scopes.{Sofar, after, none_yet}
+use Rattle.loft_tree.specs.declared.named.LinkItem.{LinkItem}
+use Rattle.loft_names.specs.Numbers.{links_in, links_of}
 use Rattle.loft_names.specs.Rooms.{HasRoom}
 
 -- each declaration of a program that fits
@@ -62,5 +64,11 @@ room_left n (Module head locals body) all i lt r = record { schedulers = omega a
 room_left n (Start scheduler called arguments name) all i lt r = record { schedulers = omega arith; events = omega arith; shared = omega arith; modules = omega arith; starts = omega arith; clients = omega arith }
 room_left n (Outside name orders) all i lt r = record { schedulers = omega arith; events = omega arith; shared = omega arith; modules = omega arith; starts = omega arith; clients = omega arith }
 
-pub room_for_one : (n : Sofar) (all i : ℕ) → i < all → HasRoom n (all - i) → HasRoom n 1
-room_for_one n all i lt r = record { schedulers = omega arith; events = omega arith; shared = omega arith; modules = omega arith; starts = omega arith; clients = omega arith }
+-- the links of the next declaration of those that are left
+pub next_links : (n : Sofar) (items : List Item) (i : ℕ) (item : Item) (done more all : List LinkItem) → i < length items → item ≡ get_or items i item
+    → more ≡ done ++ links_of n (declaration_of item) → done ++ links_in n (source_of (drop i items)) ≡ all
+    → more ++ links_in (after n (declaration_of item)) (source_of (drop (i + 1) items)) ≡ all
+next_links n items i item done more all lt is grown before =
+    let rest : List LinkItem = links_in (after n (declaration_of item)) (source_of (drop (i + 1) items)) in
+    let split : drop i items ≡ item ∷ drop (i + 1) items = drop-cons items i item lt ∙ rw (← is, add-one) refl in
+    ap (λ ls. ls ++ rest) grown ∙ append_assoc done (links_of n (declaration_of item)) rest ∙ ap (λ xs. done ++ links_in n (source_of xs)) (sym split) ∙ before

@@ -1,4 +1,4 @@
--- Places of the first in a list that passes a test.
+-- The index of the first in a list that passes a test.
 use Rattle.std.proofs.Common.{◌≡◌, Bool, ◌||◌, not, cond, min, List, [], ◌∷◌, ◌++◌, length, Some, None, map, refl, ap, arith}
 use Rattle.std.proofs.lemmas.Grind.{common_steps}
 use Rattle.std.specs.Prelude.{position, unwrap_or}
@@ -7,7 +7,7 @@ use Rattle.std.specs.List.{position_or_len, list_any}
 use Rattle.std.proofs.lemmas.List.Sums.{prefix_len-le-length}
 use Rattle.std.proofs.lemmas.List.Folds.{position_or_len_push}
 
--- one more behind
+-- one more at the end
 pub position-push : {X : Type 0} (p : X → Bool) (xs : List X) (y : X) → position p (xs ++ y ∷ []) ≡ option_or (position p xs) (cond (p y) (Some (length xs)) None)
 position-push p xs y = let e = position_or_len_push p xs y in let le = prefix_len-le-length (λ x. not (p x)) xs in grind (arith, common_steps)
 

@@ -3,11 +3,9 @@ use Rattle.std.specs.Prelude.{◌≡◌, ℕ, ◌<◌, ◌⊎◌, Bool, true, fa
 use Rattle.std.specs.List.{Contains, list_any}
 use Rattle.loft_tree.specs.declared.kinds.Kind.{Kind}
 use Rattle.loft_tree.specs.declared.kinds.Kind.TheVariants.{Int, Thread}
-use Rattle.loft_tree.specs.declared.kinds.Builtin.{Builtin}
-use Rattle.loft_tree.specs.declared.kinds.Builtin.TheVariants.{Itself, Code, Mask}
 use Rattle.loft_tree.specs.declared.kinds.BinaryOperator.{BinaryOperator}
-use Rattle.loft_tree.specs.declared.kinds.BinaryOperator.TheVariants.{Or, And, Equal, Unequal, Less, LessOrEqual, Greater, GreaterOrEqual, Plus, Minus, Times, Divide, Remainder}
-use Rattle.loft_tree.specs.Source.{Ident, Expression, Number, Variable, Special, Unary, Binary, Creation, Statement, Assign, AssignCreate, Create, PrintText, PrintValue, Cooperate, Generate, Await, Select, Get, Join, ControlThread, Broadcast, Link, Unlink, Run, Halt, If, While, Repeat, Statements, Done, Then, PlaceName, InScheduler, Unlinked, ModuleHead, Argument, ANumber, AName, Order, CreateThere, ControlThere, BroadcastThere, Declaration, Scheduler, Event, Shared, Module, Start, Outside, Source}
+use Rattle.loft_tree.specs.Source.{Ident, EventName, Expression, Number, Variable, Special, Unary, Binary, Creation, Statement, Assign, AssignCreate, Create, PrintText, PrintValue, Cooperate, Generate, Await, Select, Get, Join, ControlThread, Broadcast, Link, Unlink, Run, Halt, If, While, Repeat, Statements, Done, Then, PlaceName, InScheduler, Unlinked, ModuleHead, Argument, ANumber, AName, Order, CreateThere, ControlThere, BroadcastThere, Declaration, Scheduler, Event, Shared, Module, Start, Outside, Source}
+use Rattle.loft_tree.specs.KindOf.{builtin_kind, compares}
 use Rattle.loft_names.specs.declared.error.NameError.{NameError}
 use Rattle.loft_names.specs.declared.error.NameError.TheVariants.{NoScheduler, Unknown, Twice, Arity, Kind as WrongKind, NoMemory}
 use Rattle.loft_names.specs.Modules.{next_module}
@@ -32,11 +30,6 @@ same_kind Int Int = true
 same_kind Int Thread = false
 same_kind Thread Int = false
 same_kind Thread Thread = true
-
--- a fault, if so
-abbrev pub when : Bool → NameError → List NameError
-when true e = e ∷ []
-when false e = []
 
 -- the sorts that a use allows
 abbrev pub is_scheduler : Sort → Bool
@@ -100,7 +93,7 @@ abbrev pub used : {A : Type 0} → (Sort → Option A) → Option Declared → U
 used view None = NotDeclared
 used view (Some d) = allowed (view d.sort)
 
--- the fault of a use at its place
+-- the fault of a use, at its offset
 abbrev pub use_faults : {A : Type 0} → ℕ → Use A → List NameError
 use_faults at NotDeclared = Unknown at ∷ []
 use_faults at OtherSort = WrongKind at ∷ []
@@ -141,27 +134,7 @@ abbrev pub argument_at : Argument → ℕ
 argument_at (ANumber at value) = at
 argument_at (AName name) = name.at
 
-abbrev pub builtin_kind : Builtin → Kind
-builtin_kind Itself = Thread
-builtin_kind Code = Int
-builtin_kind Mask = Int
-
-abbrev pub compares : BinaryOperator → Bool
-compares Or = false
-compares And = false
-compares Equal = true
-compares Unequal = true
-compares Less = false
-compares LessOrEqual = false
-compares Greater = false
-compares GreaterOrEqual = false
-compares Plus = false
-compares Minus = false
-compares Times = false
-compares Divide = false
-compares Remainder = false
-
--- a known kind that isn't the wanted one is a fault at this place
+-- a known kind that isn't the wanted one is a fault at this offset
 abbrev pub unlike : Option Kind → Option Kind → ℕ → List NameError
 unlike None found at = []
 unlike (Some wanted) None at = []
@@ -206,12 +179,12 @@ module _ (ds : List Declared) (scope : Scope) where
   abbrev pub scheduler_faults : Ident → List NameError
   scheduler_faults name = use_faults name.at (used (only_if is_scheduler) (meaning ds scope name))
 
-  abbrev pub event_faults : Ident → List NameError
-  event_faults name = use_faults name.at (used (only_if is_event) (meaning ds scope name))
+  abbrev pub event_faults : EventName → List NameError
+  event_faults event = use_faults event.name.at (used (only_if is_event) (meaning ds scope event.name))
 
-  abbrev pub events_faults : List Ident → List NameError
+  abbrev pub events_faults : List EventName → List NameError
   events_faults [] = []
-  events_faults (name ∷ names) = event_faults name ++ events_faults names
+  events_faults (event ∷ events) = event_faults event ++ events_faults events
 
   -- a name that has to be a value of a kind
   abbrev pub target_faults : Kind → Ident → List NameError
@@ -343,17 +316,33 @@ place_of (Arity at) = at
 place_of (WrongKind at) = at
 place_of NoMemory = 0
 
--- at one place the order is Unknown, Twice, Kind, Arity
+-- at one offset the order is Unknown, Twice, Kind, Arity; NoScheduler and NoMemory are never among
+-- the faults
 abbrev pub rank_of : NameError → ℕ
 rank_of NoScheduler = 0
-rank_of (Unknown at) = 0
-rank_of (Twice at first) = 1
-rank_of (WrongKind at) = 2
-rank_of (Arity at) = 3
-rank_of NoMemory = 0
+rank_of (Unknown at) = 1
+rank_of (Twice at first) = 2
+rank_of (WrongKind at) = 3
+rank_of (Arity at) = 4
+rank_of NoMemory = 5
 
+-- the first declaration of the name; this decides only between faults that no text has, where two
+-- declarations stand at one offset
+abbrev pub first_of : NameError → ℕ
+first_of NoScheduler = 0
+first_of (Unknown at) = 0
+first_of (Twice at first) = first
+first_of (Arity at) = 0
+first_of (WrongKind at) = 0
+first_of NoMemory = 0
+
+-- m is less than n, or they are the same and this holds
+abbrev pub Before : ℕ → ℕ → Type 0 → Type 0
+Before m n rest = (m < n) ⊎ ((m ≡ n) × rest)
+
+-- e comes before d: by the offset, at one offset by the rank, at one rank by the first declaration
 abbrev pub Precedes : NameError → NameError → Type 0
-Precedes e d = (place_of e < place_of d) ⊎ ((place_of e ≡ place_of d) × (rank_of e < rank_of d))
+Precedes e d = Before (place_of e) (place_of d) (Before (rank_of e) (rank_of d) (first_of e < first_of d))
 
 -- one of the faults, which no other one precedes
 pub record IsFirst (e : NameError) (es : List NameError) : Type 0 where
@@ -371,7 +360,7 @@ has_scheduler p = list_any declares_scheduler (declared p)
 abbrev pub NameFault : Source → NameError → Type 0
 NameFault p e = ((has_scheduler p ≡ false) × (e ≡ NoScheduler)) ⊎ ((has_scheduler p ≡ true) × IsFirst e (faults p))
 
--- the names and kinds of a program are as they are to be
+-- the names and kinds of a program are correct
 pub record NamesFit (p : Source) : Type 0 where
   pub scheduler : has_scheduler p ≡ true
   pub faultless : faults p ≡ []

@@ -1,11 +1,15 @@
 -- The first of several faults, by the order of specs/Faults.
-use Rattle.std.specs.Prelude.{Bool, nat_lt, ◌==◌, ◌&&◌, ◌||◌, if◌then◌else◌, List, [], ◌∷◌, Option, Some, None}
+use Rattle.std.specs.Prelude.{ℕ, Bool, nat_lt, ◌==◌, ◌&&◌, ◌||◌, if◌then◌else◌, List, [], ◌∷◌, Option, Some, None}
 use Rattle.loft_names.specs.declared.error.NameError.{NameError}
-use Rattle.loft_names.specs.Faults.{place_of, rank_of}
+use Rattle.loft_names.specs.Faults.{place_of, rank_of, first_of}
+
+-- m is less than n, or they are the same and this is so
+abbrev pub before : ℕ → ℕ → Bool → Bool
+before m n rest = nat_lt m n || (m == n && rest)
 
 -- e comes before d
 abbrev pub precedes : NameError → NameError → Bool
-precedes e d = nat_lt (place_of e) (place_of d) || (place_of e == place_of d && nat_lt (rank_of e) (rank_of d))
+precedes e d = before (place_of e) (place_of d) (before (rank_of e) (rank_of d) (nat_lt (first_of e) (first_of d)))
 
 -- the first so far, once e is found too
 abbrev pub sooner : Option NameError → NameError → NameError

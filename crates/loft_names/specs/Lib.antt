@@ -5,3 +5,5 @@ pub mod Least
 pub mod Tables
 pub mod Rooms
 pub mod Modules
+pub mod HeadOf
+pub mod NamesHold

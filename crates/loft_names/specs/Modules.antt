@@ -2,7 +2,7 @@
 use Rattle.std.specs.Prelude.{ℕ, ◌+◌}
 use Rattle.loft_tree.specs.Source.{Declaration, Scheduler, Event, Shared, Module, Start, Outside}
 
--- the number of the next module, behind a declaration
+-- the number of the next module, after a declaration
 abbrev pub next_module : ℕ → Declaration → ℕ
 next_module number (Scheduler name) = number
 next_module number (Event name scheduler) = number

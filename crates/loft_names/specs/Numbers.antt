@@ -9,9 +9,9 @@ use Rattle.loft_base.specs.declared.ids.Maker.TheVariants as maker
 use Rattle.loft_base.specs.declared.ids.Value.{Value}
 use Rattle.loft_base.specs.declared.ids.Value.TheVariants as value
 use Rattle.loft_tree.specs.Source as src
-use Rattle.loft_tree.specs.Source.{Ident, Expression, Creation, PlaceName, InScheduler, Unlinked, ModuleHead, Named, Argument, ANumber, AName, Order, CreateThere, ControlThere, BroadcastThere, Declaration, Scheduler, Event, Shared, Module, Start, Outside, Source}
+use Rattle.loft_tree.specs.Source.{Ident, EventName, Expression, Creation, PlaceName, InScheduler, Unlinked, ModuleHead, Named, Argument, ANumber, AName, Order, CreateThere, ControlThere, BroadcastThere, Declaration, Scheduler, Event, Shared, Module, Start, Outside, Source}
 use Rattle.loft_tree.specs.NamedTree as n
-use Rattle.loft_tree.specs.NamedTree.{Term, Making, NamedModule, NamedProgram}
+use Rattle.loft_tree.specs.NamedTree.{EventUse, NamedExpression, NamedCreation, NamedModule, NamedProgram}
 use Rattle.loft_tree.specs.declared.heads.Place.{Place}
 use Rattle.loft_tree.specs.declared.heads.Place.TheVariants.{Sched, Unlinked as Nowhere}
 use Rattle.loft_tree.specs.declared.heads.EventHead.{EventHead}
@@ -21,14 +21,15 @@ use Rattle.loft_tree.specs.declared.heads.Start.{Start as StartHead}
 use Rattle.loft_tree.specs.declared.heads.ClientOrder.{ClientOrder}
 use Rattle.loft_tree.specs.declared.heads.ClientOrder.TheVariants as order
 use Rattle.loft_tree.specs.declared.heads.Client.{Client}
+use Rattle.loft_tree.specs.declared.heads.SlotHead.{SlotHead}
+use Rattle.loft_tree.specs.declared.heads.HeadItem.{HeadItem}
+use Rattle.loft_tree.specs.declared.heads.HeadItem.TheVariants as item
 use Rattle.loft_tree.specs.declared.heads.Heads.{Heads}
 use Rattle.loft_tree.specs.declared.named.Target.{Target}
 use Rattle.loft_tree.specs.declared.named.Target.TheVariants as target
-use Rattle.loft_tree.specs.declared.named.EventUse.{EventUse}
-use Rattle.loft_tree.specs.declared.named.Linking.{Linking}
-use Rattle.loft_tree.specs.declared.named.Linking.TheVariants as linking
-use Rattle.loft_names.specs.Modules.{next_module}
-use Rattle.loft_names.specs.Scopes.{Sort, AScheduler, AnEvent, AShared, AModule, AStart, AClient, AVariable, Scope, Everywhere, Within, Declared, declared, kinds_of, meaning}
+use Rattle.loft_tree.specs.declared.named.LinkItem.{LinkItem}
+use Rattle.loft_tree.specs.declared.named.LinkItem.TheVariants as link
+use Rattle.loft_names.specs.Scopes.{Sort, AScheduler, AnEvent, AShared, AModule, AStart, AClient, AVariable, Scope, Everywhere, Within, Declared, declared, Sofar, after, none_yet, meaning}
 
 abbrev pub number_or_0 : Option Declared → ℕ
 number_or_0 None = 0
@@ -93,35 +94,35 @@ module _ (ds : List Declared) (scope : Scope) where
   abbrev pub scheduler_of : Ident → SchedId
   scheduler_of name = record { 0 = number_of name }
 
-  abbrev pub event_of : Ident → EventId
-  event_of name = record { 0 = number_of name }
+  abbrev pub event_of : EventName → EventId
+  event_of event = record { 0 = number_of event.name }
 
   abbrev pub module_of : Ident → ModuleId
   module_of name = record { 0 = number_of name }
 
-  abbrev pub event_use : Ident → EventUse
-  event_use name = record { at = name.at; event = event_of name }
+  abbrev pub event_use : EventName → EventUse
+  event_use event = record { at = event.name.at; event = event_of event }
 
-  abbrev pub event_uses : List Ident → List EventUse
+  abbrev pub event_uses : List EventName → List EventUse
   event_uses [] = []
-  event_uses (name ∷ names) = event_use name ∷ event_uses names
+  event_uses (event ∷ events) = event_use event ∷ event_uses events
 
-  abbrev pub variable_term : ℕ → Holder → Term
+  abbrev pub variable_term : ℕ → Holder → NamedExpression
   variable_term at (InShared shared) = n.Shared at shared
   variable_term at (InSlot slot) = n.Slot slot
 
-  abbrev pub term_of : Expression → Term
+  abbrev pub term_of : Expression → NamedExpression
   term_of (src.Number at value) = n.Number value
   term_of (src.Variable name) = variable_term name.at (holder_of (meaning ds scope name))
   term_of (src.Special at builtin) = n.Special builtin
   term_of (src.Unary at operator operand) = n.Unary operator (term_of operand)
   term_of (src.Binary operator left right) = n.Binary operator (term_of left) (term_of right)
 
-  abbrev pub value_of : Option Expression → Option Term
+  abbrev pub value_of : Option Expression → Option NamedExpression
   value_of None = None
   value_of (Some e) = Some (term_of e)
 
-  abbrev pub terms_of : List Expression → List Term
+  abbrev pub terms_of : List Expression → List NamedExpression
   terms_of [] = []
   terms_of (e ∷ es) = term_of e ∷ terms_of es
 
@@ -132,15 +133,15 @@ module _ (ds : List Declared) (scope : Scope) where
   abbrev pub target_of : Ident → Target
   target_of name = held_by name.at (holder_of (meaning ds scope name))
 
-  abbrev pub making_of : Creation → Making
-  making_of c = record { at = c.scheduler.at; scheduler = scheduler_of c.scheduler; «module» = module_of c.called; arguments = terms_of c.arguments }
+  abbrev pub creation_of : Creation → NamedCreation
+  creation_of c = record { at = c.scheduler.at; scheduler = scheduler_of c.scheduler; «module» = module_of c.called; arguments = terms_of c.arguments }
 
   -- a statement whose stops are numbered from k + 1 in text order
   abbrev mutual
-    pub statement_of : src.Statement → ℕ → n.Statement
+    pub statement_of : src.Statement → ℕ → n.NamedStatement
     statement_of (src.Assign name value) k = n.Assign (target_of name) (term_of value)
-    statement_of (src.AssignCreate name at creation) k = n.AssignCreate (target_of name) at (making_of creation)
-    statement_of (src.Create at creation) k = n.Create at (making_of creation)
+    statement_of (src.AssignCreate name at creation) k = n.AssignCreate (target_of name) at (creation_of creation)
+    statement_of (src.Create at creation) k = n.Create at (creation_of creation)
     statement_of (src.PrintText at line value) k = n.PrintText at line (value_of value)
     statement_of (src.PrintValue at value) k = n.PrintValue at (term_of value)
     statement_of (src.Cooperate at instants) k = n.Cooperate at (k + 1) (value_of instants)
@@ -150,7 +151,7 @@ module _ (ds : List Declared) (scope : Scope) where
     statement_of (src.Get at event index name) k = n.Get at (k + 1) (event_use event) (term_of index) (target_of name)
     statement_of (src.Join at thread limit) k = n.Join at (k + 1) (term_of thread) (value_of limit)
     statement_of (src.ControlThread at control thread scheduler) k = n.ControlThread at control (term_of thread) (scheduler_of scheduler)
-    statement_of (src.Broadcast at event value) k = n.Broadcast at (event_of event) (value_of value)
+    statement_of (src.Broadcast at event value) k = n.Broadcast at (event_use event) (value_of value)
     statement_of (src.Link at scheduler) k = n.Link at (k + 1) (scheduler_of scheduler)
     statement_of (src.Unlink at) k = n.Unlink at (k + 1)
     statement_of (src.Run at called arguments) k = n.Run at (k + 1) called.at (module_of called) (terms_of arguments)
@@ -159,7 +160,7 @@ module _ (ds : List Declared) (scope : Scope) where
     statement_of (src.While at test body) k = n.While at (term_of test) (body_of body k)
     statement_of (src.Repeat at count body) k = n.Repeat at (term_of count) (body_of body k)
 
-    pub body_of : src.Statements → ℕ → n.Statements
+    pub body_of : src.Statements → ℕ → n.NamedStatements
     body_of src.Done k = n.Done
     body_of (src.Then first rest) k = n.Then (statement_of first k) (body_of rest (k + stops_in first))
 
@@ -190,17 +191,6 @@ module _ (ds : List Declared) (scope : Scope) where
   client_orders [] = []
   client_orders (x ∷ xs) = client_order x ∷ client_orders xs
 
-  -- a thread that is made outside module bodies
-  abbrev pub outer_making : Ident → Ident → Linking
-  outer_making scheduler called = linking.Making (record { at = scheduler.at; scheduler = scheduler_of scheduler; «module» = module_of called })
-
-  -- the creates of a client
-  abbrev pub client_makings : List Order → List Linking
-  client_makings [] = []
-  client_makings (CreateThere scheduler called arguments ∷ xs) = outer_making scheduler called ∷ client_makings xs
-  client_makings (ControlThere control thread scheduler ∷ xs) = client_makings xs
-  client_makings (BroadcastThere event value ∷ xs) = client_makings xs
-
 abbrev pub name_text : Option Ident → Option (List ℕ)
 name_text None = None
 name_text (Some name) = Some name.text
@@ -214,6 +204,11 @@ schedulers_in (Shared name scheduler value ∷ rest) = schedulers_in rest
 schedulers_in (Module head locals body ∷ rest) = schedulers_in rest
 schedulers_in (Start scheduler called arguments name ∷ rest) = schedulers_in rest
 schedulers_in (Outside name orders ∷ rest) = schedulers_in rest
+
+-- parameters or local variables
+abbrev pub slots_of : List Named → List SlotHead
+slots_of [] = []
+slots_of (v ∷ vs) = record { kind = v.kind; name = v.name.text } ∷ slots_of vs
 
 -- the declarations of the program
 module _ (ds : List Declared) where
@@ -238,8 +233,8 @@ module _ (ds : List Declared) where
   abbrev pub signature_of : ℕ → ModuleHead → List Named → Signature
   signature_of m head locals = record {
     name = head.name.text;
-    parameters = kinds_of head.parameters;
-    locals = kinds_of locals;
+    parameters = slots_of head.parameters;
+    locals = slots_of locals;
     begin = place_of ds (Within m) head.begin;
     end = end_of ds (Within m) head.begin head.end;
   }
@@ -283,19 +278,40 @@ module _ (ds : List Declared) where
   clients_in (Start scheduler called arguments name ∷ rest) = clients_in rest
   clients_in (Outside name orders ∷ rest) = record { name = name.text; orders = client_orders ds Everywhere orders } ∷ clients_in rest
 
-  -- what a declaration has to do with links, where the next module has the number m
-  abbrev pub linkings_of : ℕ → Declaration → List Linking
-  linkings_of m (Scheduler name) = []
-  linkings_of m (Event name scheduler) = []
-  linkings_of m (Shared name scheduler value) = []
-  linkings_of m (Module head locals body) = linking.Module (record { 0 = m }) ∷ []
-  linkings_of m (Start scheduler called arguments name) = outer_making ds Everywhere scheduler called ∷ []
-  linkings_of m (Outside name orders) = client_makings ds Everywhere orders
+-- a declaration by its sort and its number, where there were so many before it
+abbrev pub item_of : Sofar → Declaration → HeadItem
+item_of k (Scheduler name) = item.Scheduler (record { 0 = k.schedulers })
+item_of k (Event name scheduler) = item.Event (record { 0 = k.events })
+item_of k (Shared name scheduler value) = item.Shared (record { 0 = k.shared })
+item_of k (Module head locals body) = item.Module (record { 0 = k.modules })
+item_of k (Start scheduler called arguments name) = item.Start k.starts
+item_of k (Outside name orders) = item.Client k.clients
 
-  -- what has to do with links, in text order
-  abbrev pub items_in : ℕ → Source → List Linking
-  items_in m [] = []
-  items_in m (d ∷ rest) = linkings_of m d ++ items_in (next_module m d) rest
+-- the declarations in text order
+abbrev pub items_in : Sofar → Source → List HeadItem
+items_in k [] = []
+items_in k (d ∷ rest) = item_of k d ∷ items_in (after k d) rest
+
+-- the creates of a client, where its next order has this number
+abbrev pub creates_in : ℕ → ℕ → List Order → List LinkItem
+creates_in client number [] = []
+creates_in client number (CreateThere scheduler called arguments ∷ xs) = link.Create scheduler.at client number ∷ creates_in client (number + 1) xs
+creates_in client number (ControlThere control thread scheduler ∷ xs) = creates_in client (number + 1) xs
+creates_in client number (BroadcastThere event value ∷ xs) = creates_in client (number + 1) xs
+
+-- what a declaration has to do with links
+abbrev pub links_of : Sofar → Declaration → List LinkItem
+links_of k (Scheduler name) = []
+links_of k (Event name scheduler) = []
+links_of k (Shared name scheduler value) = []
+links_of k (Module head locals body) = link.Module (record { 0 = k.modules }) ∷ []
+links_of k (Start scheduler called arguments name) = link.Start scheduler.at k.starts ∷ []
+links_of k (Outside name orders) = creates_in k.clients 0 orders
+
+-- what has to do with links, in text order
+abbrev pub links_in : Sofar → Source → List LinkItem
+links_in k [] = []
+links_in k (d ∷ rest) = links_of k d ++ links_in (after k d) rest
 
 -- all that a program declares outside module bodies
 abbrev pub heads_of : List Declared → Source → Heads
@@ -306,8 +322,9 @@ heads_of ds p = record {
   modules = signatures_in ds 0 p;
   starts = starts_in ds p;
   clients = clients_in ds p;
+  items = items_in none_yet p;
 }
 
 -- the program with numbers in place of names
 abbrev pub numbered : Source → NamedProgram
-numbered p = record { heads = heads_of (declared p) p; modules = modules_in (declared p) 0 p; items = items_in (declared p) 0 p }
+numbered p = record { heads = heads_of (declared p) p; modules = modules_in (declared p) 0 p; links = links_in none_yet p }

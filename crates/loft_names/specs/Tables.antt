@@ -57,7 +57,7 @@ is_reached (In there) scope = same_scope there scope
 abbrev pub is_sought : Reach → List ℕ → Declared → Bool
 is_sought reach name d = is_reached reach d.scope && bytes_eq d.name.text name
 
--- the map has the place of the first declaration that is looked for, for each key
+-- the map has the index of the first declaration that is looked for, for each key
 abbrev pub IndexesFirsts : {S : Type 0} → IndexMap Key ℕ S → List Declared → Type 0
 IndexesFirsts firsts ds = (q : Key) → get same_key firsts q ≡ position (is_sought q.0 q.1.now) ds
 
@@ -66,6 +66,6 @@ pub record Declares (old new : List Declared) (first last : Option NameError) (d
   pub table : new ≡ old ++ ds
   pub faults : last ≡ least_of first (twice_from old ds)
 
--- the map has this place for the key now, unless it had one
+-- the map has this index for the key now, unless it had one
 abbrev pub NotesFirst : {S : Type 0} → IndexMap Key ℕ S → IndexMap Key ℕ S → Key → ℕ → Type 0
 NotesFirst old new key place = (q : Key) → get same_key new q ≡ option_or (get same_key old q) (if same_key q key then Some place else None)

@@ -1,6 +1,6 @@
 //! What a program declares, and what it declares twice.
 
-ghost use Rattle.std.specs.Prelude.{◌≡◌, ◌+◌, ◌<◌, ◌≤◌, ◌^◌, ◌++◌, ◌∷◌, [], length, map, IfOk, OnOk};
+ghost use Rattle.std.specs.Prelude.{◌≡◌, ◌+◌, ◌<◌, ◌≤◌, ◌^◌, ◌∷◌, [], length, map, IfOk, OnOk};
 ghost use Rattle.loft_tree.specs.View.{named_of, head_of, declaration_of, source_of};
 ghost use Rattle.loft_tree.specs.Fits.{DeclarationFits, SourceFits};
 ghost use Rattle.loft_names.specs.Faults.{twice_from};
@@ -95,8 +95,8 @@ fn declare_module<'a>(
     let declaration = everywhere(&head.name, Sort::Module(parameters), number);
     let table = declare(table, declaration, least)?;
     let table = declare_variables(table, number, 0, parameters, least)?;
-    let behind = parameters.len() as u32;
-    declare_variables(table, number, behind, locals, least)
+    let first_local = parameters.len() as u32;
+    declare_variables(table, number, first_local, locals, least)
 }
 
 /// What one declaration of the program declares.

@@ -5,21 +5,21 @@ ghost use Rattle.loft_names.specs.declared.error.NameError.TheVariants.{NoMemory
 
 use loft_base::NoMemory;
 
-/// Why the names of a program are refused. A place is the number of bytes before it in the text.
+/// Why the names of a program are refused (docs/LANGUAGE.md, "Names" and "Kinds"). An offset is the number of bytes
+/// before it in the text.
 #[derive(Clone, Copy, Debug, PartialEq, Eq)]
 pub enum NameError {
     /// The program declares no scheduler.
     NoScheduler,
-    /// The name at this place isn't declared.
+    /// No declaration of the name at this offset can be seen from there.
     Unknown(u32),
-    /// The name that is declared at this place is declared before, first at another place.
+    /// The name at the offset `at` is declared again: its first declaration is at the offset `first`.
     Twice { at: u32, first: u32 },
-    /// The call of the module whose name stands at this place has too few or too many arguments.
+    /// The call of the module whose name stands at this offset has too few or too many arguments.
     Arity(u32),
-    /// What stands at this place is of another kind, or names something of another sort, than is
-    /// needed.
+    /// What stands at this offset is of another kind, or names something of another sort, than is needed.
     Kind(u32),
-    /// There was no memory.
+    /// Out of memory.
     NoMemory,
 }
 

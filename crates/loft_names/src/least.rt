@@ -1,13 +1,13 @@
 //! The first of the faults that are found.
 
 ghost use Rattle.std.specs.Prelude.{◌≡◌, [], ◌∷◌};
-ghost use Rattle.loft_names.specs.Faults.{place_of, rank_of};
+ghost use Rattle.loft_names.specs.Faults.{place_of, rank_of, first_of};
 ghost use Rattle.loft_names.specs.Least.{precedes, least_of};
 
 use crate::error::NameError;
 
-/// Where a fault stands.
-fn place_of(fault: NameError) -> u32
+/// The offset of a fault.
+fn offset_of(fault: NameError) -> u32
     ensures { result ≡ place_of fault }
 {
     match fault {
@@ -19,15 +19,28 @@ fn place_of(fault: NameError) -> u32
     }
 }
 
-/// The order of faults at one place.
+/// The order of faults at one offset.
 fn rank_of(fault: NameError) -> u8
     ensures { result ≡ rank_of fault }
 {
     match fault {
-        NameError::NoScheduler | NameError::Unknown(_) | NameError::NoMemory => 0,
-        NameError::Twice { .. } => 1,
-        NameError::Kind(_) => 2,
-        NameError::Arity(_) => 3,
+        NameError::NoScheduler => 0,
+        NameError::Unknown(_) => 1,
+        NameError::Twice { .. } => 2,
+        NameError::Kind(_) => 3,
+        NameError::Arity(_) => 4,
+        NameError::NoMemory => 5,
+    }
+}
+
+/// The offset of the first declaration of a name that is declared twice, else 0. It decides only
+/// between faults that no text has, where two declarations stand at one offset.
+fn first_of(fault: NameError) -> u32
+    ensures { result ≡ first_of fault }
+{
+    match fault {
+        NameError::Twice { first, .. } => first,
+        _ => 0,
     }
 }
 
@@ -35,9 +48,12 @@ fn rank_of(fault: NameError) -> u8
 fn precedes(fault: NameError, other: NameError) -> bool
     ensures { result ≡ precedes fault other }
 {
-    let place = place_of(fault);
-    let other_place = place_of(other);
-    place < other_place || (place == other_place && rank_of(fault) < rank_of(other))
+    let (offset, other_offset) = (offset_of(fault), offset_of(other));
+    let (rank, other_rank) = (rank_of(fault), rank_of(other));
+    let first_is_sooner = first_of(fault) < first_of(other);
+    offset < other_offset
+        || (offset == other_offset
+            && (rank < other_rank || (rank == other_rank && first_is_sooner)))
 }
 
 /// Keeps the first of the fault so far and this one.

@@ -4,6 +4,7 @@
 mod declare;
 mod error;
 mod faults;
+mod laws;
 mod least;
 mod numbers;
 mod program;
@@ -12,4 +13,5 @@ mod sofar;
 mod table;
 
 pub use error::NameError;
+pub use laws::{names_are_decided, names_fit_means, numbers_name_heads};
 pub use program::resolve;

@@ -3,10 +3,13 @@
 mod call;
 mod expression;
 mod head;
+mod item;
+mod link;
 mod module;
 mod name;
 mod part;
 mod statement;
 
 pub use head::heads;
-pub use module::{linkings, modules};
+pub use link::links;
+pub use module::modules;

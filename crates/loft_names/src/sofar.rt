@@ -53,7 +53,7 @@ impl Sofar {
     }
 }
 
-/// The number of the next module, behind a declaration.
+/// The number of the next module, after a declaration.
 pub fn next_module(number: u32, declared: &Item) -> u32
     requires { number + 1 < 2 ^ 32 }
     ensures { result ≡ next_module number (declaration_of declared.now) }

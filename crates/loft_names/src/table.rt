@@ -141,7 +141,7 @@ impl<'a> Table<'a> {
         }
     }
 
-    /// The first declaration of a name among those within reach; behind the last, if there is none.
+    /// The first declaration of a name among those within reach; the number of all, if there is none.
     fn first(&self, reach: Reach, name: &Ident) -> usize
         ensures { result ≡ position_or_len (is_sought reach name.now.text) self.now }
     {

@@ -1,5 +1,5 @@
 -- Chains of operators, as a loop reads them.
-use Rattle.std.proofs.Common.{◌≡◌, ℕ, ◌<◌, true, false, List, Ok, Err, refl, sym, ◌∙◌, ap}
+use Rattle.std.proofs.Common.{◌≡◌, ℕ, ◌<◌, true, false, List, Ok, Err, refl, sym, ◌∙◌, ap, arith}
 use Rattle.loft_lex.specs.Symbol.{Symbol}
 use Rattle.loft_tree.specs.declared.kinds.BinaryOperator.{BinaryOperator}
 use Rattle.loft_tree.specs.Source.{Expression, Binary}
@@ -7,10 +7,13 @@ use Rattle.loft_form.specs.declared.stop.Stop.{Stop}
 use Rattle.loft_form.specs.declared.stop.Stop.TheVariants as stop
 use Rattle.loft_form.specs.Form.{many, State, next_begins}
 use Rattle.loft_form.specs.Reading.{Place, Read, ◌>>=◌, with_first, read, done, Fails}
-use Rattle.loft_form.proofs.Eats.{least, many_more, many_done}
+use Rattle.loft_form.proofs.Progress.{least, many_more, many_done}
 use Rattle.loft_parse.specs.Language.{Language}
 use Rattle.loft_parse.specs.Grammar.{Form, rules, chain}
+use Rattle.loft_parse.specs.Levels.{operator_at, operation_at}
 use Rattle.loft_parse.specs.Source.{limits}
+use Rattle.loft_parse.specs.declared.operator.Level.{Level}
+use Rattle.loft_parse.specs.declared.operator.Level.TheVariants.{Product, Sum, Conjunction, Disjunction}
 
 -- what was read of the chain, and then what is left of it
 abbrev pub finish : Expression → Read Language (List (BinaryOperator × Expression)) → Read Language Expression
@@ -34,3 +37,17 @@ module _ (n : ℕ) (f : Form (BinaryOperator × Expression)) (t : Expression) (s
 
   pub chain_done : 0 < least f → next_begins f ss ≡ false → total ≡ done t ss c
   chain_done h b = sym so_far ∙ ap (finish t) (many_done rules limits n f ss c h b)
+
+-- an operator opens no nesting
+pub flat_operator : (n : ℕ) (level : Level) (ss : List Symbol) (c : State Language) → read rules limits n (operator_at level) ss c ≡ read rules limits 0 (operator_at level) ss c
+flat_operator n Product ss c = refl
+flat_operator n Sum ss c = refl
+flat_operator n Conjunction ss c = refl
+flat_operator n Disjunction ss c = refl
+
+-- an operation has a symbol
+pub least_operation : (level : Level) → 0 < least (operation_at level)
+least_operation Product = omega arith
+least_operation Sum = omega arith
+least_operation Conjunction = omega arith
+least_operation Disjunction = omega arith

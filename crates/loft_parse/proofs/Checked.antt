@@ -6,7 +6,7 @@ use Rattle.loft_lex.specs.declared.word.Word.TheVariants as word
 use Rattle.loft_lex.specs.declared.sign.Sign.TheVariants as sign
 use Rattle.loft_form.proofs.Guarded.{guarded}
 use Rattle.loft_form.proofs.Checked.{Checked}
-use Rattle.loft_form.proofs.Clear.{Told, Fair, every, and_true, clear, nullable, starts, goes_on, agrees}
+use Rattle.loft_form.proofs.Disjoint.{Told, Fair, every, and_true, clear, nullable, starts, goes_on, agrees}
 use Rattle.loft_form.specs.Form.{begins}
 use Rattle.loft_parse.specs.Language.{Language, Rule, Bracketed, Signed, Conditional, Looped, is_word, is_sign, Kind, AName, AWord, ANumber, AText, ASign, Other, word_number, sign_number}
 use Rattle.loft_parse.specs.Grammar.{rules, builtin, bracketed, atom, negated, inverted, unary, factor, term, summand, sum, equality, ordering, compared, comparison, conjunct, conjunction, disjunct, expression, whole, argument, arguments, creation, behind_comma, time_limit, assigned, assignment, printed, print, create, cooperate, generate, await_event, choice, choices, select, get, join, control, broadcast, link, unlink, run, halt, conditional, while_loop, repeat, value_statement, event_statement, thread_statement, moving_statement, statement, body, test, otherwise, branches, turns, negative, signed, parameter, parameters, local, place, ending, head, module_item, scheduler_item, event_item, shared_item, outer_argument, outer_arguments, alias, start_item, create_order, control_order, value_behind_comma, broadcast_order, order, outside_item, item, program}

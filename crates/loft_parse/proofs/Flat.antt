@@ -3,7 +3,7 @@ use Rattle.std.proofs.Common.{◌≡◌, List, refl}
 use Rattle.loft_lex.specs.Symbol.{Symbol}
 use Rattle.loft_form.specs.Form.{many, fresh, State}
 use Rattle.loft_form.specs.Reading.{read}
-use Rattle.loft_form.proofs.Flat.{read_flat}
+use Rattle.loft_form.proofs.NoNesting.{read_flat}
 use Rattle.loft_parse.specs.declared.counts.Counted.TheVariants as count
 use Rattle.loft_parse.specs.Language.{Language}
 use Rattle.loft_parse.specs.Grammar.{Form, rules, negative, signed, parameter, parameters, local, place, ending, head, outer_argument, outer_arguments, create_order, control_order, value_behind_comma, broadcast_order, order}

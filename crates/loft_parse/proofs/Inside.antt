@@ -3,7 +3,7 @@ use Rattle.std.proofs.Common.{◌≡◌, ℕ, ◌-◌, ◌<◌, List}
 use Rattle.loft_lex.specs.Symbol.{Symbol}
 use Rattle.loft_form.specs.Form.{State}
 use Rattle.loft_form.specs.Reading.{read, rule_at}
-use Rattle.loft_form.proofs.Inside.{inside_is as inside_any}
+use Rattle.loft_form.proofs.Nesting.{inside_is as inside_any}
 use Rattle.loft_parse.specs.Language.{Language, Rule}
 use Rattle.loft_parse.specs.Grammar.{rules}
 use Rattle.loft_parse.specs.Source.{limits}

@@ -7,6 +7,7 @@ use Rattle.loft_lex.specs.declared.token.LexError.{LexError}
 use Rattle.loft_lex.specs.declared.token.LexError.TheVariants as lexical
 use Rattle.loft_lex.specs.Symbol.{Symbol, symbols}
 use Rattle.loft_lex.specs.Tokens.{tokens, IsFirstFault}
+use Rattle.loft_lex.proofs.Readings.{found_is_cut}
 use Rattle.loft_tree.specs.Source.{Source}
 use Rattle.loft_tree.specs.Fits.{SourceFits}
 use Rattle.loft_tree.specs.View.{source_of}
@@ -54,7 +55,7 @@ located_ok end ts (Err e) p h = absurd cc
 text_is : (text : List ℕ) (r : Result (List Token) LexError) → tokens text ≡ r → (p : Source) → whole_text text r ≡ Ok p → Reads text p
 text_is text (Err e) h p k = absurd cc
 text_is text (Ok ts) h p k =
-    (ts, h, spelled_is (symbols text ts) (read rules limits nesting program (symbols text ts) beginning) refl p (located_ok (length text) ts _ p k))
+    (ts, (found_is_cut text (Ok ts)).0 h, spelled_is (symbols text ts) (read rules limits nesting program (symbols text ts) beginning) refl p (located_ok (length text) ts _ p k))
 
 -- what is parsed is the program of the text
 pub parsed_reads : (text : List ℕ) (p : Source) → parsed text ≡ Ok p → Reads text p
@@ -62,7 +63,8 @@ parsed_reads text p h = text_is text (tokens text) refl p h
 
 -- the program of the text is parsed
 pub reads_parsed : (text : List ℕ) (p : Source) → Reads text p → parsed text ≡ Ok p
-reads_parsed text p (ts, e, (d, s)) =
+reads_parsed text p (ts, cut, (d, s)) =
+    let e = (found_is_cut text (Ok ts)).1 cut in
     let whole : read rules limits nesting program (symbols text ts) beginning ≡ done p [] d =
     ap (λ (t : List Symbol). read rules limits nesting program t beginning) (sym (append-nil (symbols text ts))) ∙ spelled_read rules told fair limits nesting program program_clear (symbols text ts) [] beginning p d s tt in
     ap (whole_text text) e ∙ ap (λ r. locate (length text) ts (all_of r)) whole

@@ -6,3 +6,7 @@ pub mod Laws
 pub mod Leaves
 pub mod fits
 pub mod SourceFaults
+pub mod Offsets
+pub mod TextLaws
+pub mod LocalLaws
+pub mod LimitLaws

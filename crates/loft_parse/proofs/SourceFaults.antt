@@ -4,6 +4,7 @@ use Rattle.loft_lex.specs.declared.token.Token.{Token}
 use Rattle.loft_lex.specs.declared.token.LexError.{LexError}
 use Rattle.loft_lex.specs.Symbol.{symbols}
 use Rattle.loft_lex.specs.Tokens.{tokens}
+use Rattle.loft_lex.proofs.Readings.{found_is_cut}
 use Rattle.loft_tree.specs.Source.{Source}
 use Rattle.loft_form.specs.declared.fault.Fault.{Fault}
 use Rattle.loft_form.specs.Reading.{read, all_of}
@@ -21,11 +22,11 @@ located_fault : (text : List ℕ) (ts : List Token) → tokens text ≡ Ok ts �
 located_fault text ts h (Ok p) k e l = absurd cc
 located_fault text ts h (Err f) k e l =
     let same : e ≡ located (length text) ts f = cc in
-    inr (ts, f, h, first.fault checked limits nesting (symbols text ts) beginning f k, same)
+    inr (ts, f, (found_is_cut text (Ok ts)).0 h, first.fault checked limits nesting (symbols text ts) beginning f k, same)
 
 fault_of : (text : List ℕ) (r : Result (List Token) LexError) → tokens text ≡ r → (e : ParseError) → whole_text text r ≡ Err e → SourceFault text e
 fault_of text (Ok ts) h e k = located_fault text ts h _ refl e k
-fault_of text (Err f) h e k = inl (f, h, (let same : e ≡ Lex f = cc in same))
+fault_of text (Err f) h e k = inl (f, (found_is_cut text (Err f)).0 h, (let same : e ≡ Lex f = cc in same))
 
 -- a text that is refused has this fault
 pub parsed_fault : (text : List ℕ) (e : ParseError) → parsed text ≡ Err e → SourceFault text e
@@ -33,6 +34,6 @@ parsed_fault text e h = fault_of text (tokens text) refl e h
 
 -- a text with a fault is refused so
 pub fault_parsed : (text : List ℕ) (e : ParseError) → SourceFault text e → parsed text ≡ Err e
-fault_parsed text e (inl (f, h, same)) = ap (whole_text text) h ∙ ap (λ (t : ParseError). Err t) (sym same)
-fault_parsed text e (inr (ts, f, h, is, same)) =
-    ap (whole_text text) h ∙ (ap (locate (length text) ts) (first.only_fault checked limits nesting (symbols text ts) beginning f is) ∙ ap (λ (t : ParseError). Err t) (sym same))
+fault_parsed text e (inl (f, cut, same)) = ap (whole_text text) ((found_is_cut text (Err f)).1 cut) ∙ ap (λ (t : ParseError). Err t) (sym same)
+fault_parsed text e (inr (ts, f, cut, is, same)) =
+    ap (whole_text text) ((found_is_cut text (Ok ts)).1 cut) ∙ (ap (locate (length text) ts) (first.only_fault checked limits nesting (symbols text ts) beginning f is) ∙ ap (λ (t : ParseError). Err t) (sym same))

@@ -1,24 +1,25 @@
 -- Counting, and the limits (docs/LANGUAGE.md, "Limits").
 use Rattle.std.specs.Prelude.{ℕ}
+use Rattle.loft_tree.specs.declared.limits.TheConstants.{MAX_SCHEDULERS, MAX_EVENTS, MAX_SHARED, MAX_MODULES, MAX_STARTS, MAX_CLIENTS, MAX_ORDERS, MAX_PARAMETERS, MAX_LOCALS, MAX_STATEMENTS, MAX_OPERANDS, MAX_ARGUMENTS, MAX_CHOICES}
 use Rattle.loft_parse.specs.declared.counts.Counted.{Counted}
 use Rattle.loft_parse.specs.declared.counts.Counted.TheVariants.{Scheduler, Event, Shared, Module, Start, Client, Order, Parameter, Local, Statement, Operand, Argument, Choice}
 use Rattle.loft_parse.specs.declared.counts.Counts.{Counts}
 
 -- how many there may be
 abbrev pub most : Counted → ℕ
-most Scheduler = 16
-most Event = 256
-most Shared = 256
-most Module = 256
-most Start = 4096
-most Client = 16
-most Order = 1024
-most Parameter = 8
-most Local = 32
-most Statement = 4096
-most Operand = 64
-most Argument = 8
-most Choice = 8
+most Scheduler = MAX_SCHEDULERS
+most Event = MAX_EVENTS
+most Shared = MAX_SHARED
+most Module = MAX_MODULES
+most Start = MAX_STARTS
+most Client = MAX_CLIENTS
+most Order = MAX_ORDERS
+most Parameter = MAX_PARAMETERS
+most Local = MAX_LOCALS
+most Statement = MAX_STATEMENTS
+most Operand = MAX_OPERANDS
+most Argument = MAX_ARGUMENTS
+most Choice = MAX_CHOICES
 
 -- how many there were
 abbrev pub number : Counted → Counts → ℕ
@@ -38,19 +39,19 @@ number Choice c = c.choices
 
 -- the counts, with n of these
 abbrev pub put : Counted → ℕ → Counts → Counts
-put Scheduler n c = record { schedulers = n; events = c.events; shared = c.shared; modules = c.modules; starts = c.starts; clients = c.clients; orders = c.orders; parameters = c.parameters; locals = c.locals; statements = c.statements; operands = c.operands; arguments = c.arguments; choices = c.choices }
-put Event n c = record { schedulers = c.schedulers; events = n; shared = c.shared; modules = c.modules; starts = c.starts; clients = c.clients; orders = c.orders; parameters = c.parameters; locals = c.locals; statements = c.statements; operands = c.operands; arguments = c.arguments; choices = c.choices }
-put Shared n c = record { schedulers = c.schedulers; events = c.events; shared = n; modules = c.modules; starts = c.starts; clients = c.clients; orders = c.orders; parameters = c.parameters; locals = c.locals; statements = c.statements; operands = c.operands; arguments = c.arguments; choices = c.choices }
-put Module n c = record { schedulers = c.schedulers; events = c.events; shared = c.shared; modules = n; starts = c.starts; clients = c.clients; orders = c.orders; parameters = c.parameters; locals = c.locals; statements = c.statements; operands = c.operands; arguments = c.arguments; choices = c.choices }
-put Start n c = record { schedulers = c.schedulers; events = c.events; shared = c.shared; modules = c.modules; starts = n; clients = c.clients; orders = c.orders; parameters = c.parameters; locals = c.locals; statements = c.statements; operands = c.operands; arguments = c.arguments; choices = c.choices }
-put Client n c = record { schedulers = c.schedulers; events = c.events; shared = c.shared; modules = c.modules; starts = c.starts; clients = n; orders = c.orders; parameters = c.parameters; locals = c.locals; statements = c.statements; operands = c.operands; arguments = c.arguments; choices = c.choices }
-put Order n c = record { schedulers = c.schedulers; events = c.events; shared = c.shared; modules = c.modules; starts = c.starts; clients = c.clients; orders = n; parameters = c.parameters; locals = c.locals; statements = c.statements; operands = c.operands; arguments = c.arguments; choices = c.choices }
-put Parameter n c = record { schedulers = c.schedulers; events = c.events; shared = c.shared; modules = c.modules; starts = c.starts; clients = c.clients; orders = c.orders; parameters = n; locals = c.locals; statements = c.statements; operands = c.operands; arguments = c.arguments; choices = c.choices }
-put Local n c = record { schedulers = c.schedulers; events = c.events; shared = c.shared; modules = c.modules; starts = c.starts; clients = c.clients; orders = c.orders; parameters = c.parameters; locals = n; statements = c.statements; operands = c.operands; arguments = c.arguments; choices = c.choices }
-put Statement n c = record { schedulers = c.schedulers; events = c.events; shared = c.shared; modules = c.modules; starts = c.starts; clients = c.clients; orders = c.orders; parameters = c.parameters; locals = c.locals; statements = n; operands = c.operands; arguments = c.arguments; choices = c.choices }
-put Operand n c = record { schedulers = c.schedulers; events = c.events; shared = c.shared; modules = c.modules; starts = c.starts; clients = c.clients; orders = c.orders; parameters = c.parameters; locals = c.locals; statements = c.statements; operands = n; arguments = c.arguments; choices = c.choices }
-put Argument n c = record { schedulers = c.schedulers; events = c.events; shared = c.shared; modules = c.modules; starts = c.starts; clients = c.clients; orders = c.orders; parameters = c.parameters; locals = c.locals; statements = c.statements; operands = c.operands; arguments = n; choices = c.choices }
-put Choice n c = record { schedulers = c.schedulers; events = c.events; shared = c.shared; modules = c.modules; starts = c.starts; clients = c.clients; orders = c.orders; parameters = c.parameters; locals = c.locals; statements = c.statements; operands = c.operands; arguments = c.arguments; choices = n }
+put Scheduler n c = record c { schedulers = n }
+put Event n c = record c { events = n }
+put Shared n c = record c { shared = n }
+put Module n c = record c { modules = n }
+put Start n c = record c { starts = n }
+put Client n c = record c { clients = n }
+put Order n c = record c { orders = n }
+put Parameter n c = record c { parameters = n }
+put Local n c = record c { locals = n }
+put Statement n c = record c { statements = n }
+put Operand n c = record c { operands = n }
+put Argument n c = record c { arguments = n }
+put Choice n c = record c { choices = n }
 
 -- nothing is counted yet
 abbrev pub none : Counts

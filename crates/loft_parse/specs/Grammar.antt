@@ -16,7 +16,7 @@ use Rattle.loft_tree.specs.declared.kinds.BinaryOperator.{BinaryOperator}
 use Rattle.loft_tree.specs.declared.kinds.BinaryOperator.TheVariants as o
 use Rattle.loft_tree.specs.declared.kinds.Control.{Control}
 use Rattle.loft_tree.specs.declared.kinds.Control.TheVariants as c
-use Rattle.loft_tree.specs.Source.{Ident, Expression, Number, Variable, Special, Unary, Binary, Creation, Statement, Assign, AssignCreate, Create, PrintText, PrintValue, Cooperate, Generate, Await, Select, Get, Join, ControlThread, Broadcast, Link, Unlink, Run, Halt, If, While, Repeat, Statements, Done, Named, PlaceName, InScheduler, Unlinked, ModuleHead, Argument, ANumber, AName, Order, CreateThere, ControlThere, BroadcastThere, Declaration, Scheduler, Event, Shared, Module, Start, Outside, Source}
+use Rattle.loft_tree.specs.Source.{Ident, EventName, Expression, Number, Variable, Special, Unary, Binary, Creation, Statement, Assign, AssignCreate, Create, PrintText, PrintValue, Cooperate, Generate, Await, Select, Get, Join, ControlThread, Broadcast, Link, Unlink, Run, Halt, If, While, Repeat, Statements, Done, Named, PlaceName, InScheduler, Unlinked, ModuleHead, Argument, ANumber, AName, Order, CreateThere, ControlThere, BroadcastThere, Declaration, Scheduler, Event, Shared, Module, Start, Outside, Source}
 use Rattle.loft_tree.specs.View.{body_of}
 use Rattle.loft_tree.specs.Fits.{same_place}
 use Rattle.loft_form.specs.Form.{Form as FormOf, Grammar, leaf, ◌▹◌, ◌∣◌, maybe, many, inside, counted, fresh, made}
@@ -273,19 +273,23 @@ create = made (λ x. Create x.0 x.1.0) (begins_with w.Create ▹ creation ▹ si
 unfoldable pub cooperate : Form Statement
 cooperate = made (λ x. Cooperate x.0 x.1.0) (begins_with w.Cooperate ▹ maybe whole ▹ sign s.Semicolon)
 
+-- an event that is named
+abbrev pub event_name : Form EventName
+event_name = made (λ n. record { name = n }) name
+
 -- "generate" name [ "," expression ] ";"
 unfoldable pub generate : Form Statement
-generate = made (λ x. Generate x.0 x.1.0 x.1.1.0) (begins_with w.Generate ▹ name ▹ maybe behind_comma ▹ sign s.Semicolon)
+generate = made (λ x. Generate x.0 x.1.0 x.1.1.0) (begins_with w.Generate ▹ event_name ▹ maybe behind_comma ▹ sign s.Semicolon)
 
 -- "await" name [ "for" expression ] ";"
 unfoldable pub await_event : Form Statement
-await_event = made (λ x. Await x.0 x.1.0 x.1.1.0) (begins_with w.Await ▹ name ▹ maybe time_limit ▹ sign s.Semicolon)
+await_event = made (λ x. Await x.0 x.1.0 x.1.1.0) (begins_with w.Await ▹ event_name ▹ maybe time_limit ▹ sign s.Semicolon)
 
-unfoldable pub choice : Form Ident
-choice = counting (Some count.Choice) name
+unfoldable pub choice : Form EventName
+choice = counting (Some count.Choice) event_name
 
 -- name "," name { "," name }
-unfoldable pub choices : Form (List Ident)
+unfoldable pub choices : Form (List EventName)
 choices = made (λ x. x.0 ∷ x.1.0 ∷ x.1.1) (choice ▹ further choice ▹ many (further choice))
 
 -- "select" name "," name { "," name } [ "for" expression ] ";"
@@ -298,7 +302,7 @@ select =
 unfoldable pub get : Form Statement
 get =
     made (λ x. Get x.0 x.1.0 x.1.1.1.0 x.1.1.1.1.1.0)
-    (begins_with w.Get ▹ name ▹ word w.At ▹ whole ▹ word w.Into ▹ name ▹ sign s.Semicolon)
+    (begins_with w.Get ▹ event_name ▹ word w.At ▹ whole ▹ word w.Into ▹ name ▹ sign s.Semicolon)
 
 -- "join" expression [ "for" expression ] ";"
 unfoldable pub join : Form Statement
@@ -319,7 +323,7 @@ control =
 
 -- "broadcast" name [ "," expression ] ";"
 unfoldable pub broadcast : Form Statement
-broadcast = made (λ x. Broadcast x.0 x.1.0 x.1.1.0) (begins_with w.Broadcast ▹ name ▹ maybe behind_comma ▹ sign s.Semicolon)
+broadcast = made (λ x. Broadcast x.0 x.1.0 x.1.1.0) (begins_with w.Broadcast ▹ event_name ▹ maybe behind_comma ▹ sign s.Semicolon)
 
 -- "link" name ";"
 unfoldable pub link : Form Statement
@@ -502,7 +506,7 @@ value_behind_comma = made (λ x. x.1.1) (sign s.Comma ▹ signed)
 unfoldable pub broadcast_order : Form Order
 broadcast_order =
     made (λ x. BroadcastThere x.1.0 x.1.1.0)
-    (first_word count.Order w.Broadcast ▹ name ▹ maybe value_behind_comma ▹ sign s.Semicolon)
+    (first_word count.Order w.Broadcast ▹ event_name ▹ maybe value_behind_comma ▹ sign s.Semicolon)
 
 unfoldable pub order : Form Order
 order = create_order ∣ control_order ∣ broadcast_order

@@ -1,7 +1,9 @@
 pub mod Counts
-pub mod Lexeme
 pub mod Language
 pub mod Grammar
+pub mod Levels
 pub mod Source
 pub mod View
 pub mod Parsing
+pub mod Alike
+pub mod Unlimited

@@ -3,8 +3,9 @@ use Rattle.std.specs.Prelude.{◌≡◌, ℕ, ◌-◌, ◌⊎◌, List, [], ◌�
 use Rattle.loft_lex.specs.declared.token.Token.{Token}
 use Rattle.loft_lex.specs.declared.token.LexError.{LexError}
 use Rattle.loft_lex.specs.Symbol.{Symbol, symbols}
-use Rattle.loft_lex.specs.Tokens.{tokens}
+use Rattle.loft_lex.specs.Cut.{Cut}
 use Rattle.loft_tree.specs.Source.{Source}
+use Rattle.loft_tree.specs.declared.limits.TheConstants.{MAX_NESTING}
 use Rattle.loft_form.specs.declared.fault.Fault.{Fault}
 use Rattle.loft_form.specs.declared.fault.Fault.TheVariants as fault
 use Rattle.loft_form.specs.Form.{Limits, State}
@@ -22,7 +23,7 @@ limits = record { most = λ what. Some (most what) }
 
 -- how many nestings may be open
 abbrev pub nesting : ℕ
-nesting = 32
+nesting = MAX_NESTING
 
 -- nothing is counted yet
 abbrev pub beginning : State Language
@@ -32,20 +33,20 @@ beginning = record { counts = none; due = [] }
 abbrev pub SpellsProgram : List Symbol → Source → Type 0
 SpellsProgram ss p = (d : State Language) × Spells limits nesting (SpellsRule rules limits nesting) program ss beginning p d
 
--- the text is that of the program
+-- The text is that of the program: it is cut into tokens that spell the program.
 abbrev pub Reads : List ℕ → Source → Type 0
-Reads text p = (ts : List Token) × (tokens text ≡ Ok ts) × SpellsProgram (symbols text ts) p
+Reads text p = (ts : List Token) × Cut text (Ok ts) × SpellsProgram (symbols text ts) p
 
--- where the first token stands, or the text's end
+-- the offset of the first token, or of the text's end
 abbrev pub first_place : ℕ → List Token → ℕ
 first_place end [] = end
 first_place end (t ∷ ts) = t.from
 
--- where the token stands from which on so many are left
+-- the offset of the token from which on so many are left
 abbrev pub place : ℕ → List Token → ℕ → ℕ
 place end ts left = first_place end (drop (length ts - left) ts)
 
--- the fault, told by its place in the text
+-- the fault, with its offset in the text
 abbrev pub located : ℕ → List Token → Fault → ParseError
 located end ts (fault.Expected left) = Expected (place end ts left)
 located end ts (fault.TooDeep left) = TooDeep (place end ts left)
@@ -55,10 +56,10 @@ located end ts (fault.TooMany left limit) = TooMany (place end ts left) limit
 -- tokens stop by the grammar without limits; the limits are asked of the tokens before that.
 abbrev pub SourceFault : List ℕ → ParseError → Type 0
 SourceFault text e =
-    ((f : LexError) × (tokens text ≡ Err f) × (e ≡ Lex f))
-    ⊎ ((ts : List Token) × (f : Fault) × (tokens text ≡ Ok ts) × IsFaultOf rules limits nesting program (symbols text ts) beginning f × (e ≡ located (length text) ts f))
+    ((f : LexError) × Cut text (Err f) × (e ≡ Lex f))
+    ⊎ ((ts : List Token) × (f : Fault) × Cut text (Ok ts) × IsFaultOf rules limits nesting program (symbols text ts) beginning f × (e ≡ located (length text) ts f))
 
--- an error has its cause: but for want of memory and too long a text, it is the fault of the text
+-- an error has its cause: unless memory ran out or the text is too long, it is the fault of the text
 abbrev pub IsFault : List ℕ → ParseError → Type 0
 IsFault text (Lex e) = SourceFault text (Lex e)
 IsFault text (Expected at) = SourceFault text (Expected at)

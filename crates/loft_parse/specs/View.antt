@@ -2,15 +2,17 @@
 use Rattle.std.specs.Prelude.{ℕ, List, [], ◌∷◌, ◌++◌, map, Option, Some, None, Ok, Err}
 use Rattle.std.specs.Global.{Vec}
 use Rattle.std.specs.Option.{option_map}
-use Rattle.loft_lex.specs.Symbol.{Symbol, symbols}
-use Rattle.loft_tree.specs.Source.{Ident, Expression, Statement, Named, Argument, Order, Source}
-use Rattle.loft_tree.specs.View.{expression_of, statement_of, named_of, argument_of, order_of, source_of}
+use Rattle.loft_lex.specs.Symbol.{Symbol}
+use Rattle.loft_lex.specs.Seen.{symbol_seen}
+use Rattle.loft_tree.specs.Source.{EventName, Expression, Statement, Named, Argument, Order, Source}
+use Rattle.loft_tree.specs.View.{event_name_of, expression_of, statement_of, named_of, argument_of, order_of, source_of}
 use Rattle.loft_tree.specs.declared.expression.Expr.{Expr}
 use Rattle.loft_tree.specs.declared.kinds.BinaryOperator.{BinaryOperator}
 use Rattle.loft_tree.specs.declared.statement.Stmt.{Stmt}
+use Rattle.loft_tree.specs.declared.statement.EventName.{EventName as EventNameInMemory}
 use Rattle.loft_tree.specs.declared.program.Variable.{Variable}
 use Rattle.loft_tree.specs.declared.program.Argument.{Argument as ArgumentInMemory}
-use Rattle.loft_tree.specs.declared.program.Order.{Order as OrderInMemory}
+use Rattle.loft_tree.specs.declared.program.OutsideOrder.{OutsideOrder as OrderInMemory}
 use Rattle.loft_tree.specs.declared.program.Item.{Item}
 use Rattle.loft_form.specs.Form.{State}
 use Rattle.loft_form.specs.Reading.{Place, Read, read}
@@ -22,7 +24,7 @@ use Rattle.loft_parse.specs.Source.{limits}
 
 -- what is left to read
 abbrev pub symbols_at : Cursor → List Symbol
-symbols_at at = symbols at.text.now at.tokens.now
+symbols_at at = map symbol_seen at.symbols.now
 
 abbrev pub due_of : Option Counted → List Counted
 due_of None = []
@@ -65,8 +67,8 @@ mark_view at = (tt, place_of at)
 abbrev pub expressions_of : Vec Expr → List Expression
 expressions_of es = map expression_of es.items
 
-abbrev pub idents_of : Vec Ident → List Ident
-idents_of names = names.items
+abbrev pub event_names_of : Vec EventNameInMemory → List EventName
+event_names_of events = map event_name_of events.items
 
 abbrev pub statement_list_of : Vec Stmt → List Statement
 statement_list_of ss = map statement_of ss.items

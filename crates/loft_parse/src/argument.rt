@@ -10,8 +10,8 @@ ghost use Rattle.loft_parse.specs.View.{reads, viewed, with_front, expressions_o
 use crate::counts::Counted;
 use crate::cursor::Cursor;
 use crate::expression::whole;
-use crate::leaf::{name, sign};
-use crate::next::{next_expression, next_is_sign};
+use crate::lookahead::{next_expression, next_is_sign};
+use crate::token::{name, sign};
 use loft_form::Stop;
 use loft_lex::Sign;
 use loft_tree::{Creation, Expr};

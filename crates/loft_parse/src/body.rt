@@ -1,6 +1,5 @@
 //! Reading the bodies of modules, and the statements that hold others.
 
-ghost use Rattle.std.specs.Prelude.{◌≡◌};
 ghost use Rattle.std.specs.Option.{option_map};
 ghost use Rattle.loft_tree.specs.View.{expression_of, statement_of};
 ghost use Rattle.loft_form.specs.Form.{maybe};
@@ -9,12 +8,14 @@ ghost use Rattle.loft_parse.specs.Grammar.{test, conditional, while_loop, repeat
 ghost use Rattle.loft_parse.specs.View.{reads, viewed, statement_list_of, branches_of, turns_of};
 
 use crate::cursor::Cursor;
+use crate::event_statement::event_statement;
 use crate::expression::whole;
-use crate::leaf::{opening_word, sign, word};
-use crate::next::{
+use crate::lookahead::{
     next_event_statement, next_is_word, next_statement, next_thread_statement, next_value_statement,
 };
-use crate::statement::{event_statement, link, thread_statement, unlink, value_statement};
+use crate::thread_statement::{link, thread_statement, unlink};
+use crate::token::{opening_word, sign, word};
+use crate::value_statement::value_statement;
 use loft_form::Stop;
 use loft_lex::{Sign, Word};
 use loft_tree::{Expr, Stmt};

@@ -3,6 +3,11 @@
 ghost use Rattle.std.specs.Prelude.{◌≡◌};
 ghost use Rattle.loft_parse.specs.Counts.{most, number, put, none};
 
+use loft_tree::limits::{
+    MAX_ARGUMENTS, MAX_CHOICES, MAX_CLIENTS, MAX_EVENTS, MAX_LOCALS, MAX_MODULES, MAX_OPERANDS,
+    MAX_ORDERS, MAX_PARAMETERS, MAX_SCHEDULERS, MAX_SHARED, MAX_STARTS, MAX_STATEMENTS,
+};
+
 /// What a source has only so many of (docs/LANGUAGE.md, "Limits").
 #[derive(Clone, Copy, Debug, PartialEq, Eq)]
 pub enum Counted {
@@ -58,19 +63,19 @@ impl Counted {
         ensures { result ≡ most self }
     {
         match self {
-            Counted::Scheduler => 16,
-            Counted::Event => 256,
-            Counted::Shared => 256,
-            Counted::Module => 256,
-            Counted::Start => 4096,
-            Counted::Client => 16,
-            Counted::Order => 1024,
-            Counted::Parameter => 8,
-            Counted::Local => 32,
-            Counted::Statement => 4096,
-            Counted::Operand => 64,
-            Counted::Argument => 8,
-            Counted::Choice => 8,
+            Counted::Scheduler => MAX_SCHEDULERS as u32,
+            Counted::Event => MAX_EVENTS as u32,
+            Counted::Shared => MAX_SHARED as u32,
+            Counted::Module => MAX_MODULES as u32,
+            Counted::Start => MAX_STARTS as u32,
+            Counted::Client => MAX_CLIENTS as u32,
+            Counted::Order => MAX_ORDERS as u32,
+            Counted::Parameter => MAX_PARAMETERS as u32,
+            Counted::Local => MAX_LOCALS as u32,
+            Counted::Statement => MAX_STATEMENTS as u32,
+            Counted::Operand => MAX_OPERANDS as u32,
+            Counted::Argument => MAX_ARGUMENTS as u32,
+            Counted::Choice => MAX_CHOICES as u32,
         }
     }
 }

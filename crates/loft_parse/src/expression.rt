@@ -3,18 +3,19 @@
 ghost use Rattle.std.specs.Prelude.{◌≡◌, IfOk};
 ghost use Rattle.loft_tree.specs.Source.{Binary};
 ghost use Rattle.loft_tree.specs.View.{expression_of};
-ghost use Rattle.loft_form.specs.Form.{◌∣◌};
 ghost use Rattle.loft_form.specs.Reading.{Gives};
-ghost use Rattle.loft_parse.specs.Grammar.{special, builtin, bracketed, atom, negated, inverted, unary, operator, multiplying, factor, term, adding, summand, sum, equality, ordering, compared, comparison, conjunct, conjunction, disjunct, expression, whole};
-ghost use Rattle.loft_parse.specs.View.{reads, reads_flat, viewed, itself, operation_of};
+ghost use Rattle.loft_parse.specs.Grammar.{special, builtin, bracketed, atom, negated, inverted, unary, compared, comparison, whole};
+ghost use Rattle.loft_parse.specs.Levels.{operand_at, operation_at, chain_at};
+ghost use Rattle.loft_parse.specs.View.{reads, reads_flat, viewed, operation_of};
 
 use crate::counts::Counted;
 use crate::cursor::Cursor;
-use crate::leaf::{first_word, name, numeral, opening_sign, sign};
-use crate::next::{
-    next_builtin, next_compared, next_conjunct, next_disjunct, next_equality, next_factor,
-    next_is_name, next_is_number, next_is_sign, next_is_word, next_summand,
+use crate::lookahead::{
+    next_builtin, next_compared, next_is_name, next_is_number, next_is_sign, next_is_word,
+    next_operation,
 };
+use crate::operator::{Level, comparing, operator_at};
+use crate::token::{first_word, name, numeral, opening_sign, sign};
 use loft_form::Stop;
 use loft_lex::{Sign, Word};
 use loft_tree::{BinaryOperator, Builtin, Expr, UnaryOperator};
@@ -56,83 +57,13 @@ fn builtin<'a>(at: Cursor<'a>) -> Result<(Expr, Cursor<'a>), Stop>
     }
 }
 
-fn operator<'a>(
-    wanted: Sign,
-    meaning: BinaryOperator,
-    at: Cursor<'a>,
-) -> Result<(BinaryOperator, Cursor<'a>), Stop>
-    ensures { Gives itself result (reads_flat (operator wanted meaning) at.entry) }
-{
-    let at = sign(wanted, at)?;
-    Ok((meaning, at))
-}
-
-fn multiplying<'a>(at: Cursor<'a>) -> Result<(BinaryOperator, Cursor<'a>), Stop>
-    ensures { Gives itself result (reads_flat multiplying at.entry) }
-{
-    if next_is_sign(Sign::Star, &at) {
-        operator(Sign::Star, BinaryOperator::Times, at)
-    } else if next_is_sign(Sign::Slash, &at) {
-        operator(Sign::Slash, BinaryOperator::Divide, at)
-    } else {
-        operator(Sign::Percent, BinaryOperator::Remainder, at)
-    }
-}
-
-fn adding<'a>(at: Cursor<'a>) -> Result<(BinaryOperator, Cursor<'a>), Stop>
-    ensures { Gives itself result (reads_flat adding at.entry) }
-{
-    if next_is_sign(Sign::Plus, &at) {
-        operator(Sign::Plus, BinaryOperator::Plus, at)
-    } else {
-        operator(Sign::Minus, BinaryOperator::Minus, at)
-    }
-}
-
-#[tactic(auto, unfolding(crate::specs::Grammar::equality))]
-fn equality<'a>(at: Cursor<'a>) -> Result<(BinaryOperator, Cursor<'a>), Stop>
-    ensures { Gives itself result (reads_flat equality at.entry) }
-{
-    if next_is_sign(Sign::Same, &at) {
-        operator(Sign::Same, BinaryOperator::Equal, at)
-    } else {
-        operator(Sign::Differs, BinaryOperator::Unequal, at)
-    }
-}
-
-#[tactic(auto, unfolding(crate::specs::Grammar::ordering))]
-fn ordering<'a>(at: Cursor<'a>) -> Result<(BinaryOperator, Cursor<'a>), Stop>
-    ensures { Gives itself result (reads_flat ordering at.entry) }
-{
-    if next_is_sign(Sign::Less, &at) {
-        operator(Sign::Less, BinaryOperator::Less, at)
-    } else if next_is_sign(Sign::LessOrSame, &at) {
-        operator(Sign::LessOrSame, BinaryOperator::LessOrEqual, at)
-    } else if next_is_sign(Sign::Greater, &at) {
-        operator(Sign::Greater, BinaryOperator::Greater, at)
-    } else {
-        operator(Sign::GreaterOrSame, BinaryOperator::GreaterOrEqual, at)
-    }
-}
-
-#[tactic(auto, unfolding(crate::specs::Grammar::equality, crate::specs::Grammar::ordering))]
-fn comparing<'a>(at: Cursor<'a>) -> Result<(BinaryOperator, Cursor<'a>), Stop>
-    ensures { Gives itself result (reads_flat (equality ∣ ordering) at.entry) }
-{
-    if next_equality(&at) {
-        equality(at)
-    } else {
-        ordering(at)
-    }
-}
-
 #[cycle(expression)]
-#[tactic(auto, unfolding(crate::specs::Grammar::bracketed), using(crate::proofs::Inside::inside_is))]
+#[tactic(auto, unfolding(crate::specs::Grammar::bracketed, crate::specs::Grammar::expression, crate::specs::Grammar::disjunct), using(crate::proofs::Inside::inside_is))]
 fn bracketed<'a>(alloc: Global, deeper: u32, at: Cursor<'a>) -> Result<(Expr, Cursor<'a>), Stop>
     ensures { Gives (viewed expression_of) result (reads deeper bracketed at.entry) }
 {
     let (_, at) = opening_sign(deeper, Sign::Open, at)?;
-    let (e, at) = expression(alloc, deeper - 1, at)?;
+    let (e, at) = chain(alloc, deeper - 1, Level::Disjunction, at)?;
     let at = sign(Sign::Close, at)?;
     Ok((e, at))
 }
@@ -203,28 +134,54 @@ fn unary<'a>(alloc: Global, deeper: u32, at: Cursor<'a>) -> Result<(Expr, Cursor
     }
 }
 
+/// Reads an operand of the level.
 #[cycle(expression)]
-#[tactic(auto, unfolding(crate::specs::Grammar::factor))]
-fn factor<'a>(
+#[tactic(auto, unfolding(crate::specs::Grammar::term, crate::specs::Grammar::factor, crate::specs::Grammar::conjunction, crate::specs::Grammar::conjunct))]
+fn operand<'a>(
     alloc: Global,
     deeper: u32,
+    level: Level,
+    at: Cursor<'a>,
+) -> Result<(Expr, Cursor<'a>), Stop>
+    ensures { Gives (viewed expression_of) result (reads deeper (operand_at level) at.entry) }
+{
+    match level {
+        Level::Product => unary(alloc, deeper, at),
+        Level::Sum => chain(alloc, deeper, Level::Product, at),
+        Level::Conjunction => comparison(alloc, deeper, at),
+        Level::Disjunction => chain(alloc, deeper, Level::Conjunction, at),
+    }
+}
+
+/// Reads an operator of the level, and the operand after it.
+#[cycle(expression)]
+#[tactic(auto, using(crate::proofs::Chains::flat_operator))]
+fn operation<'a>(
+    alloc: Global,
+    deeper: u32,
+    level: Level,
     at: Cursor<'a>,
 ) -> Result<((BinaryOperator, Expr), Cursor<'a>), Stop>
-    ensures { Gives (viewed operation_of) result (reads deeper factor at.entry) }
+    ensures { Gives (viewed operation_of) result (reads deeper (operation_at level) at.entry) }
 {
-    let (operator, at) = multiplying(at)?;
-    let (right, at) = unary(alloc, deeper, at)?;
+    let (operator, at) = operator_at(level, at)?;
+    let (right, at) = operand(alloc, deeper, level, at)?;
     Ok(((operator, right), at))
 }
 
+/// Reads operands of the level with its operators between them, which group to the left.
 #[cycle(expression)]
-#[tactic(auto, unfolding(crate::specs::Grammar::term))]
-fn term<'a>(alloc: Global, deeper: u32, at: Cursor<'a>) -> Result<(Expr, Cursor<'a>), Stop>
-    ensures { Gives (viewed expression_of) result (reads deeper term at.entry) }
+fn chain<'a>(
+    alloc: Global,
+    deeper: u32,
+    level: Level,
+    at: Cursor<'a>,
+) -> Result<(Expr, Cursor<'a>), Stop>
+    ensures { Gives (viewed expression_of) result (reads deeper (chain_at level) at.entry) }
 {
-    let (mut left, mut at) = unary(alloc, deeper, at)?;
-    'chain: while next_factor(&at) {
-        let ((operator, right), next) = factor(alloc, deeper, at)?;
+    let (mut left, mut at) = operand(alloc, deeper, level, at)?;
+    'chain: while next_operation(level, &at) {
+        let ((operator, right), next) = operation(alloc, deeper, level, at)?;
         left = binary(alloc, operator, left, right)?;
         at = next;
     }
@@ -232,35 +189,7 @@ fn term<'a>(alloc: Global, deeper: u32, at: Cursor<'a>) -> Result<(Expr, Cursor<
 }
 
 #[cycle(expression)]
-#[tactic(auto, unfolding(crate::specs::Grammar::summand))]
-fn summand<'a>(
-    alloc: Global,
-    deeper: u32,
-    at: Cursor<'a>,
-) -> Result<((BinaryOperator, Expr), Cursor<'a>), Stop>
-    ensures { Gives (viewed operation_of) result (reads deeper summand at.entry) }
-{
-    let (operator, at) = adding(at)?;
-    let (right, at) = term(alloc, deeper, at)?;
-    Ok(((operator, right), at))
-}
-
-#[cycle(expression)]
-#[tactic(auto, unfolding(crate::specs::Grammar::sum))]
-fn sum<'a>(alloc: Global, deeper: u32, at: Cursor<'a>) -> Result<(Expr, Cursor<'a>), Stop>
-    ensures { Gives (viewed expression_of) result (reads deeper sum at.entry) }
-{
-    let (mut left, mut at) = term(alloc, deeper, at)?;
-    'chain: while next_summand(&at) {
-        let ((operator, right), next) = summand(alloc, deeper, at)?;
-        left = binary(alloc, operator, left, right)?;
-        at = next;
-    }
-    Ok((left, at))
-}
-
-#[cycle(expression)]
-#[tactic(auto, unfolding(crate::specs::Grammar::compared, crate::specs::Grammar::equality, crate::specs::Grammar::ordering))]
+#[tactic(auto, unfolding(crate::specs::Grammar::compared, crate::specs::Grammar::equality, crate::specs::Grammar::ordering, crate::specs::Grammar::sum, crate::specs::Grammar::summand))]
 fn compared<'a>(
     alloc: Global,
     deeper: u32,
@@ -269,16 +198,16 @@ fn compared<'a>(
     ensures { Gives (viewed operation_of) result (reads deeper compared at.entry) }
 {
     let (operator, at) = comparing(at)?;
-    let (right, at) = sum(alloc, deeper, at)?;
+    let (right, at) = chain(alloc, deeper, Level::Sum, at)?;
     Ok(((operator, right), at))
 }
 
 #[cycle(expression)]
-#[tactic(auto, unfolding(crate::specs::Grammar::comparison))]
+#[tactic(auto, unfolding(crate::specs::Grammar::comparison, crate::specs::Grammar::sum, crate::specs::Grammar::summand))]
 fn comparison<'a>(alloc: Global, deeper: u32, at: Cursor<'a>) -> Result<(Expr, Cursor<'a>), Stop>
     ensures { Gives (viewed expression_of) result (reads deeper comparison at.entry) }
 {
-    let (left, at) = sum(alloc, deeper, at)?;
+    let (left, at) = chain(alloc, deeper, Level::Sum, at)?;
     if next_compared(&at) {
         let ((operator, right), at) = compared(alloc, deeper, at)?;
         Ok((binary(alloc, operator, left, right)?, at))
@@ -287,66 +216,10 @@ fn comparison<'a>(alloc: Global, deeper: u32, at: Cursor<'a>) -> Result<(Expr, C
     }
 }
 
-#[cycle(expression)]
-#[tactic(auto, unfolding(crate::specs::Grammar::conjunct))]
-fn conjunct<'a>(
-    alloc: Global,
-    deeper: u32,
-    at: Cursor<'a>,
-) -> Result<((BinaryOperator, Expr), Cursor<'a>), Stop>
-    ensures { Gives (viewed operation_of) result (reads deeper conjunct at.entry) }
-{
-    let (operator, at) = operator(Sign::And, BinaryOperator::And, at)?;
-    let (right, at) = comparison(alloc, deeper, at)?;
-    Ok(((operator, right), at))
-}
-
-#[cycle(expression)]
-#[tactic(auto, unfolding(crate::specs::Grammar::conjunction))]
-fn conjunction<'a>(alloc: Global, deeper: u32, at: Cursor<'a>) -> Result<(Expr, Cursor<'a>), Stop>
-    ensures { Gives (viewed expression_of) result (reads deeper conjunction at.entry) }
-{
-    let (mut left, mut at) = comparison(alloc, deeper, at)?;
-    'chain: while next_conjunct(&at) {
-        let ((operator, right), next) = conjunct(alloc, deeper, at)?;
-        left = binary(alloc, operator, left, right)?;
-        at = next;
-    }
-    Ok((left, at))
-}
-
-#[cycle(expression)]
-#[tactic(auto, unfolding(crate::specs::Grammar::disjunct))]
-fn disjunct<'a>(
-    alloc: Global,
-    deeper: u32,
-    at: Cursor<'a>,
-) -> Result<((BinaryOperator, Expr), Cursor<'a>), Stop>
-    ensures { Gives (viewed operation_of) result (reads deeper disjunct at.entry) }
-{
-    let (operator, at) = operator(Sign::Or, BinaryOperator::Or, at)?;
-    let (right, at) = conjunction(alloc, deeper, at)?;
-    Ok(((operator, right), at))
-}
-
-#[cycle(expression)]
-#[tactic(auto, unfolding(crate::specs::Grammar::expression))]
-fn expression<'a>(alloc: Global, deeper: u32, at: Cursor<'a>) -> Result<(Expr, Cursor<'a>), Stop>
-    ensures { Gives (viewed expression_of) result (reads deeper expression at.entry) }
-{
-    let (mut left, mut at) = conjunction(alloc, deeper, at)?;
-    'chain: while next_disjunct(&at) {
-        let ((operator, right), next) = disjunct(alloc, deeper, at)?;
-        left = binary(alloc, operator, left, right)?;
-        at = next;
-    }
-    Ok((left, at))
-}
-
 /// Reads an expression that is no part of another.
-#[tactic(auto, unfolding(crate::specs::Grammar::whole))]
+#[tactic(auto, unfolding(crate::specs::Grammar::whole, crate::specs::Grammar::expression, crate::specs::Grammar::disjunct))]
 pub fn whole<'a>(alloc: Global, deeper: u32, at: Cursor<'a>) -> Result<(Expr, Cursor<'a>), Stop>
     ensures { Gives (viewed expression_of) result (reads deeper whole at.entry) }
 {
-    expression(alloc, deeper, at.anew(Counted::Operand))
+    chain(alloc, deeper, Level::Disjunction, at.anew(Counted::Operand))
 }

@@ -11,8 +11,8 @@ ghost use Rattle.loft_parse.specs.View.{reads_flat, viewed, itself, with_front, 
 
 use crate::counts::Counted;
 use crate::cursor::Cursor;
-use crate::leaf::{counted_word, first_word, name, sign, word};
-use crate::next::{next_is_name, next_is_sign, next_is_word, next_local, next_parameter};
+use crate::lookahead::{next_is_name, next_is_sign, next_is_word, next_local, next_parameter};
+use crate::token::{counted_word, first_word, name, sign, word};
 use loft_form::Stop;
 use loft_lex::{Sign, Word};
 use loft_tree::{Kind, ModuleHead, PlaceName, Variable};

@@ -1,7 +1,5 @@
 //! Reading declarations.
 
-ghost use Rattle.std.specs.Prelude.{◌≡◌};
-ghost use Rattle.std.specs.Option.{option_map};
 ghost use Rattle.loft_tree.specs.View.{declaration_of};
 ghost use Rattle.loft_form.specs.Form.{maybe};
 ghost use Rattle.loft_form.specs.Reading.{Gives};
@@ -10,20 +8,21 @@ ghost use Rattle.loft_parse.specs.Grammar.{module_item, scheduler_item, event_it
 ghost use Rattle.loft_parse.specs.View.{reads, reads_flat, viewed, itself, declarations_of};
 
 use crate::body::body;
+use crate::constant_argument::{outer_arguments, signed};
 use crate::counts::Counted;
 use crate::cursor::Cursor;
 use crate::head::{head, locals};
-use crate::leaf::{first_word, name, sign, word};
-use crate::next::{next_is_word, next_item};
+use crate::lookahead::{next_is_word, next_item};
 use crate::order::orders;
-use crate::outer::{outer_arguments, signed};
+use crate::token::{first_word, name, sign, word};
 use loft_form::Stop;
 use loft_lex::{Sign, Word};
+use loft_tree::limits::MAX_NESTING;
 use loft_tree::{Ident, Item};
 use std::alloc::Global;
 
 /// How many nestings may be open.
-const NESTING: u32 = 32;
+const NESTING: u32 = MAX_NESTING as u32;
 
 #[tactic(auto, unfolding(crate::specs::Grammar::module_item), using(crate::proofs::Flat::flat_head))]
 fn module_item<'a>(alloc: Global, at: Cursor<'a>) -> Result<(Item, Cursor<'a>), Stop>

@@ -3,22 +3,27 @@
 
 mod argument;
 mod body;
+mod constant_argument;
 mod counts;
 mod cursor;
 mod error;
+mod event_statement;
 mod expression;
 mod head;
 mod item;
-mod leaf;
-mod lexeme;
-mod next;
+mod law;
+mod lookahead;
+mod operator;
+mod optional;
 mod order;
-mod outer;
-mod parts;
 mod source;
-mod statement;
+mod symbol;
 #[cfg(test)]
 mod tests;
+mod thread_statement;
+mod token;
+mod value_statement;
 
 pub use error::ParseError;
+pub use law::{faults_are_local, limits_come_before_stops, texts_are_decided};
 pub use source::parse;

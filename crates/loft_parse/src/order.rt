@@ -1,25 +1,25 @@
 //! Reading the orders of outside clients.
 
-ghost use Rattle.std.specs.Prelude.{◌≡◌};
 ghost use Rattle.loft_tree.specs.View.{order_of};
 ghost use Rattle.loft_form.specs.Form.{maybe, many, fresh};
 ghost use Rattle.loft_form.specs.Reading.{Gives};
 ghost use Rattle.loft_parse.specs.Grammar.{create_order, control_order, value_behind_comma, broadcast_order, order};
 ghost use Rattle.loft_parse.specs.View.{reads_flat, viewed, itself, orders_of};
 
+use crate::constant_argument::{outer_arguments, signed};
 use crate::counts::Counted;
 use crate::cursor::Cursor;
-use crate::leaf::{first_word, name, sign, word};
-use crate::next::{next_control, next_is_sign, next_is_word, next_order};
-use crate::outer::{outer_arguments, signed};
-use crate::statement::control_word;
+use crate::event_statement::event_name;
+use crate::lookahead::{next_control, next_is_sign, next_is_word, next_order};
+use crate::thread_statement::control_word;
+use crate::token::{first_word, name, sign, word};
 use loft_form::Stop;
 use loft_lex::{Sign, Word};
-use loft_tree::Order;
+use loft_tree::OutsideOrder;
 use std::alloc::Global;
 
 #[tactic(auto, unfolding(crate::specs::Grammar::create_order))]
-fn create_order<'a>(alloc: Global, at: Cursor<'a>) -> Result<(Order, Cursor<'a>), Stop>
+fn create_order<'a>(alloc: Global, at: Cursor<'a>) -> Result<(OutsideOrder, Cursor<'a>), Stop>
     ensures { Gives (viewed order_of) result (reads_flat create_order at.entry) }
 {
     let (_, at) = first_word(Counted::Order, Word::Create, at)?;
@@ -29,7 +29,7 @@ fn create_order<'a>(alloc: Global, at: Cursor<'a>) -> Result<(Order, Cursor<'a>)
     let (arguments, at) = outer_arguments(alloc, at)?;
     let at = sign(Sign::Semicolon, at)?;
     Ok((
-        Order::Create {
+        OutsideOrder::Create {
             scheduler,
             called,
             arguments,
@@ -39,7 +39,7 @@ fn create_order<'a>(alloc: Global, at: Cursor<'a>) -> Result<(Order, Cursor<'a>)
 }
 
 #[tactic(auto, unfolding(crate::specs::Grammar::control_order))]
-fn control_order<'a>(alloc: Global, at: Cursor<'a>) -> Result<(Order, Cursor<'a>), Stop>
+fn control_order<'a>(alloc: Global, at: Cursor<'a>) -> Result<(OutsideOrder, Cursor<'a>), Stop>
     ensures { Gives (viewed order_of) result (reads_flat control_order at.entry) }
 {
     let ((_, control), at) = control_word(Counted::Order, at)?;
@@ -48,7 +48,7 @@ fn control_order<'a>(alloc: Global, at: Cursor<'a>) -> Result<(Order, Cursor<'a>
     let (scheduler, at) = name(alloc, None, at)?;
     let at = sign(Sign::Semicolon, at)?;
     Ok((
-        Order::Control {
+        OutsideOrder::Control {
             control,
             thread,
             scheduler,
@@ -72,18 +72,18 @@ fn optional_value<'a>(at: Cursor<'a>) -> Result<(Option<i64>, Cursor<'a>), Stop>
 }
 
 #[tactic(auto, unfolding(crate::specs::Grammar::broadcast_order))]
-fn broadcast_order<'a>(alloc: Global, at: Cursor<'a>) -> Result<(Order, Cursor<'a>), Stop>
+fn broadcast_order<'a>(alloc: Global, at: Cursor<'a>) -> Result<(OutsideOrder, Cursor<'a>), Stop>
     ensures { Gives (viewed order_of) result (reads_flat broadcast_order at.entry) }
 {
     let (_, at) = first_word(Counted::Order, Word::Broadcast, at)?;
-    let (event, at) = name(alloc, None, at)?;
+    let (event, at) = event_name(alloc, None, at)?;
     let (value, at) = optional_value(at)?;
     let at = sign(Sign::Semicolon, at)?;
-    Ok((Order::Broadcast { event, value }, at))
+    Ok((OutsideOrder::Broadcast { event, value }, at))
 }
 
 #[tactic(auto, unfolding(crate::specs::Grammar::order, crate::specs::Grammar::create_order, crate::specs::Grammar::control_order))]
-fn order<'a>(alloc: Global, at: Cursor<'a>) -> Result<(Order, Cursor<'a>), Stop>
+fn order<'a>(alloc: Global, at: Cursor<'a>) -> Result<(OutsideOrder, Cursor<'a>), Stop>
     ensures { Gives (viewed order_of) result (reads_flat order at.entry) }
 {
     if next_is_word(Word::Create, &at) {
@@ -96,7 +96,7 @@ fn order<'a>(alloc: Global, at: Cursor<'a>) -> Result<(Order, Cursor<'a>), Stop>
 }
 
 /// Reads the orders of a client.
-pub fn orders<'a>(alloc: Global, at: Cursor<'a>) -> Result<(Vec<Order>, Cursor<'a>), Stop>
+pub fn orders<'a>(alloc: Global, at: Cursor<'a>) -> Result<(Vec<OutsideOrder>, Cursor<'a>), Stop>
     ensures { Gives (viewed orders_of) result (reads_flat (fresh Counted.Order (many order)) at.entry) }
 {
     let mut orders = Vec::new(alloc);

@@ -1,6 +1,7 @@
 //! Reading a whole text.
 
-ghost use Rattle.std.specs.Prelude.{◌≡◌, ◌<◌, ◌≤◌, ◌↔◌, Ok, Err, IfOk, IfErr, length};
+ghost use Rattle.std.specs.Prelude.{◌≡◌, ◌<◌, ◌≤◌, ◌↔◌, All, Ok, Err, IfOk, IfErr, length};
+ghost use Rattle.loft_lex.specs.Fits.{Fits};
 ghost use Rattle.loft_lex.specs.Tokens.{tokens};
 ghost use Rattle.loft_tree.specs.Source.{Source};
 ghost use Rattle.loft_tree.specs.View.{source_of};
@@ -14,11 +15,11 @@ use crate::cursor::Cursor;
 use crate::error::ParseError;
 use crate::item::items;
 use loft_form::{Fault, Stop};
-use loft_lex::{LexError, MAX_TEXT_LEN, Token, lex};
+use loft_lex::{LexError, MAX_TEXT_LEN, Token, lex, symbols};
 use loft_tree::Program;
 use std::alloc::Global;
 
-/// The place of the token from which on so many are left, or the text's end.
+/// The offset of the token from which on so many are left, or of the text's end.
 fn place(end: u32, tokens: &[Token], left: usize) -> u32
     ensures { result ≡ place end tokens.now left }
 {
@@ -29,7 +30,7 @@ fn place(end: u32, tokens: &[Token], left: usize) -> u32
     }
 }
 
-/// The fault, told by its place in the text.
+/// The fault, with its offset in the text.
 fn located(end: u32, tokens: &[Token], fault: Fault) -> ParseError
     ensures { result ≡ located end tokens.now fault }
 {
@@ -47,19 +48,16 @@ fn located(end: u32, tokens: &[Token], fault: Fault) -> ParseError
 fn program_of(alloc: Global, text: &[u8], found: &[Token]) -> Result<Program, ParseError>
     requires short { length text.now ≤ MAX_TEXT_LEN }
     requires lexed { tokens text.now ≡ Ok found.now }
+    requires fits { All (Fits text.now) found.now }
     ensures { Answers result (whole_text text.now (Ok found.now)) }
 {
     let end = text.len() as u32;
-    let start = Cursor {
-        text,
-        tokens: found,
-        counts: Counts::none(),
-        due: None,
-    };
+    let symbols = symbols(alloc, text, found)?;
+    let start = Cursor::after(symbols.as_slice(), Counts::none());
     match items(alloc, start) {
         Err(Stop::NoMemory) => Err(ParseError::NoMemory),
         Err(Stop::Fault(fault)) => Err(located(end, found, fault)),
-        Ok((declarations, at)) => match at.tokens {
+        Ok((declarations, at)) => match at.symbols {
             [] => Ok(Program::new(declarations)),
             rest => Err(located(end, found, Fault::Expected(rest.len()))),
         },
@@ -84,14 +82,14 @@ fn parsed(alloc: Global, text: &[u8]) -> Result<Program, ParseError>
 ///
 /// `TooLong` exactly where the text has more than 4 MiB. Else the fault of the text (docs/LANGUAGE.md, "The fault of a
 /// text"): `Lex` with its first lexical fault, if it has one; then `Expected`, `TooDeep` or `TooMany`, the one at the
-/// smallest place, where at one token they come in this order.
-/// `NoMemory` where there was no memory for the tokens or the program, whatever the text is.
+/// smallest offset, where at one token they come in this order.
+/// `NoMemory` where memory runs out for the tokens or the program, whatever the text is.
 pub fn parse(alloc: Global, text: &[u8]) -> Result<Program, ParseError>
-    // What is parsed is the program of the text, and no program is refused but for want of memory.
+    // What is parsed is the program of the text, and no program is refused unless memory runs out.
     ensures ok { IfOk result (λ p. Reads text.now (source_of p)) }
     ensures only { (p : Source) → Reads text.now p → length text.now ≤ MAX_TEXT_LEN → Answers result (Ok p) }
 
-    // Each error has its cause, and where the cause is, the error comes but for want of memory.
+    // Each error has its cause, and where the cause is, the error comes unless memory runs out.
     ensures fault { IfErr result (IsFault text.now) }
     ensures only_fault { (e : ParseError) → SourceFault text.now e → length text.now ≤ MAX_TEXT_LEN → Answers result (Err e) }
     ensures too_long { (result ≡ Err TooLong) ↔ (MAX_TEXT_LEN < length text.now) }

@@ -2,7 +2,7 @@
 
 use crate::{ParseError, parse};
 use loft_lex::LexError;
-use loft_tree::{Argument, Control, Item, Order, PlaceName, Stmt};
+use loft_tree::{Argument, Control, Item, OutsideOrder, PlaceName, Stmt};
 use std::alloc::{AllocError, Global};
 use std::test::Fail;
 
@@ -305,12 +305,12 @@ fn declarations_hold_what_they_say(rt: HostRuntime) {
                     matches!(
                         orders.as_slice(),
                         [
-                            Order::Create { .. },
-                            Order::Control {
+                            OutsideOrder::Create { .. },
+                            OutsideOrder::Control {
                                 control: Control::Suspend,
                                 ..
                             },
-                            Order::Broadcast {
+                            OutsideOrder::Broadcast {
                                 value: Some(-5),
                                 ..
                             }

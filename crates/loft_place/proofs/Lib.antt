@@ -1,4 +1,7 @@
 pub mod NeedLemmas
 pub mod Rests
+pub mod Answered
 pub mod Decided
-pub mod Meeting
+pub mod Declared
+pub mod Reaching
+pub mod Sample

@@ -1,2 +1,2 @@
-pub mod Goes
-pub mod Meets
+pub mod Links
+pub mod Reaches

@@ -3,6 +3,7 @@
 
 mod error;
 mod laws;
+mod links;
 mod needs;
 mod placed;
 #[cfg(test)]
@@ -10,5 +11,5 @@ mod tests;
 mod walk;
 
 pub use error::PlaceError;
-pub use laws::{links_are_decided, placed_programs_never_meet};
+pub use laws::{links_are_decided, placed_programs_never_meet, threads_begin_in_their_place};
 pub use placed::{Placed, place};

@@ -1,12 +1,12 @@
 //! What statements name, and whether a thread is linked where that is.
 
 ghost use Rattle.std.specs.Prelude.{◌≡◌, [], ◌∷◌, map, false, slice_get};
-ghost use Rattle.loft_tree.specs.NamedView.{term_of, value_of, making_of, statement_of};
-ghost use Rattle.loft_place.specs.Goes.{event_home, shared_home, begin_of, end_of, IsAnswer, shared_need, event_need, run_need, making_need, term_needs, value_needs, terms_needs, target_needs, events_needs, making_needs, needs_of};
+ghost use Rattle.loft_tree.specs.NamedView.{term_of, value_of, event_use_of, creation_of, statement_of};
+ghost use Rattle.loft_place.specs.Links.{event_home, shared_home, begin_of, end_of, IsAnswer, shared_need, event_need, run_need, creation_need, term_needs, value_needs, terms_needs, target_needs, events_needs, creation_needs, needs_of};
 
 use crate::error::PlaceError;
 use loft_base::{EventId, ModuleId, SchedId, SharedId};
-use loft_tree::{EventUse, Heads, Making, Place, Statement, Target, Term};
+use loft_tree::{EventUse, Heads, NamedCreation, NamedExpr, NamedStmt, Place, Target};
 
 /// Where an event is.
 fn event_home(heads: &Heads, event: EventId) -> Place
@@ -71,7 +71,7 @@ fn check_shared(heads: &Heads, here: Place, at: u32, shared: SharedId) -> Result
 
 /// Whether an event is where the thread is.
 fn check_event(heads: &Heads, here: Place, event: EventUse) -> Result<(), PlaceError>
-    ensures { IsAnswer (event_need heads.now here event ∷ []) result }
+    ensures { IsAnswer (event_need heads.now here (event_use_of event) ∷ []) result }
 {
     check_place(event.at, event_home(heads, event.event), here)
 }
@@ -83,28 +83,28 @@ fn check_run(heads: &Heads, here: Place, called: u32, module: ModuleId) -> Resul
     check_place(called, begin_of(heads, module), here)
 }
 
-/// Whether a module begins in the scheduler that is to have its new thread.
-pub fn check_maker(
+/// Whether a module begins in the scheduler where a thread of it is made, whose name stands at this offset.
+pub fn check_begin(
     heads: &Heads,
     at: u32,
     scheduler: SchedId,
     module: ModuleId,
 ) -> Result<(), PlaceError>
-    ensures { IsAnswer (making_need heads.now at scheduler «module» ∷ []) result }
+    ensures { IsAnswer (creation_need heads.now at scheduler «module» ∷ []) result }
 {
     check_place(at, begin_of(heads, module), Place::Sched(scheduler))
 }
 
 /// Whether the shared variables in an expression are where the thread is.
 #[tactic(auto, using(crate::proofs::NeedLemmas::needs))]
-fn check_term(heads: &Heads, here: Place, term: &Term) -> Result<(), PlaceError>
+fn check_term(heads: &Heads, here: Place, term: &NamedExpr) -> Result<(), PlaceError>
     ensures { IsAnswer (term_needs heads.now here (term_of term.now)) result }
 {
     match term {
-        Term::Number(_) | Term::Slot(_) | Term::Builtin(_) => Ok(()),
-        Term::Shared { at, shared } => check_shared(heads, here, *at, *shared),
-        Term::Unary { operand, .. } => check_term(heads, here, operand),
-        Term::Binary { left, right, .. } => {
+        NamedExpr::Number(_) | NamedExpr::Slot(_) | NamedExpr::Builtin(_) => Ok(()),
+        NamedExpr::Shared { at, shared } => check_shared(heads, here, *at, *shared),
+        NamedExpr::Unary { operand, .. } => check_term(heads, here, operand),
+        NamedExpr::Binary { left, right, .. } => {
             check_term(heads, here, left)?;
             check_term(heads, here, right)
         }
@@ -113,7 +113,7 @@ fn check_term(heads: &Heads, here: Place, term: &Term) -> Result<(), PlaceError>
 
 /// The same of an expression that may be left out.
 #[tactic(auto, using(crate::proofs::NeedLemmas::needs))]
-fn check_value(heads: &Heads, here: Place, value: &Option<Term>) -> Result<(), PlaceError>
+fn check_value(heads: &Heads, here: Place, value: &Option<NamedExpr>) -> Result<(), PlaceError>
     ensures { IsAnswer (value_needs heads.now here (value_of value.now)) result }
 {
     match value {
@@ -123,7 +123,7 @@ fn check_value(heads: &Heads, here: Place, value: &Option<Term>) -> Result<(), P
 }
 
 /// The same of expressions.
-fn check_terms(heads: &Heads, here: Place, terms: &[Term]) -> Result<(), PlaceError>
+fn check_terms(heads: &Heads, here: Place, terms: &[NamedExpr]) -> Result<(), PlaceError>
     ensures { IsAnswer (terms_needs heads.now here (map term_of terms.now)) result }
 {
     for term in terms {
@@ -144,7 +144,7 @@ fn check_target(heads: &Heads, here: Place, target: Target) -> Result<(), PlaceE
 
 /// Whether all events are where the thread is.
 fn check_events(heads: &Heads, here: Place, events: &[EventUse]) -> Result<(), PlaceError>
-    ensures { IsAnswer (events_needs heads.now here events.now) result }
+    ensures { IsAnswer (events_needs heads.now here (map event_use_of events.now)) result }
 {
     for event in events {
         check_event(heads, here, *event)?;
@@ -155,44 +155,48 @@ fn check_events(heads: &Heads, here: Place, events: &[EventUse]) -> Result<(), P
 /// Whether a thread may be made so: its module begins in its scheduler, and the shared variables in its arguments are
 /// where the thread is that makes it.
 #[tactic(auto, using(crate::proofs::NeedLemmas::needs))]
-fn check_making(heads: &Heads, here: Place, making: &Making) -> Result<(), PlaceError>
-    ensures { IsAnswer (making_needs heads.now here (making_of making.now)) result }
+fn check_creation(heads: &Heads, here: Place, creation: &NamedCreation) -> Result<(), PlaceError>
+    ensures { IsAnswer (creation_needs heads.now here (creation_of creation.now)) result }
 {
-    check_maker(heads, making.at, making.scheduler, making.module)?;
-    check_terms(heads, here, making.arguments.as_slice())
+    check_begin(heads, creation.at, creation.scheduler, creation.module)?;
+    check_terms(heads, here, creation.arguments.as_slice())
 }
 
 /// Whether all that a statement names, but in its bodies, is where the thread is.
 #[tactic(auto, using(crate::proofs::NeedLemmas::needs, loft_tree::proofs::NamedTrees::named_statements))]
-pub fn check_names(heads: &Heads, here: Place, statement: &Statement) -> Result<(), PlaceError>
+pub fn check_names(heads: &Heads, here: Place, statement: &NamedStmt) -> Result<(), PlaceError>
     ensures { IsAnswer (needs_of heads.now here (statement_of statement.now)) result }
 {
     match statement {
-        Statement::Assign { target, value } => {
+        NamedStmt::Assign { target, value } => {
             check_target(heads, here, *target)?;
             check_term(heads, here, value)
         }
-        Statement::AssignCreate { target, making, .. } => {
+        NamedStmt::AssignCreate {
+            target,
+            creation,
+            ..
+        } => {
             check_target(heads, here, *target)?;
-            check_making(heads, here, making)
+            check_creation(heads, here, creation)
         }
-        Statement::Create { making, .. } => check_making(heads, here, making),
-        Statement::PrintText { value, .. } => check_value(heads, here, value),
-        Statement::PrintValue { value, .. } => check_term(heads, here, value),
-        Statement::Cooperate { instants, .. } => check_value(heads, here, instants),
-        Statement::Generate { event, value, .. } => {
+        NamedStmt::Create { creation, .. } => check_creation(heads, here, creation),
+        NamedStmt::PrintText { value, .. } => check_value(heads, here, value),
+        NamedStmt::PrintValue { value, .. } => check_term(heads, here, value),
+        NamedStmt::Cooperate { instants, .. } => check_value(heads, here, instants),
+        NamedStmt::Generate { event, value, .. } => {
             check_event(heads, here, *event)?;
             check_value(heads, here, value)
         }
-        Statement::Await { event, limit, .. } => {
+        NamedStmt::Await { event, limit, .. } => {
             check_event(heads, here, *event)?;
             check_value(heads, here, limit)
         }
-        Statement::Select { events, limit, .. } => {
+        NamedStmt::Select { events, limit, .. } => {
             check_events(heads, here, events.as_slice())?;
             check_value(heads, here, limit)
         }
-        Statement::Get {
+        NamedStmt::Get {
             event,
             index,
             target,
@@ -202,14 +206,14 @@ pub fn check_names(heads: &Heads, here: Place, statement: &Statement) -> Result<
             check_term(heads, here, index)?;
             check_target(heads, here, *target)
         }
-        Statement::Join { thread, limit, .. } => {
+        NamedStmt::Join { thread, limit, .. } => {
             check_term(heads, here, thread)?;
             check_value(heads, here, limit)
         }
-        Statement::Control { thread, .. } => check_term(heads, here, thread),
-        Statement::Broadcast { value, .. } => check_value(heads, here, value),
-        Statement::Link { .. } | Statement::Unlink { .. } | Statement::Halt { .. } => Ok(()),
-        Statement::Run {
+        NamedStmt::Control { thread, .. } => check_term(heads, here, thread),
+        NamedStmt::Broadcast { value, .. } => check_value(heads, here, value),
+        NamedStmt::Link { .. } | NamedStmt::Unlink { .. } | NamedStmt::Halt { .. } => Ok(()),
+        NamedStmt::Run {
             called,
             module,
             arguments,
@@ -218,8 +222,8 @@ pub fn check_names(heads: &Heads, here: Place, statement: &Statement) -> Result<
             check_run(heads, here, *called, *module)?;
             check_terms(heads, here, arguments.as_slice())
         }
-        Statement::If { test, .. } => check_term(heads, here, test),
-        Statement::While { test, .. } => check_term(heads, here, test),
-        Statement::Repeat { count, .. } => check_term(heads, here, count),
+        NamedStmt::If { test, .. } => check_term(heads, here, test),
+        NamedStmt::While { test, .. } => check_term(heads, here, test),
+        NamedStmt::Repeat { count, .. } => check_term(heads, here, count),
     }
 }

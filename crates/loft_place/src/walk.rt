@@ -1,45 +1,45 @@
-//! Where a thread is linked behind the statements that it goes through.
+//! Where a thread is linked after the statements that it goes through.
 
 ghost use Rattle.std.specs.Prelude.{◌≡◌, ◌≢◌, MatchResult};
 ghost use Rattle.loft_tree.specs.NamedView.{statement_of, statements_of};
-ghost use Rattle.loft_place.specs.Goes.{linked_only, MayStand, MayNotStand, GoesThrough, Goes, FaultThrough, FaultIn};
+ghost use Rattle.loft_place.specs.Links.{linked_only, MayStand, MayNotStand, GoesThrough, Goes, FaultThrough, FaultIn};
 ghost use Rattle.loft_place.specs.declared.error.PlaceError.TheVariants.{Branches, LoopEnds};
 
 use crate::error::PlaceError;
 use crate::needs::{check_names, end_of};
-use loft_tree::{Heads, Place, Statement};
+use loft_tree::{Heads, NamedStmt, Place};
 
-/// The place of a statement's word, where only a linked thread may meet it.
+/// The offset of a statement's word, where only a linked thread may meet it.
 #[tactic(auto, using(loft_tree::proofs::NamedTrees::named_statements))]
-fn linked_only(statement: &Statement) -> Option<u32>
+fn linked_only(statement: &NamedStmt) -> Option<u32>
     ensures { result ≡ linked_only (statement_of statement.now) }
 {
     match statement {
-        Statement::AssignCreate { at, .. }
-        | Statement::Create { at, .. }
-        | Statement::PrintText { at, .. }
-        | Statement::PrintValue { at, .. }
-        | Statement::Cooperate { at, .. }
-        | Statement::Generate { at, .. }
-        | Statement::Await { at, .. }
-        | Statement::Select { at, .. }
-        | Statement::Get { at, .. }
-        | Statement::Join { at, .. }
-        | Statement::Unlink { at, .. }
-        | Statement::Halt { at, .. } => Some(*at),
-        Statement::Assign { .. }
-        | Statement::Control { .. }
-        | Statement::Broadcast { .. }
-        | Statement::Link { .. }
-        | Statement::Run { .. }
-        | Statement::If { .. }
-        | Statement::While { .. }
-        | Statement::Repeat { .. } => None,
+        NamedStmt::AssignCreate { at, .. }
+        | NamedStmt::Create { at, .. }
+        | NamedStmt::PrintText { at, .. }
+        | NamedStmt::PrintValue { at, .. }
+        | NamedStmt::Cooperate { at, .. }
+        | NamedStmt::Generate { at, .. }
+        | NamedStmt::Await { at, .. }
+        | NamedStmt::Select { at, .. }
+        | NamedStmt::Get { at, .. }
+        | NamedStmt::Join { at, .. }
+        | NamedStmt::Unlink { at, .. }
+        | NamedStmt::Halt { at, .. } => Some(*at),
+        NamedStmt::Assign { .. }
+        | NamedStmt::Control { .. }
+        | NamedStmt::Broadcast { .. }
+        | NamedStmt::Link { .. }
+        | NamedStmt::Run { .. }
+        | NamedStmt::If { .. }
+        | NamedStmt::While { .. }
+        | NamedStmt::Repeat { .. } => None,
     }
 }
 
 /// Whether the statement may stand where the thread is linked so.
-fn check_statement(heads: &Heads, here: Place, statement: &Statement) -> Result<(), PlaceError>
+fn check_statement(heads: &Heads, here: Place, statement: &NamedStmt) -> Result<(), PlaceError>
     ensures { MatchResult result (λ _. MayStand heads.now here (statement_of statement.now))
         (MayNotStand heads.now here (statement_of statement.now)) }
 {
@@ -73,19 +73,19 @@ fn check_loop(at: u32, start: Place, end: Place) -> Result<Place, PlaceError>
     }
 }
 
-/// Where a thread is linked behind a statement, if it may go through it.
+/// Where a thread is linked after a statement, if it may go through it.
 #[cycle(walk)]
 #[tactic(auto, using(loft_tree::proofs::NamedTrees::named_statements))]
-fn walk_statement(heads: &Heads, here: Place, statement: &Statement) -> Result<Place, PlaceError>
+fn walk_statement(heads: &Heads, here: Place, statement: &NamedStmt) -> Result<Place, PlaceError>
     ensures { MatchResult result (GoesThrough heads.now here (statement_of statement.now))
         (FaultThrough heads.now here (statement_of statement.now)) }
 {
     check_statement(heads, here, statement)?;
     match statement {
-        Statement::Link { scheduler, .. } => Ok(Place::Sched(*scheduler)),
-        Statement::Unlink { .. } => Ok(Place::Unlinked),
-        Statement::Run { module, .. } => Ok(end_of(heads, *module)),
-        Statement::If {
+        NamedStmt::Link { scheduler, .. } => Ok(Place::Sched(*scheduler)),
+        NamedStmt::Unlink { .. } => Ok(Place::Unlinked),
+        NamedStmt::Run { module, .. } => Ok(end_of(heads, *module)),
+        NamedStmt::If {
             at,
             first,
             second,
@@ -95,30 +95,30 @@ fn walk_statement(heads: &Heads, here: Place, statement: &Statement) -> Result<P
             let right = walk_body(heads, here, second.as_slice())?;
             check_branches(*at, left, right)
         }
-        Statement::While { at, body, .. } | Statement::Repeat { at, body, .. } => {
+        NamedStmt::While { at, body, .. } | NamedStmt::Repeat { at, body, .. } => {
             let end = walk_body(heads, here, body.as_slice())?;
             check_loop(*at, here, end)
         }
-        Statement::Assign { .. }
-        | Statement::AssignCreate { .. }
-        | Statement::Create { .. }
-        | Statement::PrintText { .. }
-        | Statement::PrintValue { .. }
-        | Statement::Cooperate { .. }
-        | Statement::Generate { .. }
-        | Statement::Await { .. }
-        | Statement::Select { .. }
-        | Statement::Get { .. }
-        | Statement::Join { .. }
-        | Statement::Control { .. }
-        | Statement::Broadcast { .. }
-        | Statement::Halt { .. } => Ok(here),
+        NamedStmt::Assign { .. }
+        | NamedStmt::AssignCreate { .. }
+        | NamedStmt::Create { .. }
+        | NamedStmt::PrintText { .. }
+        | NamedStmt::PrintValue { .. }
+        | NamedStmt::Cooperate { .. }
+        | NamedStmt::Generate { .. }
+        | NamedStmt::Await { .. }
+        | NamedStmt::Select { .. }
+        | NamedStmt::Get { .. }
+        | NamedStmt::Join { .. }
+        | NamedStmt::Control { .. }
+        | NamedStmt::Broadcast { .. }
+        | NamedStmt::Halt { .. } => Ok(here),
     }
 }
 
-/// Where a thread is linked behind a body, if it may go through it.
+/// Where a thread is linked after a body, if it may go through it.
 #[cycle(walk)]
-pub fn walk_body(heads: &Heads, begin: Place, body: &[Statement]) -> Result<Place, PlaceError>
+pub fn walk_body(heads: &Heads, begin: Place, body: &[NamedStmt]) -> Result<Place, PlaceError>
     ensures { MatchResult result (Goes heads.now begin (statements_of body.now))
         (FaultIn heads.now begin (statements_of body.now)) }
 {

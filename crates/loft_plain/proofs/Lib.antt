@@ -1,3 +1,4 @@
-pub mod WalkerLemmas
+pub mod BuiltLemmas
+pub mod StartLemmas
+pub mod ThreadLemmas
 pub mod RestLemmas
-pub mod RunLemmas

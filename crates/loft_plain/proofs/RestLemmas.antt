@@ -4,10 +4,10 @@ use Rattle.std.proofs.Math.Dec.{eqb-suc-zero}
 use Rattle.std.specs.Prelude.{◌==◌, ◌||◌, ◌&&◌}
 use Rattle.loft_base.specs.declared.ids.ThreadId.{ThreadId}
 use Rattle.loft_sense.specs.Rest.{all_rest, waits_for_ever}
-use Rattle.loft_plain.specs.declared.engine.Linked.{Linked}
-use Rattle.loft_plain.specs.declared.engine.Pausing.{Pausing}
-use Rattle.loft_plain.specs.declared.engine.Pausing.TheVariants.{New, Coop}
-use Rattle.loft_plain.specs.Walker.{standing_of, wait_of}
+use Rattle.loft_plain.specs.declared.thread.Linked.{Linked}
+use Rattle.loft_plain.specs.declared.thread.Pausing.{Pausing}
+use Rattle.loft_plain.specs.declared.thread.Pausing.TheVariants.{New, Coop}
+use Rattle.loft_plain.specs.EngineView.{standing_of, wait_of}
 
 goes_on : (p : Pausing) (known : List ThreadId) (rest : Bool) → (false || waits_for_ever (wait_of p) known) && rest ≡ false
 goes_on New known rest = refl

@@ -1,4 +1,3 @@
-pub mod Walker
-pub mod Plain
-pub mod Turns
-pub mod Running
+pub mod Built
+pub mod EngineView
+pub mod PlainEngine

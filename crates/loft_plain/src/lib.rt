@@ -1,10 +1,12 @@
-//! Runs a program of one scheduler on one thread, by walking its source trees.
+//! Runs a program with numbers on one thread, by walking its statements.
 #![tactic(auto)]
 
+mod batch;
+mod built;
+mod close;
 mod engine;
-mod run;
-mod turn;
+mod pass;
+mod thread;
 
+pub use built::{built_programs_have_meaning, is_built, starts_fit};
 pub use engine::PlainEngine;
-pub use run::run_alone;
-pub use turn::{Finished, Turn};

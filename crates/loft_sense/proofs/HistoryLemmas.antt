@@ -1,4 +1,4 @@
--- Schedulers in a history, and how a history goes on behind its choices.
+-- Schedulers in a history, and how a history goes on after its choices.
 use Rattle.std.proofs.Common.{◌≡◌, ℕ, Bool, true, false, List, [], ◌∷◌, ◌++◌, map, refl, sym, ◌∙◌, ap, eq-eqb, Option, Some, None, Ok, append_assoc, append-nil}
 use Rattle.std.proofs.lemmas.List.{map-append}
 use Rattle.std.specs.Prelude.{if◌then◌else◌, not, ◌&&◌}

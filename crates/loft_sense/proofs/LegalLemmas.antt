@@ -18,22 +18,22 @@ same_head e = cc
 same_rest : {a b : Entry} {xs ys : List Entry} → a ∷ xs ≡ b ∷ ys → xs ≡ ys
 same_rest e = cc
 
-none_inside : {Q : Type 0} (before : List Entry) (e : Entry) (behind : List Entry) → [] ≡ before ++ e ∷ behind → Q
-none_inside [] e behind q = cc
-none_inside (b ∷ before) e behind q = cc
+none_inside : {Q : Type 0} (before : List Entry) (e : Entry) (after : List Entry) → [] ≡ before ++ e ∷ after → Q
+none_inside [] e after q = cc
+none_inside (b ∷ before) e after q = cc
 
--- what holds at each entry holds so behind one more entry, where it holds at that
+-- what holds at each entry holds so after one more entry, where it holds at that
 at_each-append : (P : List Entry → Entry → Type 0) (h : List Entry) (e : Entry) → AtEach P h → P h e → AtEach P (h ++ e ∷ [])
-at_each-append P [] e each now [] f behind q = subst (P []) (same_head q) now
-at_each-append P [] e each now (b ∷ before) f behind q = none_inside before f behind (same_rest q)
-at_each-append P (d ∷ h) e each now [] f behind q = subst (P []) (same_head q) (each [] d h refl)
-at_each-append P (d ∷ h) e each now (b ∷ before) f behind q =
+at_each-append P [] e each now [] f after q = subst (P []) (same_head q) now
+at_each-append P [] e each now (b ∷ before) f after q = none_inside before f after (same_rest q)
+at_each-append P (d ∷ h) e each now [] f after q = subst (P []) (same_head q) (each [] d h refl)
+at_each-append P (d ∷ h) e each now (b ∷ before) f after q =
     subst (λ (c : Entry). P (c ∷ before) f) (same_head q)
-    (at_each-append (λ (l : List Entry). P (d ∷ l)) h e (λ l g k r. each (d ∷ l) g k (ap (λ (m : List Entry). d ∷ m) r)) now before f behind (same_rest q))
+    (at_each-append (λ (l : List Entry). P (d ∷ l)) h e (λ l g k r. each (d ∷ l) g k (ap (λ (m : List Entry). d ∷ m) r)) now before f after (same_rest q))
 
 -- nothing holds of no entry
 at_each_none : (P : List Entry → Entry → Type 0) → AtEach P []
-at_each_none P before e behind q = none_inside before e behind q
+at_each_none P before e after q = none_inside before e after q
 
 of-append : (a : Actor) (xs ys : List Entry) → of a (xs ++ ys) ≡ of a xs ++ of a ys
 of-append a [] ys = refl
@@ -199,21 +199,21 @@ turns_left s (Post w sent ∷ es) k was turns = turns_left s es k was turns
 turns_left s (Client c sent ∷ es) k was turns = turns_left s es k was turns
 
 -- a scheduler's own list, parted at one of its entries
-own_parts : (s : SchedId) (before : List Entry) (e : Entry) (behind : List Entry) → actor_of e ≡ Scheduler s
-    → of (Scheduler s) (before ++ e ∷ behind) ≡ of (Scheduler s) before ++ e ∷ of (Scheduler s) behind
-own_parts s before e behind mine =
-    of-append (Scheduler s) before (e ∷ behind)
-    ∙ ap (λ (b : Bool). of (Scheduler s) before ++ (if b then e ∷ of (Scheduler s) behind else of (Scheduler s) behind)) (ap (same_actor (Scheduler s)) mine ∙ same_self s)
+own_parts : (s : SchedId) (before : List Entry) (e : Entry) (after : List Entry) → actor_of e ≡ Scheduler s
+    → of (Scheduler s) (before ++ e ∷ after) ≡ of (Scheduler s) before ++ e ∷ of (Scheduler s) after
+own_parts s before e after mine =
+    of-append (Scheduler s) before (e ∷ after)
+    ∙ ap (λ (b : Bool). of (Scheduler s) before ++ (if b then e ∷ of (Scheduler s) after else of (Scheduler s) after)) (ap (same_actor (Scheduler s)) mine ∙ same_self s)
 
-can_follow : (x : Prog) (limits : Limits) (s : SchedId) (before : List Entry) (e : Entry) (behind : List Entry) → IsLegal x limits (before ++ e ∷ behind) → actor_of e ≡ Scheduler s
-    → TakeTurns (is_open s before) (e ∷ of (Scheduler s) behind)
-can_follow x limits s before e behind legal mine =
-    turns_left s before (e ∷ of (Scheduler s) behind) false
-    (subst (TakeTurns false) (own_parts s before e behind mine) (legal.faithful s).turns)
+can_follow : (x : Prog) (limits : Limits) (s : SchedId) (before : List Entry) (e : Entry) (after : List Entry) → IsLegal x limits (before ++ e ∷ after) → actor_of e ≡ Scheduler s
+    → TakeTurns (is_open s before) (e ∷ of (Scheduler s) after)
+can_follow x limits s before e after legal mine =
+    turns_left s before (e ∷ of (Scheduler s) after) false
+    (subst (TakeTurns false) (own_parts s before e after mine) (legal.faithful s).turns)
 
-own_due : (x : Prog) (limits : Limits) (s : SchedId) (before : List Entry) (e : Entry) (behind : List Entry) → IsLegal x limits (before ++ e ∷ behind) → actor_of e ≡ Scheduler s
+own_due : (x : Prog) (limits : Limits) (s : SchedId) (before : List Entry) (e : Entry) (after : List Entry) → IsLegal x limits (before ++ e ∷ after) → actor_of e ≡ Scheduler s
     → IsDue x limits s (of (Scheduler s) before) e
-own_due x limits s before e behind legal mine = (legal.faithful s).due (of (Scheduler s) before) e (of (Scheduler s) behind) (own_parts s before e behind mine)
+own_due x limits s before e after legal mine = (legal.faithful s).due (of (Scheduler s) before) e (of (Scheduler s) after) (own_parts s before e after mine)
 
 shut_before : (s : SchedId) (batch : List Order) (l : List Entry) (was : Bool) → TakeTurns was (Take s batch ∷ l) → was ≡ false
 shut_before s batch l true turns = absurd turns
@@ -224,31 +224,31 @@ open_before s sent l true turns = refl
 open_before s sent l false turns = absurd turns
 
 -- each entry of a legal history is that of its choice
-legal_entry : (x : Prog) (limits : Limits) (before : List Entry) (e : Entry) (behind : List Entry) → IsLegal x limits (before ++ e ∷ behind) → entry_of x limits before (choice_of e) ≡ Some e
-legal_entry x limits before (Take s batch) behind legal =
+legal_entry : (x : Prog) (limits : Limits) (before : List Entry) (e : Entry) (after : List Entry) → IsLegal x limits (before ++ e ∷ after) → entry_of x limits before (choice_of e) ≡ Some e
+legal_entry x limits before (Take s batch) after legal =
     let e : Entry = Take s batch in
-    let all : batch ≡ waiting (heads x) s before = legal.routed before e behind refl in
+    let all : batch ≡ waiting (heads x) s before = legal.routed before e after refl in
     let turn : has_turn limits (replayed x limits s before).machine (waiting (heads x) s before) ≡ true =
     ap (has_turn limits (replayed x limits s before).machine) (sym all)
-    ∙ (ap (λ (r : Replayed). has_turn limits r.machine batch) (sym (replayed_own x limits s before)) ∙ own_due x limits s before e behind legal refl) in
-    take_allowed _ _ _ (Take s (waiting (heads x) s before)) (lt-ltb s.0 _ (legal.declared before e behind refl))
-    (shut_before s batch (of (Scheduler s) behind) (is_open s before) (can_follow x limits s before e behind legal refl)) turn
+    ∙ (ap (λ (r : Replayed). has_turn limits r.machine batch) (sym (replayed_own x limits s before)) ∙ own_due x limits s before e after legal refl) in
+    take_allowed _ _ _ (Take s (waiting (heads x) s before)) (lt-ltb s.0 _ (legal.declared before e after refl))
+    (shut_before s batch (of (Scheduler s) after) (is_open s before) (can_follow x limits s before e after legal refl)) turn
     ∙ ap (λ (b : List Order). Some (Take s b)) (sym all)
-legal_entry x limits before (Give s sent) behind legal =
+legal_entry x limits before (Give s sent) after legal =
     let e : Entry = Give s sent in
-    give_allowed _ _ (Give s (sent_last (replayed x limits s before).notes)) (lt-ltb s.0 _ (legal.declared before e behind refl))
-    (open_before s sent (of (Scheduler s) behind) (is_open s before) (can_follow x limits s before e behind legal refl))
-    ∙ ap (λ (ms : List Sent). Some (Give s ms)) (ap (λ (r : Replayed). sent_last r.notes) (sym (replayed_own x limits s before)) ∙ sym (own_due x limits s before e behind legal refl))
-legal_entry x limits before (Pick w job) behind legal = absurd (legal.declared before (Pick w job) behind refl)
-legal_entry x limits before (Post w sent) behind legal = absurd (legal.declared before (Post w sent) behind refl)
-legal_entry x limits before (Client c sent) behind legal = absurd (legal.declared before (Client c sent) behind refl)
+    give_allowed _ _ (Give s (sent_last (replayed x limits s before).notes)) (lt-ltb s.0 _ (legal.declared before e after refl))
+    (open_before s sent (of (Scheduler s) after) (is_open s before) (can_follow x limits s before e after legal refl))
+    ∙ ap (λ (ms : List Sent). Some (Give s ms)) (ap (λ (r : Replayed). sent_last r.notes) (sym (replayed_own x limits s before)) ∙ sym (own_due x limits s before e after legal refl))
+legal_entry x limits before (Pick w job) after legal = absurd (legal.declared before (Pick w job) after refl)
+legal_entry x limits before (Post w sent) after legal = absurd (legal.declared before (Post w sent) after refl)
+legal_entry x limits before (Client c sent) after legal = absurd (legal.declared before (Client c sent) after refl)
 
-made_on : (x : Prog) (limits : Limits) (before behind : List Entry) → IsLegal x limits (before ++ behind) → hist_on x limits (map choice_of behind) before ≡ Ok (before ++ behind)
+made_on : (x : Prog) (limits : Limits) (before after : List Entry) → IsLegal x limits (before ++ after) → hist_on x limits (map choice_of after) before ≡ Ok (before ++ after)
 made_on x limits before [] legal = ap (λ (h : List Entry). Ok h) (sym (append-nil before))
-made_on x limits before (e ∷ behind) legal =
-    ap (λ (o : Option Entry). with_entry before o (hist_on x limits (map choice_of behind))) (legal_entry x limits before e behind legal)
-    ∙ (made_on x limits (before ++ e ∷ []) behind (subst (IsLegal x limits) (sym (append_assoc before (e ∷ []) behind)) legal)
-    ∙ ap (λ (h : List Entry). Ok h) (append_assoc before (e ∷ []) behind))
+made_on x limits before (e ∷ after) legal =
+    ap (λ (o : Option Entry). with_entry before o (hist_on x limits (map choice_of after))) (legal_entry x limits before e after legal)
+    ∙ (made_on x limits (before ++ e ∷ []) after (subst (IsLegal x limits) (sym (append_assoc before (e ∷ []) after)) legal)
+    ∙ ap (λ (h : List Entry). Ok h) (append_assoc before (e ∷ []) after))
 
 -- a legal history is that of its choices
 pub legal_is_made : (x : Prog) (limits : Limits) (h : List Entry) → IsLegal x limits h → hist x limits (map choice_of h) ≡ Ok h

@@ -3,3 +3,4 @@ pub mod PassLemmas
 pub mod QuietLemmas
 pub mod HistoryLemmas
 pub mod LegalLemmas
+pub mod TurnLemmas

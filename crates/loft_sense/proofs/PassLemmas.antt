@@ -64,7 +64,7 @@ within_stops : (n : ℕ) (x : Prog) (rs : List Runner) (around : Around) → (pa
 within_stops zero x rs around ran = refl
 within_stops (suc n) x rs around ran = ap (λ (b : Bool). if b then passes_within n x (pass x rs around).runners (pass x rs around).around else pass x rs around) ran
 
--- behind a pass that ran somebody come the passes that are left
+-- after a pass that ran somebody come the passes that are left
 pub passes_goes : (x : Prog) (rs : List Runner) (around : Around) → (pass x rs around).ran ≡ true → passes x rs around ≡ passes x (pass x rs around).runners (pass x rs around).around
 unfolding passes
 passes_goes x rs around ran =
@@ -116,7 +116,7 @@ ended_within (suc n) x rs around h =
     (λ ran. let e = (pass_lessens x rs around).fewer ran in ended_within n x (pass x rs around).runners (pass x rs around).around (omega (arith, e)))
     (ended_pass x rs around)
 
--- behind the passes of an instant one more runs nobody
+-- after the passes of an instant one more runs nobody
 pub passes_end : (x : Prog) (rs : List Runner) (around : Around) → (pass x (passes x rs around).runners (passes x rs around).around).ran ≡ false
 unfolding passes
 passes_end x rs around = ended_within (steps_left rs) x rs around (omega arith)
@@ -138,7 +138,7 @@ all_stay x [] around ran = tt
 all_stay x (r ∷ rs) around ran =
     stays_one x r rs around (can_go r.thread.wait r.suspended around.board around.known) (run_of x r.thread around r.left) (all_stay x rs around) ran
 
--- behind the passes of an instant nobody can go
+-- after the passes of an instant nobody can go
 pub nobody_can_go : (x : Prog) (rs : List Runner) (around : Around)
     → All (λ r. can_go r.thread.wait r.suspended (passes x rs around).around.board (passes x rs around).around.known ≡ false) (passes x rs around).runners
 nobody_can_go x rs around = All-from_recursion (Stays (passes x rs around).around) (passes x rs around).runners (all_stay x (passes x rs around).runners (passes x rs around).around (passes_end x rs around))

@@ -3,7 +3,6 @@ use Rattle.std.proofs.Common.{◌≡◌, ℕ, zero, suc, Bool, true, false, List
 use Rattle.std.specs.Prelude.{if◌then◌else◌, not, nat_lt}
 use Rattle.loft_base.specs.declared.ids.SchedId.{SchedId}
 use Rattle.loft_base.specs.declared.ids.ThreadId.{ThreadId}
-use Rattle.loft_tree.specs.Resolved.{Action, Print}
 use Rattle.loft_sense.specs.declared.thread.Thread.{Thread}
 use Rattle.loft_sense.specs.declared.order.End.{End}
 use Rattle.loft_sense.specs.declared.order.Order.{Order}
@@ -12,12 +11,13 @@ use Rattle.loft_sense.specs.declared.order.Sent.{Sent}
 use Rattle.loft_sense.specs.declared.note.Act.{Act}
 use Rattle.loft_sense.specs.declared.note.Act.TheVariants as act
 use Rattle.loft_sense.specs.declared.limits.Limits.{Limits}
+use Rattle.loft_sense.specs.declared.limits.TheConstants.{MAX_ENTRIES, MAX_LINKED}
 use Rattle.loft_sense.specs.Machine.{Prog, Tree, Mach}
-use Rattle.loft_sense.specs.Run.{Next, Finish, Acts, Holds, Control, Active, Around, Beside, Outcome, Did, Went, Dies, did, printed, ends, live, act_on, step, step_on, no_step, going, go_on, here, most_entries, beside, actives_of}
+use Rattle.loft_sense.specs.Run.{Next, Finish, Prints, Cooperates, Stuck, Control, Active, Around, Beside, Outcome, Did, Went, Dies, print_line, printed, ends, live, act_on, step, step_on, no_step, going, go_on, here, beside, actives_of}
 use Rattle.loft_sense.specs.Tree.{tree}
 use Rattle.loft_sense.specs.CanGo.{can_go}
 use Rattle.loft_sense.specs.Passes.{Runner, Walk, run_of, runners_after, around_after, walked, pass, passes_within, steps_left, passes}
-use Rattle.loft_sense.specs.Apply.{Applied, most_linked, is_linked, tell_end, apply_order, apply_orders, apply}
+use Rattle.loft_sense.specs.Apply.{Applied, is_linked, tell_end, apply_order, apply_orders, apply}
 use Rattle.loft_sense.specs.Instant.{runner_of, around_of, sent_by, instant}
 use Rattle.loft_sense.specs.History.{orders_to, is_addressed}
 
@@ -36,7 +36,7 @@ sent_by-append s (act.Gen t event value ∷ xs) ys = sent_by-append s xs ys
 sent_by-append s (act.Out t sent ∷ xs) ys = ap (λ (ms : List Sent). sent ∷ ms) (sent_by-append s xs ys)
 sent_by-append s (act.End t end ∷ xs) ys = ap (λ (ms : List Sent). tell_end s t end ∷ ms) (sent_by-append s xs ys)
 
--- an end is told to others alone
+-- only others learn of an end
 told_to_others : (s : SchedId) (t : ThreadId) (end : End) → orders_to s (tell_end s t end ∷ []) ≡ []
 told_to_others s t end = ap (λ (b : Bool). if not b then order.Ended t end ∷ [] else []) (eq-eqb s.0 s.0 refl)
 
@@ -89,13 +89,14 @@ quiet_act : {A : Type 0} (s : SchedId) (on : Beside → List (Active A) → Outc
 quiet_act s on h (Went values now) p r rs b d q = h now _ d
 quiet_act s on h (Dies end) p r rs b d q = quiet_ends s end b q
 
-quiet_did : (s : SchedId) (action : Action) (at : _) (values : List _) (b : Beside) → QuietAround s b.around → QuietDid s (did action at values b)
-quiet_did s (Print line) at values b p = quiet_print s line (nat_lt b.around.entries most_entries) b _ values p
+quiet_line : (s : SchedId) (line : List ℕ) (at : _) (values : List _) (b : Beside) → QuietAround s b.around → QuietDid s (print_line line at values b)
+quiet_line s line at values b p = quiet_print s line (nat_lt b.around.entries MAX_ENTRIES) b _ values p
 
 quiet_step : {A : Type 0} (s : SchedId) (c : Control A) (left : ℕ) (on : Beside → List (Active A) → Outcome) → GoesQuietly s on → (next : Next A) (r : Active A) (rs : List (Active A)) (b : Beside) → QuietAround s b.around → QuietOutcome s (step c left on next r rs b)
 quiet_step s c left on h Finish r rs b p = h b rs p
-quiet_step s c left on h (Acts action at) r rs b p = quiet_act s on h (did action (here r) r.values b) at r rs b (quiet_did s action (here r) r.values b p) p
-quiet_step s c left on h (Holds k pause at) r rs b p = p
+quiet_step s c left on h (Prints line at) r rs b p = quiet_act s on h (print_line line (here r) r.values b) at r rs b (quiet_line s line (here r) r.values b p) p
+quiet_step s c left on h (Cooperates k at) r rs b p = p
+quiet_step s c left on h Stuck r rs b p = h b rs p
 
 quiet_on : {A : Type 0} (s : SchedId) (c : Control A) (left : ℕ) (on : Beside → List (Active A) → Outcome) → GoesQuietly s on → (b : Beside) (rs : List (Active A)) → QuietAround s b.around → QuietOutcome s (step_on c left on b rs)
 quiet_on s c left on h b [] p = quiet_ends s _ b p
@@ -145,7 +146,7 @@ quiet_applied s true v w p q = p
 quiet_applied s false v w p q = q
 
 quiet_order : (s : SchedId) (a : Applied) (o : Order) → Quiet s a.sent → Quiet s (apply_order s a o).sent
-quiet_order s a (order.Create t m args) p = quiet_applied s (nat_lt (length a.linked) most_linked) _ _ p (quiet_end s a.sent t _ p)
+quiet_order s a (order.Create t m args) p = quiet_applied s (nat_lt (length a.linked) MAX_LINKED) _ _ p (quiet_end s a.sent t _ p)
 quiet_order s a (order.Arrive t) p = p
 quiet_order s a (order.Stop t) p = quiet_applied s (is_linked t a.linked) _ _ (quiet_end s a.sent t _ p) p
 quiet_order s a (order.Suspend t) p = quiet_applied s (is_linked t a.linked) _ _ p p

@@ -2,7 +2,7 @@
 use Rattle.std.proofs.Common.{ℕ, zero, suc, ◌<◌, List, [], ◌∷◌, arith}
 use Rattle.loft_sense.specs.declared.thread.Thread.{Thread}
 use Rattle.loft_sense.specs.Machine.{Prog, Tree}
-use Rattle.loft_sense.specs.Run.{Next, Finish, Acts, Holds, Control, Active, Around, Beside, Outcome, Held, Ended, Did, Went, Dies, did, live, act_on, step, step_on, no_step, going, go_on, here, beside, actives_of}
+use Rattle.loft_sense.specs.Run.{Next, Finish, Prints, Cooperates, Stuck, Control, Active, Around, Beside, Outcome, Held, Ended, Did, Went, Dies, print_line, live, act_on, step, step_on, no_step, going, go_on, here, beside, actives_of}
 use Rattle.loft_sense.specs.Tree.{tree}
 use Rattle.loft_sense.specs.Passes.{run_of}
 
@@ -25,8 +25,9 @@ below_act on n h (Dies end) p r rs b = tt
 
 below_step : {A : Type 0} (c : Control A) (left : ℕ) (on : Beside → List (Active A) → Outcome) → ((b : Beside) (rs : List (Active A)) → IsBelow (on b rs) left) → (next : Next A) (r : Active A) (rs : List (Active A)) (b : Beside) → IsBelow (step c left on next r rs b) (suc left)
 below_step c left on h Finish r rs b = IsBelow-more _ left (h b rs)
-below_step c left on h (Acts action p) r rs b = IsBelow-more _ left (below_act on left h (did action (here r) r.values b) p r rs b)
-below_step c left on h (Holds k pause p) r rs b = omega arith
+below_step c left on h (Prints line p) r rs b = IsBelow-more _ left (below_act on left h (print_line line (here r) r.values b) p r rs b)
+below_step c left on h (Cooperates k p) r rs b = omega arith
+below_step c left on h Stuck r rs b = IsBelow-more _ left (h b rs)
 
 below_on : {A : Type 0} (c : Control A) (left : ℕ) (on : Beside → List (Active A) → Outcome) → ((b : Beside) (rs : List (Active A)) → IsBelow (on b rs) left) → (b : Beside) (rs : List (Active A)) → IsBelow (step_on c left on b rs) (suc left)
 below_on c left on h b [] = tt

@@ -1,5 +1,5 @@
 -- The orders of a batch, one after the other, before any thread runs (docs/SEMANTICS.md, "Apply").
-use Rattle.std.specs.Prelude.{ℕ, nat_lt, pos, Bool, true, false, ◌||◌, List, [], ◌∷◌, ◌++◌, length, if◌then◌else◌}
+use Rattle.std.specs.Prelude.{nat_lt, pos, Bool, true, false, ◌||◌, List, [], ◌∷◌, ◌++◌, length, if◌then◌else◌}
 use Rattle.loft_base.specs.declared.ids.SchedId.{SchedId}
 use Rattle.loft_base.specs.declared.ids.ModuleId.{ModuleId}
 use Rattle.loft_base.specs.declared.ids.ThreadId.{ThreadId}
@@ -16,6 +16,7 @@ use Rattle.loft_sense.specs.declared.order.To.TheVariants.{Others}
 use Rattle.loft_sense.specs.declared.order.Sent.{Sent}
 use Rattle.loft_sense.specs.declared.note.Ended.{Ended}
 use Rattle.loft_sense.specs.declared.note.Standing.{Standing}
+use Rattle.loft_sense.specs.declared.limits.TheConstants.{MAX_LINKED}
 use Rattle.loft_sense.specs.Machine.{Mach}
 use Rattle.loft_sense.specs.Board.{Board, generate}
 use Rattle.loft_sense.specs.CanGo.{same_thread}
@@ -31,10 +32,6 @@ pub record Applied : Type 0 where
   pub stopped : List Ended
   -- the orders by which the other schedulers learn of them
   pub sent : List Sent
-
--- the most threads that a scheduler links by creates
-abbrev pub most_linked : ℕ
-most_linked = 4096
 
 -- a thread that hasn't run
 abbrev pub new_thread : ThreadId → ModuleId → List Value → Thread
@@ -58,7 +55,7 @@ abbrev pub suspend : ThreadId → Bool → List Standing → List Standing
 suspend t suspended [] = []
 suspend t suspended (s ∷ ss) = if same_thread t s.thread.id then record s { suspended = suspended } ∷ ss else s ∷ suspend t suspended ss
 
--- other schedulers are told of an end
+-- by this the other schedulers learn of an end
 abbrev pub tell_end : SchedId → ThreadId → End → Sent
 tell_end s t end = record { to = Others s; order = order.Ended t end }
 
@@ -66,18 +63,18 @@ tell_end s t end = record { to = Others s; order = order.Ended t end }
 abbrev pub marked : Mark → Applied → Applied
 marked m a = record a { marks = a.marks ++ m ∷ [] }
 
--- this order, whose number in the batch is that of the marks, has ended a thread
+-- this order, whose index in the batch is the number of marks so far, has ended a thread
 abbrev pub ended_by : SchedId → ThreadId → End → Mark → Applied → Applied
 ended_by s t end m a = record a {
   known = a.known ++ t ∷ [];
   marks = a.marks ++ m ∷ [];
-  stopped = a.stopped ++ record { place = length a.marks; thread = t; end = end } ∷ [];
+  stopped = a.stopped ++ record { index = length a.marks; thread = t; end = end } ∷ [];
   sent = a.sent ++ tell_end s t end ∷ [];
 }
 
 abbrev pub apply_order : SchedId → Applied → Order → Applied
 apply_order s a (order.Create t m args) =
-    if nat_lt (length a.linked) most_linked
+    if nat_lt (length a.linked) MAX_LINKED
     then marked mark.Done (record a { linked = link (new_thread t m args) a.linked })
     else ended_by s t FullEnd mark.Full a
 apply_order s a (order.Arrive t) = marked mark.Done (record a { linked = link t a.linked })

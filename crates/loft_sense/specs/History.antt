@@ -56,7 +56,7 @@ log s (Pick w job ∷ es) = log s es
 log s (Post w sent ∷ es) = log s es
 log s (Client c sent ∷ es) = log s es
 
--- whether a scheduler is in an instant behind these entries, where it was or wasn't before them
+-- whether a scheduler is in an instant after these entries, where it was or wasn't before them
 abbrev pub in_instant : SchedId → Bool → List Entry → Bool
 in_instant s was [] = was
 in_instant s was (Take q batch ∷ es) = in_instant s (same_scheduler s q || was) es
@@ -91,7 +91,7 @@ starts_from s k (t ∷ ts) =
 abbrev pub starts_of : Heads → SchedId → List Order
 starts_of h s = starts_from s 0 h.starts
 
--- what waits for a scheduler behind these entries, where this waited before them: its Take leaves nothing, every other entry adds what it sends
+-- what waits for a scheduler after these entries, where this waited before them: its Take leaves nothing, every other entry adds what it sends
 abbrev pub waiting_after : SchedId → List Order → List Entry → List Order
 waiting_after s before [] = before
 waiting_after s before (Take q batch ∷ es) = waiting_after s (if same_scheduler s q then [] else before) es
@@ -120,7 +120,7 @@ sent_last [] = []
 sent_last (n ∷ []) = n.sent
 sent_last (n ∷ m ∷ ns) = sent_last (m ∷ ns)
 
--- the entry that a choice makes behind a history, where it is allowed. A program of schedulers, modules and starts has no worker's and no client's entries.
+-- the entry that a choice makes after a history, where it is allowed. A program of schedulers, modules and starts has no worker's and no client's entries.
 abbrev pub entry_of : Prog → Limits → List Entry → Choice → Option Entry
 entry_of x limits h (TakeBy s) =
     if nat_lt s.0 (length (heads x).schedulers) && not (is_open s h) && has_turn limits (replayed x limits s h).machine (waiting (heads x) s h)
@@ -134,12 +134,12 @@ entry_of x limits h (PickBy w) = None
 entry_of x limits h (PostBy w) = None
 entry_of x limits h (ClientBy c) = None
 
--- the history goes on by this entry, or the choice behind it isn't allowed: its number is told, from 1
+-- the history goes on by this entry, or the next choice isn't allowed: the answer is its number, from 1
 abbrev pub with_entry : List Entry → Option Entry → (List Entry → Result (List Entry) ℕ) → Result (List Entry) ℕ
 with_entry h None go_on = Err (length h + 1)
 with_entry h (Some e) go_on = go_on (h ++ e ∷ [])
 
--- the history that these choices make behind h
+-- the history that these choices make after h
 abbrev pub hist_on : Prog → Limits → List Choice → List Entry → Result (List Entry) ℕ
 hist_on x limits [] h = Ok h
 hist_on x limits (c ∷ cs) h = with_entry h (entry_of x limits h c) (hist_on x limits cs)

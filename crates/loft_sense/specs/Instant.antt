@@ -58,7 +58,7 @@ sent_by s (act.Gen t event value ∷ acts) = sent_by s acts
 sent_by s (act.Out t sent ∷ acts) = sent ∷ sent_by s acts
 sent_by s (act.End t end ∷ acts) = tell_end s t end ∷ sent_by s acts
 
--- an instant: the machine behind it, and what it did
+-- an instant: the machine after it, and what it did
 pub record AfterInstant : Type 0 where
   pub machine : Mach
   pub note : InstantNote
@@ -84,7 +84,7 @@ instant x limits m batch =
     let w = passes x (map (runner_of limits.budget) a.linked) (around_of a) in
     record { machine = machine_after m w; note = note_of m a w }
 
--- the machine and the notes behind some instants
+-- the machine and the notes after some instants
 pub record Replayed : Type 0 where
   pub machine : Mach
   pub notes : List InstantNote

@@ -1,4 +1,4 @@
--- Legal histories: what each actor has done, apart from how a list of choices makes a history.
+-- Legal histories: what each actor has done, apart from how a list of choices makes a history (docs/SEMANTICS.md, "Legal").
 use Rattle.std.specs.Prelude.{◌≡◌, ℕ, ◌<◌, ◌==◌, Bool, true, false, List, [], ◌∷◌, ◌++◌, length, if◌then◌else◌, IsTrue}
 use Rattle.loft_base.specs.declared.ids.SchedId.{SchedId}
 use Rattle.loft_tree.specs.declared.heads.Heads.{Heads}
@@ -37,7 +37,7 @@ of a (e ∷ es) = if same_actor a (actor_of e) then e ∷ of a es else of a es
 
 -- P holds of each entry and of what stands before it
 abbrev pub AtEach : (List Entry → Entry → Type 0) → List Entry → Type 0
-AtEach P es = (before : List Entry) (e : Entry) (behind : List Entry) → es ≡ before ++ e ∷ behind → P before e
+AtEach P es = (before : List Entry) (e : Entry) (after : List Entry) → es ≡ before ++ e ∷ after → P before e
 
 -- a Take takes all that waits for its scheduler
 abbrev pub TakesAll : Heads → List Entry → Entry → Type 0

@@ -10,5 +10,7 @@ pub mod Rest
 pub mod Fits
 pub mod History
 pub mod Legal
+pub mod Turns
 pub mod Text
+pub mod Lines
 pub mod Report

@@ -1,4 +1,4 @@
--- Programs, and one scheduler between two instants (docs/SEMANTICS.md, "Instant").
+-- Programs, and one scheduler between two instants (docs/SEMANTICS.md, "Machine").
 use Rattle.std.specs.Prelude.{ℕ, ℤ, List, []}
 use Rattle.loft_base.specs.declared.ids.SchedId.{SchedId}
 use Rattle.loft_base.specs.declared.ids.ThreadId.{ThreadId}

@@ -33,10 +33,14 @@ space = 32 ∷ []
 abbrev pub colon : List ℕ
 colon = 58 ∷ []
 
+-- texts with this text between each two
+abbrev pub separated_by : {A : Type 0} → List ℕ → (A → List ℕ) → List A → List ℕ
+separated_by between text [] = []
+separated_by between text (x ∷ xs) = text x ++ flat_map (λ y. between ++ text y) xs
+
 -- texts with a comma between each two
 abbrev pub separated : {A : Type 0} → (A → List ℕ) → List A → List ℕ
-separated text [] = []
-separated text (x ∷ xs) = text x ++ flat_map (λ y. comma ++ text y) xs
+separated text xs = separated_by comma text xs
 
 -- the name with this number, and nothing where there is none
 abbrev pub name_at : List (List ℕ) → ℕ → List ℕ
@@ -96,18 +100,18 @@ abbrev pub left_text : Option ℤ → List ℕ
 left_text None = codes "-"
 left_text (Some n) = signed_decimal n
 
--- a wait for one event, or for several
+-- a wait for an event, and for these others
 abbrev pub events_word : List EventId → List ℕ
-events_word [] = codes "select:"
-events_word (e ∷ []) = codes "await:"
-events_word (e ∷ f ∷ es) = codes "select:"
+events_word [] = codes "await:"
+events_word (e ∷ es) = codes "select:"
 
--- A wait for a value is marked as every instant closes, so it is printed in no other way.
+-- A wait for no event, and one for a value, have no spelling: no thread has one between two instants.
 abbrev pub wait_text : Heads → Wait → List ℕ
 wait_text h wait.New = codes "new"
 wait_text h (wait.Coop left) = codes "coop:" ++ signed_decimal left
-wait_text h (wait.Events events left) = events_word events ++ (left_text left ++ (colon ++ separated (event_name h) events))
-wait_text h (wait.Index event at) = codes "next"
+wait_text h (wait.Events [] left) = []
+wait_text h (wait.Events (e ∷ es) left) = events_word es ++ (left_text left ++ (colon ++ separated (event_name h) (e ∷ es)))
+wait_text h (wait.Index event at) = []
 wait_text h wait.Next = codes "next"
 wait_text h (wait.Join thread left) = codes "join:" ++ (left_text left ++ (colon ++ id_text h thread))
 wait_text h wait.Halt = codes "halt"
@@ -116,9 +120,9 @@ abbrev pub frame_text : Heads → Frame → List ℕ
 frame_text h f = module_name h f.module ++ (colon ++ (decimal f.stop ++ (codes "[" ++ (separated signed_decimal f.counts ++ (codes "](" ++ (separated (value_text h) f.values ++ codes ")"))))))
 
 abbrev pub thread_text : Heads → Thread → List ℕ
-thread_text h t = id_text h t.id ++ (space ++ (signed_decimal t.code ++ (space ++ (signed_decimal t.mask ++ (space ++ (wait_text h t.wait ++ flat_map (λ f. space ++ frame_text h f) t.frames))))))
+thread_text h t = id_text h t.id ++ (space ++ (signed_decimal t.code ++ (space ++ (signed_decimal t.mask ++ (space ++ (wait_text h t.wait ++ (space ++ separated_by space (frame_text h) t.frames)))))))
 
--- a value behind the name of an event, where there is one
+-- a value after the name of an event, where there is one
 abbrev pub sent_value : Option ℤ → List ℕ
 sent_value None = []
 sent_value (Some n) = space ++ signed_decimal n

@@ -1,6 +1,6 @@
 //! Whatever runs the instants of one scheduler.
 
-ghost use Rattle.std.specs.Prelude.{◌≡◌, ◌<◌, ◌≤◌, Bool, true, false, All, IfOk, OnErr, OnOk, IsTrue};
+ghost use Rattle.std.specs.Prelude.{◌≡◌, ◌<◌, Bool, true, false, All, IfOk, OnErr, OnOk};
 ghost use Rattle.loft_base.specs.declared.ids.SchedId.{SchedId};
 ghost use Rattle.loft_sense.specs.declared.limits.Limits.{Limits};
 ghost use Rattle.loft_sense.specs.Machine.{Prog, Mach};

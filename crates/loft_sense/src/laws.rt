@@ -1,6 +1,6 @@
 //! Laws of instants and of histories. Each is what the contract of an empty function says.
 
-ghost use Rattle.std.specs.Prelude.{◌≡◌, ◌↔◌, false, List, [], map, All, Result, Ok};
+ghost use Rattle.std.specs.Prelude.{◌≡◌, ◌↔◌, false, List, [], map, All, Ok};
 ghost use Rattle.loft_sense.specs.declared.limits.Limits.{Limits};
 ghost use Rattle.loft_sense.specs.declared.order.Order.{Order};
 ghost use Rattle.loft_sense.specs.Machine.{Prog, Mach};

@@ -1,4 +1,10 @@
-//! Bounds of a run.
+//! Bounds of a run (docs/SEMANTICS.md, "Run" and "Apply").
+
+/// The most entries that an instant of one scheduler has.
+pub const MAX_ENTRIES: u64 = 65_536;
+
+/// The most threads that a scheduler links by creates.
+pub const MAX_LINKED: usize = 4096;
 
 /// The bounds of every scheduler and worker.
 #[derive(Clone, Copy, Debug, PartialEq, Eq)]

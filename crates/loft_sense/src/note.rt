@@ -19,7 +19,7 @@ pub type Standings = Sequence<Standing>;
 /// The values of shared variables.
 pub type Numbers = Sequence<i64>;
 
-/// What a thread did in an instant, as its report tells it.
+/// What a thread did in an instant, as its report gives it.
 #[derive(Debug, Drop)]
 pub enum Act {
     Print {
@@ -41,11 +41,11 @@ pub enum Act {
     },
 }
 
-/// An end that an order made: the order's place in its batch, the thread, and how it ended.
+/// An end that an order made: the order's index in its batch, the thread, and how it ended.
 #[derive(Clone, Copy, Debug, PartialEq, Eq)]
 pub struct Ended {
     /// Counted from 0.
-    pub place: u64,
+    pub index: u64,
     pub thread: ThreadId,
     pub end: End,
 }

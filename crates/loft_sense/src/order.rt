@@ -12,7 +12,7 @@ pub type Sents = Sequence<Sent>;
 /// What became of each order of a batch.
 pub type Marks = Sequence<Mark>;
 
-/// A place in a program: a module, and the number of a stop in it.
+/// A point in a program: a module, and the number of a stop in it.
 #[derive(Clone, Copy, Debug, PartialEq, Eq)]
 pub struct At {
     pub module: ModuleId,

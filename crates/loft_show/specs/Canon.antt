@@ -19,7 +19,7 @@ use Rattle.loft_tree.specs.declared.kinds.BinaryOperator.TheVariants as o
 use Rattle.loft_tree.specs.declared.kinds.Control.{Control}
 use Rattle.loft_tree.specs.declared.kinds.Control.TheVariants as c
 use Rattle.loft_tree.specs.Levels.{left_bracketed, right_bracketed, sign_bracketed}
-use Rattle.loft_tree.specs.Source.{Ident, Expression, Number, Variable, Special, Unary, Binary, Creation, Statement, Assign, AssignCreate, Create, PrintText, PrintValue, Cooperate, Generate, Await, Select, Get, Join, ControlThread, Broadcast, Link, Unlink, Run, Halt, If, While, Repeat, Statements, Done, Then, Named, PlaceName, InScheduler, Unlinked, ModuleHead, Argument, ANumber, AName, Order, CreateThere, ControlThere, BroadcastThere, Declaration, Scheduler, Event, Shared, Module, Start, Outside, Source}
+use Rattle.loft_tree.specs.Source.{Ident, EventName, Expression, Number, Variable, Special, Unary, Binary, Creation, Statement, Assign, AssignCreate, Create, PrintText, PrintValue, Cooperate, Generate, Await, Select, Get, Join, ControlThread, Broadcast, Link, Unlink, Run, Halt, If, While, Repeat, Statements, Done, Then, Named, PlaceName, InScheduler, Unlinked, ModuleHead, Argument, ANumber, AName, Order, CreateThere, ControlThere, BroadcastThere, Declaration, Scheduler, Event, Shared, Module, Start, Outside, Source}
 
 -- ---- pieces and lines
 
@@ -173,6 +173,9 @@ for_part e = behind expression_pieces (spaced (word w.For) ∷ []) e
 abbrev pub name_pieces : Ident → List ℕ → List Piece
 name_pieces n gap = piece gap (name n) ∷ []
 
+abbrev pub event_pieces : EventName → List ℕ → List Piece
+event_pieces event gap = name_pieces event.name gap
+
 -- the line of a word with a test in brackets, and a word behind it
 abbrev pub test_line : ℕ → Word → Expression → Word → Line
 test_line n before e after =
@@ -194,16 +197,16 @@ abbrev mutual
   statement_lines (PrintText at text value) n = word_line n w.Print (spaced (Quoted text) ∷ comma_part value) ∷ []
   statement_lines (PrintValue at value) n = word_line n w.Print (expression_pieces value space) ∷ []
   statement_lines (Cooperate at instants) n = word_line n w.Cooperate (behind expression_pieces [] instants) ∷ []
-  statement_lines (Generate at event value) n = word_line n w.Generate (spaced (name event) ∷ comma_part value) ∷ []
-  statement_lines (Await at event limit) n = word_line n w.Await (spaced (name event) ∷ for_part limit) ∷ []
+  statement_lines (Generate at event value) n = word_line n w.Generate (spaced (name event.name) ∷ comma_part value) ∷ []
+  statement_lines (Await at event limit) n = word_line n w.Await (spaced (name event.name) ∷ for_part limit) ∷ []
   statement_lines (Select at [] limit) n = word_line n w.Select (for_part limit) ∷ []
-  statement_lines (Select at (event ∷ events) limit) n = word_line n w.Select (spaced (name event) ∷ (further_pieces name_pieces events ++ for_part limit)) ∷ []
+  statement_lines (Select at (event ∷ events) limit) n = word_line n w.Select (spaced (name event.name) ∷ (further_pieces event_pieces events ++ for_part limit)) ∷ []
   statement_lines (Get at event index target) n =
-      word_line n w.Get (spaced (name event) ∷ spaced (word w.At) ∷ (expression_pieces index space ++ spaced (word w.Into) ∷ spaced (name target) ∷ [])) ∷ []
+      word_line n w.Get (spaced (name event.name) ∷ spaced (word w.At) ∷ (expression_pieces index space ++ spaced (word w.Into) ∷ spaced (name target) ∷ [])) ∷ []
   statement_lines (Join at thread limit) n = word_line n w.Join (expression_pieces thread space ++ for_part limit) ∷ []
   statement_lines (ControlThread at control thread scheduler) n =
       word_line n (control_word control) (expression_pieces thread space ++ spaced (word w.In) ∷ spaced (name scheduler) ∷ []) ∷ []
-  statement_lines (Broadcast at event value) n = word_line n w.Broadcast (spaced (name event) ∷ comma_part value) ∷ []
+  statement_lines (Broadcast at event value) n = word_line n w.Broadcast (spaced (name event.name) ∷ comma_part value) ∷ []
   statement_lines (Link at scheduler) n = word_line n w.Link (spaced (name scheduler) ∷ []) ∷ []
   statement_lines (Unlink at) n = word_line n w.Unlink [] ∷ []
   statement_lines (Run at called arguments) n = word_line n w.Run (spaced (name called) ∷ bracketed_pieces expression_pieces arguments) ∷ []
@@ -257,7 +260,7 @@ abbrev pub order_line : Order → Line
 order_line (CreateThere scheduler called arguments) = word_line 2 w.Create (call_pieces scheduler called arguments)
 order_line (ControlThere control thread scheduler) =
     word_line 2 (control_word control) (spaced (name thread) ∷ spaced (word w.In) ∷ spaced (name scheduler) ∷ [])
-order_line (BroadcastThere event value) = word_line 2 w.Broadcast (spaced (name event) ∷ behind signed_pieces (tight (sign s.Comma) ∷ []) value)
+order_line (BroadcastThere event value) = word_line 2 w.Broadcast (spaced (name event.name) ∷ behind signed_pieces (tight (sign s.Comma) ∷ []) value)
 
 abbrev pub order_lines : List Order → List Line
 order_lines [] = []

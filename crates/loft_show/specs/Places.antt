@@ -1,7 +1,7 @@
 -- Programs without the places where they stand in a text.
 use Rattle.std.specs.Prelude.{map, Option}
 use Rattle.std.specs.Option.{option_map}
-use Rattle.loft_tree.specs.Source.{Ident, Expression, Number, Variable, Special, Unary, Binary, Creation, Statement, Assign, AssignCreate, Create, PrintText, PrintValue, Cooperate, Generate, Await, Select, Get, Join, ControlThread, Broadcast, Link, Unlink, Run, Halt, If, While, Repeat, Statements, Done, Then, Named, PlaceName, InScheduler, Unlinked, ModuleHead, Argument, ANumber, AName, Order, CreateThere, ControlThere, BroadcastThere, Declaration, Scheduler, Event, Shared, Module, Start, Outside, Source}
+use Rattle.loft_tree.specs.Source.{Ident, EventName, Expression, Number, Variable, Special, Unary, Binary, Creation, Statement, Assign, AssignCreate, Create, PrintText, PrintValue, Cooperate, Generate, Await, Select, Get, Join, ControlThread, Broadcast, Link, Unlink, Run, Halt, If, While, Repeat, Statements, Done, Then, Named, PlaceName, InScheduler, Unlinked, ModuleHead, Argument, ANumber, AName, Order, CreateThere, ControlThere, BroadcastThere, Declaration, Scheduler, Event, Shared, Module, Start, Outside, Source}
 
 -- every place becomes 0
 abbrev pub bare_name : Ident → Ident
@@ -17,6 +17,9 @@ bare_expression (Binary operator left right) = Binary operator (bare_expression 
 abbrev pub bare_value : Option Expression → Option Expression
 bare_value e = option_map bare_expression e
 
+abbrev pub bare_event : EventName → EventName
+bare_event event = record { name = bare_name event.name }
+
 abbrev pub bare_creation : Creation → Creation
 bare_creation x = record { scheduler = bare_name x.scheduler; called = bare_name x.called; arguments = map bare_expression x.arguments }
 
@@ -28,13 +31,13 @@ abbrev mutual
   bare_statement (PrintText at line value) = PrintText 0 line (bare_value value)
   bare_statement (PrintValue at value) = PrintValue 0 (bare_expression value)
   bare_statement (Cooperate at instants) = Cooperate 0 (bare_value instants)
-  bare_statement (Generate at event value) = Generate 0 (bare_name event) (bare_value value)
-  bare_statement (Await at event limit) = Await 0 (bare_name event) (bare_value limit)
-  bare_statement (Select at events limit) = Select 0 (map bare_name events) (bare_value limit)
-  bare_statement (Get at event index target) = Get 0 (bare_name event) (bare_expression index) (bare_name target)
+  bare_statement (Generate at event value) = Generate 0 (bare_event event) (bare_value value)
+  bare_statement (Await at event limit) = Await 0 (bare_event event) (bare_value limit)
+  bare_statement (Select at events limit) = Select 0 (map bare_event events) (bare_value limit)
+  bare_statement (Get at event index target) = Get 0 (bare_event event) (bare_expression index) (bare_name target)
   bare_statement (Join at thread limit) = Join 0 (bare_expression thread) (bare_value limit)
   bare_statement (ControlThread at control thread scheduler) = ControlThread 0 control (bare_expression thread) (bare_name scheduler)
-  bare_statement (Broadcast at event value) = Broadcast 0 (bare_name event) (bare_value value)
+  bare_statement (Broadcast at event value) = Broadcast 0 (bare_event event) (bare_value value)
   bare_statement (Link at scheduler) = Link 0 (bare_name scheduler)
   bare_statement (Unlink at) = Unlink 0
   bare_statement (Run at called arguments) = Run 0 (bare_name called) (map bare_expression arguments)
@@ -69,7 +72,7 @@ bare_argument (AName name) = AName (bare_name name)
 abbrev pub bare_order : Order → Order
 bare_order (CreateThere scheduler called arguments) = CreateThere (bare_name scheduler) (bare_name called) (map bare_argument arguments)
 bare_order (ControlThere control thread scheduler) = ControlThere control (bare_name thread) (bare_name scheduler)
-bare_order (BroadcastThere event value) = BroadcastThere (bare_name event) value
+bare_order (BroadcastThere event value) = BroadcastThere (bare_event event) value
 
 abbrev pub bare_declaration : Declaration → Declaration
 bare_declaration (Scheduler name) = Scheduler (bare_name name)

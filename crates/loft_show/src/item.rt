@@ -15,7 +15,7 @@ use crate::pieces::{put_name, put_number, put_sign, put_word};
 use crate::statement::put_body;
 use loft_base::NoMemory;
 use loft_lex::{Sign, Word};
-use loft_tree::{Argument, Ident, Item, Kind, ModuleHead, Order, PlaceName, Stmt, Variable};
+use loft_tree::{Argument, Ident, Item, Kind, ModuleHead, OutsideOrder, PlaceName, Stmt, Variable};
 
 /// The word of a kind.
 fn kind_word(kind: Kind) -> Word
@@ -185,7 +185,7 @@ fn put_start(
 
 /// An outside client: its name, and its orders between braces.
 #[tactic(auto, using(crate::proofs::Items::items))]
-fn put_outside(out: &mut Vec<u8>, name: &Ident, orders: &[Order]) -> Result<(), NoMemory>
+fn put_outside(out: &mut Vec<u8>, name: &Ident, orders: &[OutsideOrder]) -> Result<(), NoMemory>
     ensures { OnOk result (out.new.items ≡ out.old.items ++ lines_text
         (declaration_lines (Outside name.now (map order_of orders.now)))) }
 {

@@ -1,13 +1,14 @@
 //! Lists between brackets, with commas.
 
 ghost use Rattle.std.specs.Prelude.{◌≡◌, ◌++◌, ◌∷◌, ℕ, List, OnOk};
-ghost use Rattle.loft_show.specs.Canon.{Piece, pieces_text, further_pieces, list_pieces, bracketed_pieces, spaced, tight, name, name_pieces, sign};
+ghost use Rattle.loft_show.specs.Canon.{Piece, pieces_text, further_pieces, list_pieces, bracketed_pieces, spaced, tight, name, name_pieces, event_pieces, sign};
+ghost use Rattle.loft_tree.specs.View.{event_name_of};
 ghost use Rattle.loft_lex.specs.declared.sign.Sign.TheVariants as s;
 
 use crate::pieces::{put_name, put_sign};
 use loft_base::NoMemory;
 use loft_lex::Sign;
-use loft_tree::Ident;
+use loft_tree::{EventName, Ident};
 
 /// What can stand in a list.
 pub trait Listed {
@@ -28,7 +29,15 @@ impl Listed for Ident {
     }
 }
 
-/// Appends these, each behind a comma and a blank.
+impl Listed for EventName {
+    ghost pieces = { λ event. event_pieces (event_name_of event) };
+
+    fn put(&self, out: &mut Vec<u8>, gap: &[u8]) -> Result<(), NoMemory> {
+        put_name(out, gap, &self.name)
+    }
+}
+
+/// Appends these, each after a comma and a blank.
 #[tactic(auto, using(crate::proofs::Texts::texts))]
 pub fn put_further<T: Listed>(out: &mut Vec<u8>, items: &[T]) -> Result<(), NoMemory>
     ensures { OnOk result (out.new.items ≡ out.old.items ++ pieces_text

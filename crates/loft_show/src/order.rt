@@ -11,7 +11,7 @@ use crate::pieces::{put_name, put_number, put_sign, put_word};
 use crate::simple::control_word;
 use loft_base::NoMemory;
 use loft_lex::{Sign, Word};
-use loft_tree::{Argument, Ident, Order};
+use loft_tree::{Argument, Ident, OutsideOrder};
 
 impl Listed for Argument {
     ghost pieces = { λ a. argument_pieces (argument_of a) };
@@ -54,12 +54,12 @@ fn put_number_part(out: &mut Vec<u8>, value: Option<i64>) -> Result<(), NoMemory
 
 /// An order, a line by itself.
 #[tactic(auto, using(crate::proofs::Items::items))]
-fn put_order(out: &mut Vec<u8>, order: &Order) -> Result<(), NoMemory>
+fn put_order(out: &mut Vec<u8>, order: &OutsideOrder) -> Result<(), NoMemory>
     ensures { OnOk result (out.new.items ≡ out.old.items ++ lines_text
         (order_line (order_of order.now) ∷ [])) }
 {
     match order {
-        Order::Create {
+        OutsideOrder::Create {
             scheduler,
             called,
             arguments,
@@ -67,7 +67,7 @@ fn put_order(out: &mut Vec<u8>, order: &Order) -> Result<(), NoMemory>
             begin_line(out, 2, Word::Create)?;
             put_outer_call(out, scheduler, called, arguments.as_slice())?;
         }
-        Order::Control {
+        OutsideOrder::Control {
             control,
             thread,
             scheduler,
@@ -77,9 +77,9 @@ fn put_order(out: &mut Vec<u8>, order: &Order) -> Result<(), NoMemory>
             put_word(out, b" ", Word::In)?;
             put_name(out, b" ", scheduler)?;
         }
-        Order::Broadcast { event, value } => {
+        OutsideOrder::Broadcast { event, value } => {
             begin_line(out, 2, Word::Broadcast)?;
-            put_name(out, b" ", event)?;
+            put_name(out, b" ", &event.name)?;
             put_number_part(out, *value)?;
         }
     }
@@ -87,7 +87,7 @@ fn put_order(out: &mut Vec<u8>, order: &Order) -> Result<(), NoMemory>
 }
 
 /// Orders, each a line by itself.
-pub fn put_orders(out: &mut Vec<u8>, orders: &[Order]) -> Result<(), NoMemory>
+pub fn put_orders(out: &mut Vec<u8>, orders: &[OutsideOrder]) -> Result<(), NoMemory>
     ensures { OnOk result (out.new.items ≡ out.old.items ++ lines_text
         (order_lines (map order_of orders.now))) }
 {

@@ -2,7 +2,7 @@
 
 ghost use Rattle.std.specs.Prelude.{◌≡◌, ◌++◌, ◌∷◌, [], map, OnOk};
 ghost use Rattle.loft_tree.specs.Source.{Assign, AssignCreate, Create, PrintText, PrintValue, Cooperate, Await, Select, Get, Join, ControlThread, Run};
-ghost use Rattle.loft_tree.specs.View.{expression_of, value_of, creation_of};
+ghost use Rattle.loft_tree.specs.View.{expression_of, value_of, creation_of, event_name_of};
 ghost use Rattle.loft_show.specs.Canon.{control_word, comma_part, lines_text, statement_lines, word_line, spaced, name};
 
 use crate::expression::put_expression;
@@ -12,7 +12,7 @@ use crate::part::{put_creation, put_limit_part, put_value_alone, put_value_part}
 use crate::pieces::{put_name, put_text, put_word};
 use loft_base::NoMemory;
 use loft_lex::Word;
-use loft_tree::{Control, Creation, Expr, Ident, Text};
+use loft_tree::{Control, Creation, EventName, Expr, Ident, Text};
 
 /// `x = E;`
 #[tactic(auto, using(crate::proofs::Texts::texts))]
@@ -107,14 +107,14 @@ pub fn put_event(
     out: &mut Vec<u8>,
     indent: usize,
     word: Word,
-    event: &Ident,
+    event: &EventName,
     value: &Option<Expr>,
 ) -> Result<(), NoMemory>
     ensures { OnOk result (out.new.items ≡ out.old.items ++ lines_text
-        (word_line indent word (spaced (name event.now) ∷ comma_part (value_of value.now)) ∷ [])) }
+        (word_line indent word (spaced (name event.now.name) ∷ comma_part (value_of value.now)) ∷ [])) }
 {
     begin_line(out, indent, word)?;
-    put_name(out, b" ", event)?;
+    put_name(out, b" ", &event.name)?;
     put_value_part(out, value)?;
     end_statement(out)
 }
@@ -124,14 +124,14 @@ pub fn put_event(
 pub fn put_await(
     out: &mut Vec<u8>,
     indent: usize,
-    event: &Ident,
+    event: &EventName,
     limit: &Option<Expr>,
 ) -> Result<(), NoMemory>
     ensures { OnOk result (out.new.items ≡ out.old.items ++ lines_text
-        (statement_lines (Await 0 event.now (value_of limit.now)) indent)) }
+        (statement_lines (Await 0 (event_name_of event.now) (value_of limit.now)) indent)) }
 {
     begin_line(out, indent, Word::Await)?;
-    put_name(out, b" ", event)?;
+    put_name(out, b" ", &event.name)?;
     put_limit_part(out, limit)?;
     end_statement(out)
 }
@@ -141,15 +141,15 @@ pub fn put_await(
 pub fn put_select(
     out: &mut Vec<u8>,
     indent: usize,
-    events: &[Ident],
+    events: &[EventName],
     limit: &Option<Expr>,
 ) -> Result<(), NoMemory>
     ensures { OnOk result (out.new.items ≡ out.old.items ++ lines_text
-        (statement_lines (Select 0 events.now (value_of limit.now)) indent)) }
+        (statement_lines (Select 0 (map event_name_of events.now) (value_of limit.now)) indent)) }
 {
     begin_line(out, indent, Word::Select)?;
     if let [first, rest @ ..] = events {
-        put_name(out, b" ", first)?;
+        put_name(out, b" ", &first.name)?;
         put_further(out, rest)?;
     }
     put_limit_part(out, limit)?;
@@ -161,15 +161,15 @@ pub fn put_select(
 pub fn put_get(
     out: &mut Vec<u8>,
     indent: usize,
-    event: &Ident,
+    event: &EventName,
     index: &Expr,
     target: &Ident,
 ) -> Result<(), NoMemory>
     ensures { OnOk result (out.new.items ≡ out.old.items ++ lines_text
-        (statement_lines (Get 0 event.now (expression_of index.now) target.now) indent)) }
+        (statement_lines (Get 0 (event_name_of event.now) (expression_of index.now) target.now) indent)) }
 {
     begin_line(out, indent, Word::Get)?;
-    put_name(out, b" ", event)?;
+    put_name(out, b" ", &event.name)?;
     put_word(out, b" ", Word::At)?;
     put_expression(out, b" ", index)?;
     put_word(out, b" ", Word::Into)?;

@@ -1,6 +1,6 @@
 //! Statements, with the bodies in them.
 
-ghost use Rattle.std.specs.Prelude.{◌≡◌, ◌++◌, ◌+◌, ◌-◌, ◌*◌, ◌<◌, map, OnOk};
+ghost use Rattle.std.specs.Prelude.{◌≡◌, ◌++◌, ◌+◌, ◌-◌, ◌*◌, ◌<◌, OnOk};
 ghost use Rattle.loft_tree.specs.View.{statement_of, statements_of};
 ghost use Rattle.loft_tree.specs.Fits.{StatementFits, StatementsFit};
 ghost use Rattle.loft_show.specs.Canon.{statement_lines, body_lines, else_lines, lines_text};

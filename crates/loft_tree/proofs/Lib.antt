@@ -1,5 +1,3 @@
 pub mod Trees
-pub mod Counts
-pub mod Names
-pub mod Tests
 pub mod NamedTrees
+pub mod StopLemmas

@@ -4,12 +4,13 @@ use Rattle.std.specs.Global.{Vec}
 use Rattle.loft_tree.specs.declared.kinds.Control.{Control}
 use Rattle.loft_tree.specs.declared.expression.Expr.{Expr}
 use Rattle.loft_tree.specs.declared.statement.Creation.{Creation}
+use Rattle.loft_tree.specs.declared.statement.EventName.{EventName}
 use Rattle.loft_tree.specs.declared.statement.Stmt.{Stmt}
 use Rattle.loft_tree.specs.declared.statement.Stmt.TheOpen as layer
 use Rattle.loft_tree.specs.declared.statement.Stmt.TheVariants as stmt
 use Rattle.loft_tree.specs.declared.statement.Stmt.TheFolds.{fold-roll-Stmt}
 use Rattle.loft_tree.specs.Source.{Ident, Statement, Assign, AssignCreate, Create, PrintText, PrintValue, Cooperate, Generate, Await, Select, Get, Join, ControlThread, Broadcast, Link, Unlink, Run, Halt, If, While, Repeat}
-use Rattle.loft_tree.specs.View.{expression_of, value_of, creation_of, statement_layer, statement_of, statements_of}
+use Rattle.loft_tree.specs.View.{expression_of, value_of, event_name_of, creation_of, statement_layer, statement_of, statements_of}
 
 pub statement_assign : (target : Ident) (value : Expr) → statement_of (stmt.Assign target value) ≡ Assign target (expression_of value)
 statement_assign target value = ap statement_of (sym (stmt.rolls-Assign target value)) ∙ fold-roll-Stmt Statement statement_layer (layer.Assign target value)
@@ -29,16 +30,16 @@ statement_print_value at value = ap statement_of (sym (stmt.rolls-PrintValue at 
 pub statement_cooperate : (at : ℕ) (instants : Option Expr) → statement_of (stmt.Cooperate at instants) ≡ Cooperate at (value_of instants)
 statement_cooperate at instants = ap statement_of (sym (stmt.rolls-Cooperate at instants)) ∙ fold-roll-Stmt Statement statement_layer (layer.Cooperate at instants)
 
-pub statement_generate : (at : ℕ) (event : Ident) (value : Option Expr) → statement_of (stmt.Generate at event value) ≡ Generate at event (value_of value)
+pub statement_generate : (at : ℕ) (event : EventName) (value : Option Expr) → statement_of (stmt.Generate at event value) ≡ Generate at (event_name_of event) (value_of value)
 statement_generate at event value = ap statement_of (sym (stmt.rolls-Generate at event value)) ∙ fold-roll-Stmt Statement statement_layer (layer.Generate at event value)
 
-pub statement_await : (at : ℕ) (event : Ident) (limit : Option Expr) → statement_of (stmt.Await at event limit) ≡ Await at event (value_of limit)
+pub statement_await : (at : ℕ) (event : EventName) (limit : Option Expr) → statement_of (stmt.Await at event limit) ≡ Await at (event_name_of event) (value_of limit)
 statement_await at event limit = ap statement_of (sym (stmt.rolls-Await at event limit)) ∙ fold-roll-Stmt Statement statement_layer (layer.Await at event limit)
 
-pub statement_select : (at : ℕ) (events : Vec Ident) (limit : Option Expr) → statement_of (stmt.Select at events limit) ≡ Select at events.items (value_of limit)
+pub statement_select : (at : ℕ) (events : Vec EventName) (limit : Option Expr) → statement_of (stmt.Select at events limit) ≡ Select at (map event_name_of events.items) (value_of limit)
 statement_select at events limit = ap statement_of (sym (stmt.rolls-Select at events limit)) ∙ fold-roll-Stmt Statement statement_layer (layer.Select at events limit)
 
-pub statement_get : (at : ℕ) (event : Ident) (index : Expr) (target : Ident) → statement_of (stmt.Get at event index target) ≡ Get at event (expression_of index) target
+pub statement_get : (at : ℕ) (event : EventName) (index : Expr) (target : Ident) → statement_of (stmt.Get at event index target) ≡ Get at (event_name_of event) (expression_of index) target
 statement_get at event index target = ap statement_of (sym (stmt.rolls-Get at event index target)) ∙ fold-roll-Stmt Statement statement_layer (layer.Get at event index target)
 
 pub statement_join : (at : ℕ) (thread : Expr) (limit : Option Expr) → statement_of (stmt.Join at thread limit) ≡ Join at (expression_of thread) (value_of limit)
@@ -47,7 +48,7 @@ statement_join at thread limit = ap statement_of (sym (stmt.rolls-Join at thread
 pub statement_control : (at : ℕ) (control : Control) (thread : Expr) (scheduler : Ident) → statement_of (stmt.Control at control thread scheduler) ≡ ControlThread at control (expression_of thread) scheduler
 statement_control at control thread scheduler = ap statement_of (sym (stmt.rolls-Control at control thread scheduler)) ∙ fold-roll-Stmt Statement statement_layer (layer.Control at control thread scheduler)
 
-pub statement_broadcast : (at : ℕ) (event : Ident) (value : Option Expr) → statement_of (stmt.Broadcast at event value) ≡ Broadcast at event (value_of value)
+pub statement_broadcast : (at : ℕ) (event : EventName) (value : Option Expr) → statement_of (stmt.Broadcast at event value) ≡ Broadcast at (event_name_of event) (value_of value)
 statement_broadcast at event value = ap statement_of (sym (stmt.rolls-Broadcast at event value)) ∙ fold-roll-Stmt Statement statement_layer (layer.Broadcast at event value)
 
 pub statement_link : (at : ℕ) (scheduler : Ident) → statement_of (stmt.Link at scheduler) ≡ Link at scheduler

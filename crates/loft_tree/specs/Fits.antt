@@ -4,8 +4,9 @@ use Rattle.std.specs.Str.{bytes_eq}
 use Rattle.std.specs.List.{count_by}
 use Rattle.loft_lex.specs.Bytes.{max_number}
 use Rattle.loft_lex.specs.Fits.{is_name, is_text}
+use Rattle.loft_tree.specs.declared.limits.TheConstants.{MAX_SCHEDULERS, MAX_EVENTS, MAX_SHARED, MAX_MODULES, MAX_STARTS, MAX_CLIENTS, MAX_ORDERS, MAX_PARAMETERS, MAX_LOCALS, MAX_STATEMENTS, MAX_OPERANDS, MAX_ARGUMENTS, MAX_CHOICES, MAX_NESTING}
 use Rattle.loft_tree.specs.Levels.{nesting, operands}
-use Rattle.loft_tree.specs.Source.{Ident, Expression, Number, Variable, Special, Unary, Binary, Creation, Statement, Assign, AssignCreate, Create, PrintText, PrintValue, Cooperate, Generate, Await, Select, Get, Join, ControlThread, Broadcast, Link, Unlink, Run, Halt, If, While, Repeat, Statements, Done, Then, Named, PlaceName, InScheduler, Unlinked, ModuleHead, Argument, ANumber, AName, Order, CreateThere, ControlThere, BroadcastThere, Declaration, Scheduler, Event, Shared, Module, Start, Outside, Source}
+use Rattle.loft_tree.specs.Source.{Ident, EventName, Expression, Number, Variable, Special, Unary, Binary, Creation, Statement, Assign, AssignCreate, Create, PrintText, PrintValue, Cooperate, Generate, Await, Select, Get, Join, ControlThread, Broadcast, Link, Unlink, Run, Halt, If, While, Repeat, Statements, Done, Then, Named, PlaceName, InScheduler, Unlinked, ModuleHead, Argument, ANumber, AName, Order, CreateThere, ControlThere, BroadcastThere, Declaration, Scheduler, Event, Shared, Module, Start, Outside, Source}
 
 -- each of a list is so
 abbrev pub Each : {A : Type 0} → (A → Type 0) → List A → Type 0
@@ -37,27 +38,31 @@ WordsFit (Special at builtin) = Unit {0}
 WordsFit (Unary at operator operand) = WordsFit operand
 WordsFit (Binary operator left right) = WordsFit left × WordsFit right
 
--- at most 64 operands, where n nestings may still be opened
+-- few enough operands, where n nestings may still be opened
 pub record ExpressionFits (n : ℕ) (e : Expression) : Type 0 where
   pub words : WordsFit e
   pub nests : nesting e ≤ n
-  pub few : operands e ≤ 64
+  pub few : operands e ≤ MAX_OPERANDS
 
--- at most 8 arguments
+-- few enough arguments
 pub record ArgumentsFit (n : ℕ) (es : List Expression) : Type 0 where
   pub each : Each (ExpressionFits n) es
-  pub few : length es ≤ 8
+  pub few : length es ≤ MAX_ARGUMENTS
 
 pub record CreationFits (n : ℕ) (c : Creation) : Type 0 where
   pub scheduler : NameFits c.scheduler
   pub called : NameFits c.called
   pub arguments : ArgumentsFit n c.arguments
 
--- 2 to 8 events
-pub record ChoicesFit (events : List Ident) : Type 0 where
-  pub each : Each NameFits events
+-- an event that is named
+abbrev pub EventNameFits : EventName → Type 0
+EventNameFits event = NameFits event.name
+
+-- two events or more, and few enough
+pub record ChoicesFit (events : List EventName) : Type 0 where
+  pub each : Each EventNameFits events
   pub several : 2 ≤ length events
-  pub few : length events ≤ 8
+  pub few : length events ≤ MAX_CHOICES
 
 -- statements, where n nestings may still be opened; an `if` or a loop opens one for all that stands in it
 abbrev mutual
@@ -68,13 +73,13 @@ abbrev mutual
   StatementFits (PrintText at line value) n = IsTrue (is_text line) × IfThere (ExpressionFits n) value
   StatementFits (PrintValue at value) n = ExpressionFits n value
   StatementFits (Cooperate at instants) n = IfThere (ExpressionFits n) instants
-  StatementFits (Generate at event value) n = NameFits event × IfThere (ExpressionFits n) value
-  StatementFits (Await at event limit) n = NameFits event × IfThere (ExpressionFits n) limit
+  StatementFits (Generate at event value) n = EventNameFits event × IfThere (ExpressionFits n) value
+  StatementFits (Await at event limit) n = EventNameFits event × IfThere (ExpressionFits n) limit
   StatementFits (Select at events limit) n = ChoicesFit events × IfThere (ExpressionFits n) limit
-  StatementFits (Get at event index target) n = NameFits event × ExpressionFits n index × NameFits target
+  StatementFits (Get at event index target) n = EventNameFits event × ExpressionFits n index × NameFits target
   StatementFits (Join at thread limit) n = ExpressionFits n thread × IfThere (ExpressionFits n) limit
   StatementFits (ControlThread at control thread scheduler) n = ExpressionFits n thread × NameFits scheduler
-  StatementFits (Broadcast at event value) n = NameFits event × IfThere (ExpressionFits n) value
+  StatementFits (Broadcast at event value) n = EventNameFits event × IfThere (ExpressionFits n) value
   StatementFits (Link at scheduler) n = NameFits scheduler
   StatementFits (Unlink at) n = Unit {0}
   StatementFits (Run at called arguments) n = NameFits called × ArgumentsFit n arguments
@@ -134,29 +139,29 @@ EndFits begin (Some end) = PlaceFits end × (same_place begin end ≡ false)
 pub record ModuleFits (head : ModuleHead) (locals : List Named) (body : Statements) : Type 0 where
   pub name : NameFits head.name
   pub parameters : Each (λ v. NameFits v.name) head.parameters
-  pub few_parameters : length head.parameters ≤ 8
+  pub few_parameters : length head.parameters ≤ MAX_PARAMETERS
   pub begin : PlaceFits head.begin
   pub end : EndFits head.begin head.end
   pub each_local : Each (λ v. NameFits v.name) locals
-  pub few_locals : length locals ≤ 32
-  pub statements : StatementsFit body 32
-  pub few_statements : size body ≤ 4096
+  pub few_locals : length locals ≤ MAX_LOCALS
+  pub statements : StatementsFit body MAX_NESTING
+  pub few_statements : size body ≤ MAX_STATEMENTS
 
 abbrev pub ArgumentFits : Argument → Type 0
 ArgumentFits (ANumber at value) = SignedFits value
 ArgumentFits (AName name) = NameFits name
 
--- a thread to be made, with at most 8 arguments
+-- a thread to be made, with few enough arguments
 pub record CallFits (scheduler called : Ident) (arguments : List Argument) : Type 0 where
   pub there : NameFits scheduler
   pub runs : NameFits called
   pub each : Each ArgumentFits arguments
-  pub few : length arguments ≤ 8
+  pub few : length arguments ≤ MAX_ARGUMENTS
 
 abbrev pub OrderFits : Order → Type 0
 OrderFits (CreateThere scheduler called arguments) = CallFits scheduler called arguments
 OrderFits (ControlThere control thread scheduler) = NameFits thread × NameFits scheduler
-OrderFits (BroadcastThere event value) = NameFits event × IfThere SignedFits value
+OrderFits (BroadcastThere event value) = EventNameFits event × IfThere SignedFits value
 
 abbrev pub DeclarationFits : Declaration → Type 0
 DeclarationFits (Scheduler name) = NameFits name
@@ -164,7 +169,7 @@ DeclarationFits (Event name scheduler) = NameFits name × NameFits scheduler
 DeclarationFits (Shared name scheduler value) = NameFits name × NameFits scheduler × SignedFits value
 DeclarationFits (Module head locals body) = ModuleFits head locals body
 DeclarationFits (Start scheduler called arguments name) = CallFits scheduler called arguments × IfThere NameFits name
-DeclarationFits (Outside name orders) = NameFits name × Each OrderFits orders × (length orders ≤ 1024)
+DeclarationFits (Outside name orders) = NameFits name × Each OrderFits orders × (length orders ≤ MAX_ORDERS)
 
 abbrev pub is_scheduler : Declaration → Bool
 is_scheduler (Scheduler name) = true
@@ -216,9 +221,9 @@ is_outside (Outside name orders) = true
 
 pub record SourceFits (p : Source) : Type 0 where
   pub each : Each DeclarationFits p
-  pub schedulers : count_by is_scheduler p ≤ 16
-  pub events : count_by is_event p ≤ 256
-  pub shared : count_by is_shared p ≤ 256
-  pub modules : count_by is_module p ≤ 256
-  pub starts : count_by is_start p ≤ 4096
-  pub clients : count_by is_outside p ≤ 16
+  pub schedulers : count_by is_scheduler p ≤ MAX_SCHEDULERS
+  pub events : count_by is_event p ≤ MAX_EVENTS
+  pub shared : count_by is_shared p ≤ MAX_SHARED
+  pub modules : count_by is_module p ≤ MAX_MODULES
+  pub starts : count_by is_start p ≤ MAX_STARTS
+  pub clients : count_by is_outside p ≤ MAX_CLIENTS

@@ -19,25 +19,36 @@ operator_level Times = 5
 operator_level Divide = 5
 operator_level Remainder = 5
 
+-- how the operators of an expression stand in one another, without what stands between them
+pub data Shape : Type 0 where
+  Operand : Shape
+  Signed : (inside : Shape) → Shape
+  Joined : (operator : BinaryOperator) (left right : Shape) → Shape
+
+abbrev pub shape_of : Expression → Shape
+shape_of (Number at value) = Operand
+shape_of (Variable name) = Operand
+shape_of (Special at builtin) = Operand
+shape_of (Unary at operator operand) = Signed (shape_of operand)
+shape_of (Binary operator left right) = Joined operator (shape_of left) (shape_of right)
+
 -- signs are of level 6, what is no operator of level 7
-abbrev pub level : Expression → ℕ
-level (Number at value) = 7
-level (Variable name) = 7
-level (Special at builtin) = 7
-level (Unary at operator operand) = 6
-level (Binary operator left right) = operator_level operator
+abbrev pub shape_level : Shape → ℕ
+shape_level Operand = 7
+shape_level (Signed inside) = 6
+shape_level (Joined operator left right) = operator_level operator
 
 -- a left operand stands in brackets where its level is lower than the operator's, or both are comparisons
-abbrev pub left_bracketed : BinaryOperator → Expression → Bool
-left_bracketed op e = nat_lt (level e) (operator_level op) || (operator_level op == 3 && level e == 3)
+abbrev pub brackets_left : BinaryOperator → Shape → Bool
+brackets_left op e = nat_lt (shape_level e) (operator_level op) || (operator_level op == 3 && shape_level e == 3)
 
 -- a right operand stands in brackets where its level isn't higher than the operator's
-abbrev pub right_bracketed : BinaryOperator → Expression → Bool
-right_bracketed op e = nat_le (level e) (operator_level op)
+abbrev pub brackets_right : BinaryOperator → Shape → Bool
+brackets_right op e = nat_le (shape_level e) (operator_level op)
 
 -- the operand of a sign stands in brackets where its level is below that of signs
-abbrev pub sign_bracketed : Expression → Bool
-sign_bracketed e = nat_lt (level e) 6
+abbrev pub brackets_sign : Shape → Bool
+brackets_sign e = nat_lt (shape_level e) 6
 
 -- brackets are one nesting more
 abbrev pub in_brackets : Bool → ℕ → ℕ
@@ -45,18 +56,33 @@ in_brackets true n = n + 1
 in_brackets false n = n
 
 -- how many brackets and signs stand in one another at most
-abbrev pub nesting : Expression → ℕ
-nesting (Number at value) = 0
-nesting (Variable name) = 0
-nesting (Special at builtin) = 0
-nesting (Unary at operator operand) = in_brackets (sign_bracketed operand) (nesting operand) + 1
-nesting (Binary operator left right) =
-    max (in_brackets (left_bracketed operator left) (nesting left)) (in_brackets (right_bracketed operator right) (nesting right))
+abbrev pub shape_nesting : Shape → ℕ
+shape_nesting Operand = 0
+shape_nesting (Signed inside) = in_brackets (brackets_sign inside) (shape_nesting inside) + 1
+shape_nesting (Joined operator left right) =
+    max (in_brackets (brackets_left operator left) (shape_nesting left)) (in_brackets (brackets_right operator right) (shape_nesting right))
 
 -- how many operands there are
+abbrev pub shape_operands : Shape → ℕ
+shape_operands Operand = 1
+shape_operands (Signed inside) = shape_operands inside
+shape_operands (Joined operator left right) = shape_operands left + shape_operands right
+
+-- the same of an expression
+abbrev pub level : Expression → ℕ
+level e = shape_level (shape_of e)
+
+abbrev pub left_bracketed : BinaryOperator → Expression → Bool
+left_bracketed op e = brackets_left op (shape_of e)
+
+abbrev pub right_bracketed : BinaryOperator → Expression → Bool
+right_bracketed op e = brackets_right op (shape_of e)
+
+abbrev pub sign_bracketed : Expression → Bool
+sign_bracketed e = brackets_sign (shape_of e)
+
+abbrev pub nesting : Expression → ℕ
+nesting e = shape_nesting (shape_of e)
+
 abbrev pub operands : Expression → ℕ
-operands (Number at value) = 1
-operands (Variable name) = 1
-operands (Special at builtin) = 1
-operands (Unary at operator operand) = operands operand
-operands (Binary operator left right) = operands left + operands right
+operands e = shape_operands (shape_of e)

@@ -2,12 +2,11 @@ pub mod Source
 pub mod View
 pub mod Levels
 pub mod Fits
-pub mod Small
-pub mod Kinds
-pub mod Resolved
-pub mod SmallView
-pub mod Numbering
+pub mod KindOf
 pub mod NamedTree
 pub mod NamedView
+pub mod ProgramView
 pub mod HeadsFit
 pub mod Stops
+pub mod NamedFits
+pub mod Resolved

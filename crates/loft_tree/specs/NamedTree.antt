@@ -10,60 +10,65 @@ use Rattle.loft_tree.specs.declared.kinds.BinaryOperator.{BinaryOperator}
 use Rattle.loft_tree.specs.declared.kinds.Control.{Control}
 use Rattle.loft_tree.specs.declared.heads.Heads.{Heads}
 use Rattle.loft_tree.specs.declared.named.Target.{Target}
-use Rattle.loft_tree.specs.declared.named.EventUse.{EventUse}
-use Rattle.loft_tree.specs.declared.named.Linking.{Linking}
+use Rattle.loft_tree.specs.declared.named.LinkItem.{LinkItem}
 
 -- an expression; the parameters and local variables of a module are its slots
-pub data Term : Type 0 where
-  Number : (value : ℤ) → Term
-  Slot : (slot : ℕ) → Term
-  Shared : (at : ℕ) (shared : SharedId) → Term
-  Special : (builtin : Builtin) → Term
-  Unary : (operator : UnaryOperator) (operand : Term) → Term
-  Binary : (operator : BinaryOperator) (left right : Term) → Term
+pub data NamedExpression : Type 0 where
+  Number : (value : ℤ) → NamedExpression
+  Slot : (slot : ℕ) → NamedExpression
+  Shared : (at : ℕ) (shared : SharedId) → NamedExpression
+  Special : (builtin : Builtin) → NamedExpression
+  Unary : (operator : UnaryOperator) (operand : NamedExpression) → NamedExpression
+  Binary : (operator : BinaryOperator) (left right : NamedExpression) → NamedExpression
 
-pub record Making : Type 0 where
+-- an event that a statement names, and the offset of its name
+pub record EventUse : Type 0 where
+  pub at : ℕ
+  pub event : EventId
+
+-- a thread to be made in the scheduler, whose name stands at this offset
+pub record NamedCreation : Type 0 where
   pub at : ℕ
   pub scheduler : SchedId
   pub «module» : ModuleId
-  pub arguments : List Term
+  pub arguments : List NamedExpression
 
--- A statement; `at` is the byte where its word begins, and a stop bears its number.
+-- A statement; `at` is the offset of its word, and a stop bears its number.
 mutual
-  pub data Statement : Type 0 where
-    Assign : (target : Target) (value : Term) → Statement
-    AssignCreate : (target : Target) (at : ℕ) (making : Making) → Statement
-    Create : (at : ℕ) (making : Making) → Statement
-    PrintText : (at : ℕ) (line : List ℕ) (value : Option Term) → Statement
-    PrintValue : (at : ℕ) (value : Term) → Statement
-    Cooperate : (at stop : ℕ) (instants : Option Term) → Statement
-    Generate : (at : ℕ) (event : EventUse) (value : Option Term) → Statement
-    Await : (at stop : ℕ) (event : EventUse) (limit : Option Term) → Statement
-    Select : (at stop : ℕ) (events : List EventUse) (limit : Option Term) → Statement
-    Get : (at stop : ℕ) (event : EventUse) (index : Term) (target : Target) → Statement
-    Join : (at stop : ℕ) (thread : Term) (limit : Option Term) → Statement
-    ControlThread : (at : ℕ) (control : Control) (thread : Term) (scheduler : SchedId) → Statement
-    Broadcast : (at : ℕ) (event : EventId) (value : Option Term) → Statement
-    Link : (at stop : ℕ) (scheduler : SchedId) → Statement
-    Unlink : (at stop : ℕ) → Statement
-    Run : (at stop called : ℕ) («module» : ModuleId) (arguments : List Term) → Statement
-    Halt : (at stop : ℕ) → Statement
-    If : (at : ℕ) (test : Term) (first second : Statements) → Statement
-    While : (at : ℕ) (test : Term) (body : Statements) → Statement
-    Repeat : (at : ℕ) (count : Term) (body : Statements) → Statement
+  pub data NamedStatement : Type 0 where
+    Assign : (target : Target) (value : NamedExpression) → NamedStatement
+    AssignCreate : (target : Target) (at : ℕ) (creation : NamedCreation) → NamedStatement
+    Create : (at : ℕ) (creation : NamedCreation) → NamedStatement
+    PrintText : (at : ℕ) (line : List ℕ) (value : Option NamedExpression) → NamedStatement
+    PrintValue : (at : ℕ) (value : NamedExpression) → NamedStatement
+    Cooperate : (at stop : ℕ) (instants : Option NamedExpression) → NamedStatement
+    Generate : (at : ℕ) (event : EventUse) (value : Option NamedExpression) → NamedStatement
+    Await : (at stop : ℕ) (event : EventUse) (limit : Option NamedExpression) → NamedStatement
+    Select : (at stop : ℕ) (events : List EventUse) (limit : Option NamedExpression) → NamedStatement
+    Get : (at stop : ℕ) (event : EventUse) (index : NamedExpression) (target : Target) → NamedStatement
+    Join : (at stop : ℕ) (thread : NamedExpression) (limit : Option NamedExpression) → NamedStatement
+    ControlThread : (at : ℕ) (control : Control) (thread : NamedExpression) (scheduler : SchedId) → NamedStatement
+    Broadcast : (at : ℕ) (event : EventUse) (value : Option NamedExpression) → NamedStatement
+    Link : (at stop : ℕ) (scheduler : SchedId) → NamedStatement
+    Unlink : (at stop : ℕ) → NamedStatement
+    Run : (at stop called : ℕ) («module» : ModuleId) (arguments : List NamedExpression) → NamedStatement
+    Halt : (at stop : ℕ) → NamedStatement
+    If : (at : ℕ) (test : NamedExpression) (first second : NamedStatements) → NamedStatement
+    While : (at : ℕ) (test : NamedExpression) (body : NamedStatements) → NamedStatement
+    Repeat : (at : ℕ) (count : NamedExpression) (body : NamedStatements) → NamedStatement
 
   -- statements in order
-  pub data Statements : Type 0 where
-    Done : Statements
-    Then : (first : Statement) (rest : Statements) → Statements
+  pub data NamedStatements : Type 0 where
+    Done : NamedStatements
+    Then : (first : NamedStatement) (rest : NamedStatements) → NamedStatements
 
--- a module: the byte where its name begins, and its body
+-- a module: the offset of its name, and its body
 pub record NamedModule : Type 0 where
   pub at : ℕ
-  pub body : Statements
+  pub body : NamedStatements
 
 -- what a program declares, its modules by their numbers, and its modules, starts and clients' creates in text order
 pub record NamedProgram : Type 0 where
   pub heads : Heads
   pub modules : List NamedModule
-  pub items : List Linking
+  pub links : List LinkItem

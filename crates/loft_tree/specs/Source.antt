@@ -11,6 +11,10 @@ pub record Ident : Type 0 where
   pub text : List ℕ
   pub at : ℕ
 
+-- an event that a statement or an order names
+pub record EventName : Type 0 where
+  pub name : Ident
+
 -- An expression. `at` is the byte where its token begins; brackets aren't kept.
 pub data Expression : Type 0 where
   Number : (at : ℕ) (value : ℤ) → Expression
@@ -34,13 +38,13 @@ mutual
     PrintText : (at : ℕ) (line : List ℕ) (value : Option Expression) → Statement
     PrintValue : (at : ℕ) (value : Expression) → Statement
     Cooperate : (at : ℕ) (instants : Option Expression) → Statement
-    Generate : (at : ℕ) (event : Ident) (value : Option Expression) → Statement
-    Await : (at : ℕ) (event : Ident) (limit : Option Expression) → Statement
-    Select : (at : ℕ) (events : List Ident) (limit : Option Expression) → Statement
-    Get : (at : ℕ) (event : Ident) (index : Expression) (target : Ident) → Statement
+    Generate : (at : ℕ) (event : EventName) (value : Option Expression) → Statement
+    Await : (at : ℕ) (event : EventName) (limit : Option Expression) → Statement
+    Select : (at : ℕ) (events : List EventName) (limit : Option Expression) → Statement
+    Get : (at : ℕ) (event : EventName) (index : Expression) (target : Ident) → Statement
     Join : (at : ℕ) (thread : Expression) (limit : Option Expression) → Statement
     ControlThread : (at : ℕ) (control : Control) (thread : Expression) (scheduler : Ident) → Statement
-    Broadcast : (at : ℕ) (event : Ident) (value : Option Expression) → Statement
+    Broadcast : (at : ℕ) (event : EventName) (value : Option Expression) → Statement
     Link : (at : ℕ) (scheduler : Ident) → Statement
     Unlink : (at : ℕ) → Statement
     Run : (at : ℕ) (called : Ident) (arguments : List Expression) → Statement
@@ -80,7 +84,7 @@ pub data Argument : Type 0 where
 pub data Order : Type 0 where
   CreateThere : (scheduler called : Ident) (arguments : List Argument) → Order
   ControlThere : (control : Control) (thread scheduler : Ident) → Order
-  BroadcastThere : (event : Ident) (value : Option ℤ) → Order
+  BroadcastThere : (event : EventName) (value : Option ℤ) → Order
 
 pub data Declaration : Type 0 where
   Scheduler : (name : Ident) → Declaration

@@ -1,9 +1,10 @@
 -- What a program in memory is as a plain value.
 use Rattle.std.specs.Prelude.{List, [], ◌∷◌, map, Option}
 use Rattle.std.specs.Option.{option_map}
-use Rattle.loft_tree.specs.Source.{Expression, Number, Variable, Special, Unary, Binary, Creation, Statement, Assign, AssignCreate, Create, PrintText, PrintValue, Cooperate, Generate, Await, Select, Get, Join, ControlThread, Broadcast, Link, Unlink, Run, Halt, If, While, Repeat, Statements, Done, Then, Named, PlaceName, InScheduler, Unlinked, ModuleHead, Argument, ANumber, AName, Order, CreateThere, ControlThere, BroadcastThere, Declaration, Scheduler, Event, Shared, Module, Start, Outside, Source}
+use Rattle.loft_tree.specs.Source.{EventName, Expression, Number, Variable, Special, Unary, Binary, Creation, Statement, Assign, AssignCreate, Create, PrintText, PrintValue, Cooperate, Generate, Await, Select, Get, Join, ControlThread, Broadcast, Link, Unlink, Run, Halt, If, While, Repeat, Statements, Done, Then, Named, PlaceName, InScheduler, Unlinked, ModuleHead, Argument, ANumber, AName, Order, CreateThere, ControlThere, BroadcastThere, Declaration, Scheduler, Event, Shared, Module, Start, Outside, Source}
 use Rattle.loft_tree.specs.declared.expression.Expr.{Expr}
 use Rattle.loft_tree.specs.declared.expression.Expr as expr
+use Rattle.loft_tree.specs.declared.statement.EventName.{EventName as EventNameInMemory}
 use Rattle.loft_tree.specs.declared.statement.Creation.{Creation as CreationInMemory}
 use Rattle.loft_tree.specs.declared.statement.Stmt.{Stmt}
 use Rattle.loft_tree.specs.declared.statement.Stmt.TheOpen as layer
@@ -15,8 +16,8 @@ use Rattle.loft_tree.specs.declared.program.PlaceName.TheVariants as place
 use Rattle.loft_tree.specs.declared.program.ModuleHead.{ModuleHead as ModuleHeadInMemory}
 use Rattle.loft_tree.specs.declared.program.Argument.{Argument as ArgumentInMemory}
 use Rattle.loft_tree.specs.declared.program.Argument.TheVariants as argument
-use Rattle.loft_tree.specs.declared.program.Order.{Order as OrderInMemory}
-use Rattle.loft_tree.specs.declared.program.Order.TheVariants as order
+use Rattle.loft_tree.specs.declared.program.OutsideOrder.{OutsideOrder as OrderInMemory}
+use Rattle.loft_tree.specs.declared.program.OutsideOrder.TheVariants as order
 use Rattle.loft_tree.specs.declared.program.Item.{Item}
 use Rattle.loft_tree.specs.declared.program.Item.TheVariants as item
 
@@ -29,6 +30,9 @@ expression_of (expr.Binary' operator p left q right) = Binary operator (expressi
 
 abbrev pub value_of : Option Expr → Option Expression
 value_of e = option_map expression_of e
+
+abbrev pub event_name_of : EventNameInMemory → EventName
+event_name_of e = record { name = e.name }
 
 abbrev pub creation_of : CreationInMemory → Creation
 creation_of c = record { scheduler = c.scheduler; called = c.called; arguments = map expression_of c.arguments.items }
@@ -46,13 +50,13 @@ statement_layer (layer.Create at creation) = Create at (creation_of creation)
 statement_layer (layer.PrintText at line value) = PrintText at line (value_of value)
 statement_layer (layer.PrintValue at value) = PrintValue at (expression_of value)
 statement_layer (layer.Cooperate at instants) = Cooperate at (value_of instants)
-statement_layer (layer.Generate at event value) = Generate at event (value_of value)
-statement_layer (layer.Await at event limit) = Await at event (value_of limit)
-statement_layer (layer.Select at events limit) = Select at events.items (value_of limit)
-statement_layer (layer.Get at event index target) = Get at event (expression_of index) target
+statement_layer (layer.Generate at event value) = Generate at (event_name_of event) (value_of value)
+statement_layer (layer.Await at event limit) = Await at (event_name_of event) (value_of limit)
+statement_layer (layer.Select at events limit) = Select at (map event_name_of events.items) (value_of limit)
+statement_layer (layer.Get at event index target) = Get at (event_name_of event) (expression_of index) target
 statement_layer (layer.Join at thread limit) = Join at (expression_of thread) (value_of limit)
 statement_layer (layer.Control at control thread scheduler) = ControlThread at control (expression_of thread) scheduler
-statement_layer (layer.Broadcast at event value) = Broadcast at event (value_of value)
+statement_layer (layer.Broadcast at event value) = Broadcast at (event_name_of event) (value_of value)
 statement_layer (layer.Link at scheduler) = Link at scheduler
 statement_layer (layer.Unlink at) = Unlink at
 statement_layer (layer.Run at called arguments) = Run at called (map expression_of arguments.items)
@@ -89,7 +93,7 @@ argument_of (argument.Name name) = AName name
 abbrev pub order_of : OrderInMemory → Order
 order_of (order.Create scheduler called arguments) = CreateThere scheduler called (map argument_of arguments.items)
 order_of (order.Control control thread scheduler) = ControlThere control thread scheduler
-order_of (order.Broadcast event value) = BroadcastThere event value
+order_of (order.Broadcast event value) = BroadcastThere (event_name_of event) value
 
 abbrev pub declaration_of : Item → Declaration
 declaration_of (item.Scheduler name) = Scheduler name

@@ -3,7 +3,7 @@
 use crate::ident::Ident;
 use crate::kinds::{BinaryOperator, Builtin, UnaryOperator};
 
-/// An expression. Each place is that of the token's first byte; brackets aren't kept.
+/// An expression. Each offset is that of the token's first byte; brackets aren't kept.
 #[derive(Drop)]
 pub enum Expr {
     /// A number, 0 to 9223372036854775807.
@@ -18,7 +18,7 @@ pub enum Expr {
         at: u32,
         builtin: Builtin,
     },
-    /// An operator before its operand; the place is the operator's.
+    /// An operator before its operand; the offset is the operator's.
     Unary {
         at: u32,
         operator: UnaryOperator,

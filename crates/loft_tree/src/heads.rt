@@ -1,10 +1,10 @@
 //! What a program declares outside module bodies, numbered in text order.
 
 ghost use Rattle.std.specs.Prelude.{◌≡◌, ◌↔◌, IsTrue};
-ghost use Rattle.loft_tree.specs.HeadsFit.{is_of, agree, TakesIn, HeadsFit};
+ghost use Rattle.loft_tree.specs.HeadsFit.{is_of, agree, kinds_of, HeadsFit};
 
 use crate::kinds::{Control, Kind};
-use loft_base::{EventId, ModuleId, SchedId, Sequence, ThreadId, Value};
+use loft_base::{EventId, ModuleId, SchedId, Sequence, SharedId, ThreadId, Value};
 
 /// A name: its bytes.
 pub type Name = Sequence<u8>;
@@ -12,11 +12,18 @@ pub type Name = Sequence<u8>;
 /// Names, in text order.
 pub type Names = Sequence<Name>;
 
-/// Kinds of parameters or local variables, in text order.
-pub type Kinds = Sequence<Kind>;
+/// Parameters or local variables of a module, in text order.
+pub type Slots = Sequence<SlotHead>;
 
 /// Values of parameters, in text order.
 pub type Arguments = Sequence<Value>;
+
+/// A declared parameter or local variable: its kind and its name.
+#[derive(Debug, Drop)]
+pub struct SlotHead {
+    pub kind: Kind,
+    pub name: Name,
+}
 
 /// Where a thread is linked.
 #[derive(Clone, Copy, Debug, PartialEq, Eq)]
@@ -42,13 +49,13 @@ pub struct SharedHead {
     pub value: i64,
 }
 
-/// A declared module: its name, the kinds of its parameters and of its local variables, and the places where its
-/// threads begin and end.
+/// A declared module: its name, its parameters and local variables, and the places where its threads begin and end. The
+/// slots of its frames are numbered from 0, the parameters first.
 #[derive(Debug, Drop)]
 pub struct Signature {
     pub name: Name,
-    pub parameters: Kinds,
-    pub locals: Kinds,
+    pub parameters: Slots,
+    pub locals: Slots,
     pub begin: Place,
     pub end: Place,
 }
@@ -92,7 +99,21 @@ pub struct Client {
     pub orders: Sequence<ClientOrder>,
 }
 
-/// All that a program declares outside module bodies, each kind numbered from 0 in text order.
+/// A declaration of a program, by its sort and its number among those of its sort.
+#[derive(Clone, Copy, Debug, PartialEq, Eq)]
+pub enum HeadItem {
+    Scheduler(SchedId),
+    Event(EventId),
+    Shared(SharedId),
+    Module(ModuleId),
+    /// A start, by its number from 0.
+    Start(u32),
+    /// An outside client, by its number from 0.
+    Client(u32),
+}
+
+/// All that a program declares outside module bodies, each sort numbered from 0 in text order, and the order in which
+/// the declarations stand in the text.
 #[derive(Debug, Drop)]
 pub struct Heads {
     pub schedulers: Names,
@@ -101,6 +122,7 @@ pub struct Heads {
     pub modules: Sequence<Signature>,
     pub starts: Sequence<Start>,
     pub clients: Sequence<Client>,
+    pub items: Sequence<HeadItem>,
 }
 
 /// Whether the value is of this kind.
@@ -116,17 +138,17 @@ fn is_of(value: &Value, kind: Kind) -> bool
 }
 
 /// Whether there are as many values as parameters, each of its parameter's kind.
-fn agree(kinds: &[Kind], values: &[Value]) -> bool
-    ensures { result ≡ agree kinds.now values.now }
+fn agree(parameters: &[SlotHead], values: &[Value]) -> bool
+    ensures { result ≡ agree (kinds_of parameters.now) values.now }
 {
-    match kinds {
+    match parameters {
         [] => match values {
             [] => true,
             [_, ..] => false,
         },
-        [kind, kinds @ ..] => match values {
+        [parameter, parameters @ ..] => match values {
             [] => false,
-            [value, values @ ..] => is_of(value, *kind) && agree(kinds, values),
+            [value, values @ ..] => is_of(value, parameter.kind) && agree(parameters, values),
         },
     }
 }

@@ -29,7 +29,7 @@ impl Ident {
         Ident { text, at }
     }
 
-    /// The same name at the same place once more; `AllocError` where there is no memory for it.
+    /// A copy of the name, with its offset; `AllocError` where it is out of memory.
     pub fn copy(&self, alloc: Global) -> Result<Ident, AllocError>
         ensures { IfOk result (λ copy. copy ≡ self.now) }
     {

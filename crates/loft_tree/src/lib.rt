@@ -8,20 +8,19 @@ mod kinds;
 pub mod limits;
 mod named;
 mod program;
-mod small;
-mod small_program;
 mod statement;
 mod stopping;
 
 pub use expression::Expr;
 pub use heads::{
-    Arguments, Client, ClientOrder, EventHead, Heads, Kinds, Name, Names, Place, SharedHead,
-    Signature, Start,
+    Arguments, Client, ClientOrder, EventHead, HeadItem, Heads, Name, Names, Place, SharedHead,
+    Signature, SlotHead, Slots, Start,
 };
 pub use ident::Ident;
 pub use kinds::{BinaryOperator, Builtin, Control, Kind, UnaryOperator};
-pub use named::{EventUse, Linking, Making, Module, Named, OuterMaking, Statement, Target, Term};
-pub use program::{Argument, Item, ModuleHead, Order, PlaceName, Program, Variable};
-pub use small_program::{SmallModule, SmallProgram, SmallStatement};
-pub use statement::{Creation, Stmt, Text};
+pub use named::{
+    EventUse, LinkItem, Module, Named, NamedCreation, NamedExpr, NamedProgram, NamedStmt, Target,
+};
+pub use program::{Argument, Item, ModuleHead, OutsideOrder, PlaceName, Program, Variable};
+pub use statement::{Creation, EventName, Stmt, Text};
 pub use stopping::stops;

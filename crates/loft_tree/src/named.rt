@@ -1,17 +1,24 @@
 //! A program with numbers in place of names.
 
-use crate::heads::{Heads, Name};
+ghost use Rattle.std.specs.Prelude.{◌≤◌};
+ghost use Rattle.loft_tree.specs.declared.limits.TheConstants.{MAX_STATEMENTS};
+ghost use Rattle.loft_tree.specs.NamedView.{statements_of};
+ghost use Rattle.loft_tree.specs.Stops.{size};
+
+use crate::heads::Heads;
 use crate::kinds::{BinaryOperator, Builtin, Control, UnaryOperator};
+use crate::statement::Text;
 use loft_base::{EventId, ModuleId, SchedId, SharedId};
+use std::marker::Model;
 
 /// An expression. Parameters and local variables are numbered from 0, the parameters first.
 #[derive(Drop)]
-pub enum Term {
+pub enum NamedExpr {
     /// A number.
     Number(i64),
     /// A parameter or local variable of the module.
     Slot(u32),
-    /// A shared variable, and the place of its name.
+    /// A shared variable, and the offset of its name.
     Shared {
         at: u32,
         shared: SharedId,
@@ -21,122 +28,122 @@ pub enum Term {
     /// An operator before its operand.
     Unary {
         operator: UnaryOperator,
-        operand: Box<Term>,
+        operand: Box<NamedExpr>,
     },
     /// An operator between its operands.
     Binary {
         operator: BinaryOperator,
-        left: Box<Term>,
-        right: Box<Term>,
+        left: Box<NamedExpr>,
+        right: Box<NamedExpr>,
     },
 }
 
-/// A variable that is set: a parameter or local variable by its number, or a shared one with the place of its name.
+/// A variable that is set: a parameter or local variable by its number, or a shared one with the offset of its name.
 #[derive(Clone, Copy)]
 pub enum Target {
     Slot(u32),
     Shared { at: u32, shared: SharedId },
 }
 
-/// An event that a statement names, and the place of the name.
+/// An event that a statement names, and the offset of the name.
 #[derive(Clone, Copy)]
 pub struct EventUse {
     pub at: u32,
     pub event: EventId,
 }
 
-/// A thread to be made in the scheduler, whose name stands at the place `at`.
+/// A thread to be made in the scheduler, whose name stands at the offset `at`.
 #[derive(Drop)]
-pub struct Making {
+pub struct NamedCreation {
     pub at: u32,
     pub scheduler: SchedId,
     pub module: ModuleId,
-    pub arguments: Vec<Term>,
+    pub arguments: Vec<NamedExpr>,
 }
 
-/// A statement; `at` is the place of its word. The stops of a module are numbered from 1 in text order.
+/// A statement; `at` is the offset of its word. The stops of a module are numbered from 1 in text order.
 #[derive(Drop)]
-pub enum Statement {
+pub enum NamedStmt {
     /// `x = E;`
     Assign {
         target: Target,
-        value: Term,
+        value: NamedExpr,
     },
     /// `t = create S.m(E, F);`
     AssignCreate {
         target: Target,
         at: u32,
-        making: Making,
+        creation: NamedCreation,
     },
     /// `create S.m(E, F);`
     Create {
         at: u32,
-        making: Making,
+        creation: NamedCreation,
     },
     /// `print "..";` or `print "..", E;`
     PrintText {
         at: u32,
-        text: Name,
-        value: Option<Term>,
+        text: Text,
+        value: Option<NamedExpr>,
     },
     /// `print E;`
     PrintValue {
         at: u32,
-        value: Term,
+        value: NamedExpr,
     },
     /// `cooperate;` or `cooperate E;`
     Cooperate {
         at: u32,
         stop: u32,
-        instants: Option<Term>,
+        instants: Option<NamedExpr>,
     },
     /// `generate e;` or `generate e, E;`
     Generate {
         at: u32,
         event: EventUse,
-        value: Option<Term>,
+        value: Option<NamedExpr>,
     },
     /// `await e;` or `await e for E;`
     Await {
         at: u32,
         stop: u32,
         event: EventUse,
-        limit: Option<Term>,
+        limit: Option<NamedExpr>,
     },
     /// `select e, g;` or `select e, g for E;`
     Select {
         at: u32,
         stop: u32,
         events: Vec<EventUse>,
-        limit: Option<Term>,
+        limit: Option<NamedExpr>,
     },
     /// `get e at E into x;`
     Get {
         at: u32,
         stop: u32,
         event: EventUse,
-        index: Term,
+        index: NamedExpr,
         target: Target,
     },
     /// `join E;` or `join E for F;`
     Join {
         at: u32,
         stop: u32,
-        thread: Term,
-        limit: Option<Term>,
+        thread: NamedExpr,
+        limit: Option<NamedExpr>,
     },
     /// `stop E in S;`, `suspend E in S;` or `resume E in S;`
     Control {
         at: u32,
         control: Control,
-        thread: Term,
+        thread: NamedExpr,
         scheduler: SchedId,
     },
     /// `broadcast e;` or `broadcast e, E;`
     Broadcast {
         at: u32,
-        event: EventId,
-        value: Option<Term>,
+        event: EventUse,
+        value: Option<NamedExpr>,
     },
     /// `link S;`
     Link {
@@ -149,13 +156,13 @@ pub enum Statement {
         at: u32,
         stop: u32,
     },
-    /// `run m(E, F);`, where the module's name stands at the place `called`.
+    /// `run m(E, F);`, where the module's name stands at the offset `called`.
     Run {
         at: u32,
         stop: u32,
         called: u32,
         module: ModuleId,
-        arguments: Vec<Term>,
+        arguments: Vec<NamedExpr>,
     },
     /// `halt;`
     Halt {
@@ -165,53 +172,97 @@ pub enum Statement {
     /// `if (E) then X else Y end`
     If {
         at: u32,
-        test: Term,
-        first: Vec<Statement>,
-        second: Vec<Statement>,
+        test: NamedExpr,
+        first: Vec<NamedStmt>,
+        second: Vec<NamedStmt>,
     },
     /// `while (E) do X end`
     While {
         at: u32,
-        test: Term,
-        body: Vec<Statement>,
+        test: NamedExpr,
+        body: Vec<NamedStmt>,
     },
     /// `repeat (E) do X end`
     Repeat {
         at: u32,
-        count: Term,
-        body: Vec<Statement>,
+        count: NamedExpr,
+        body: Vec<NamedStmt>,
     },
 }
 
-/// A module: the place of its name, and its body. What else it declares stands in the heads, at its number.
+/// A module: the offset of its name, and its body of at most 4,096 statements. What else it declares stands in the heads,
+/// at its number.
 #[derive(Drop)]
 pub struct Module {
     pub at: u32,
-    pub body: Vec<Statement>,
+    pub body: Vec<NamedStmt>,
+    ghost few: { size (statements_of body.items) ≤ MAX_STATEMENTS },
 }
 
-/// A thread that is made outside module bodies: the place of its scheduler's name, its scheduler and its module.
-#[derive(Clone, Copy)]
-pub struct OuterMaking {
-    pub at: u32,
-    pub scheduler: SchedId,
-    pub module: ModuleId,
-}
-
-/// A declaration that has to do with links.
-#[derive(Clone, Copy)]
-pub enum Linking {
+/// A declaration that has to do with links, by its number. `at` is the offset of its scheduler's name.
+#[derive(Clone, Copy, Debug, PartialEq, Eq)]
+pub enum LinkItem {
     /// The module with this number.
     Module(ModuleId),
-    /// A start, or the create of a client.
-    Making(OuterMaking),
+    /// The start with this number.
+    Start { at: u32, start: u32 },
+    /// The order with this number of the client with this number, which creates a thread.
+    Create { at: u32, client: u32, order: u32 },
 }
 
 /// A program with numbers in place of names: what it declares, its modules by their numbers, and its modules, starts and
 /// clients' creates in text order.
 #[derive(Drop)]
-pub struct Named {
+pub struct NamedProgram {
     pub heads: Heads,
     pub modules: Vec<Module>,
-    pub items: Vec<Linking>,
+    pub links: Vec<LinkItem>,
+}
+
+/// A program with numbers in place of names, whose numbers, kinds and sizes are those of the language
+/// (docs/LANGUAGE.md, "Numbers of names"): each number is declared, each expression has its kind, the stops of each module
+/// are numbered 1, 2, .. in text order, and nothing is past its limit.
+#[derive(Drop)]
+pub struct Named {
+    program: NamedProgram,
+}
+
+impl Model for Named {
+    ghost use Rattle.loft_tree.specs.declared.named.NamedProgram.{NamedProgram};
+
+    ghost Value = { NamedProgram };
+
+    ghost use Rattle.loft_tree.specs.contracts.named.NamedStmt as statement;
+    ghost use Rattle.std.specs.Coded.{codes};
+
+    ghost coded = { Prim.hlevel (codes, statement.the_row.coded) };
+
+    ghost view = { λ n. n.program };
+
+    ghost use Rattle.loft_tree.specs.ProgramView.{program_of};
+    ghost use Rattle.loft_tree.specs.NamedFits.{NamedFits};
+
+    ghost invariant = { λ n. NamedFits (program_of n.program) };
+}
+
+impl Named {
+    ghost use Rattle.std.specs.Prelude.{◌≡◌};
+    ghost use Rattle.loft_tree.specs.ProgramView.{program_of};
+    ghost use Rattle.loft_tree.specs.NamedFits.{NamedFits};
+
+    /// The program, where its numbers, kinds and sizes are those of the language.
+    pub fn new(program: NamedProgram) -> Named
+        requires { NamedFits (program_of program) }
+        ensures { result ≡ program }
+    {
+        Named { program }
+    }
+
+    /// What the program consists of.
+    pub fn program(&self) -> &NamedProgram
+        ensures program { result.now ≡ self.now }
+        ensures fits { NamedFits (program_of self.now) }
+    {
+        &self.program
+    }
 }

@@ -1,14 +1,12 @@
 //! Programs and what they declare.
 
-ghost use Rattle.std.specs.Prelude.{◌≡◌, IsTrue, ◌↔◌};
+ghost use Rattle.std.specs.Prelude.{◌≡◌};
 ghost use Rattle.loft_tree.specs.View.{source_of};
 ghost use Rattle.loft_tree.specs.Fits.{SourceFits};
-ghost use Rattle.loft_tree.specs.Small.{IsSmall};
 
 use crate::ident::Ident;
 use crate::kinds::{Control, Kind};
-use crate::small;
-use crate::statement::Stmt;
+use crate::statement::{EventName, Stmt};
 use std::marker::Model;
 
 /// A parameter or a local variable of a module.
@@ -45,7 +43,7 @@ pub struct ModuleHead {
 /// An argument of a thread that isn't made by a module.
 #[derive(Drop)]
 pub enum Argument {
-    /// A number, with a sign or without; the place is that of its first byte.
+    /// A number, with a sign or without; its offset is that of its first byte.
     Number { at: u32, value: i64 },
     /// The thread that a start names so.
     Name(Ident),
@@ -53,7 +51,7 @@ pub enum Argument {
 
 /// What an outside client orders.
 #[derive(Drop)]
-pub enum Order {
+pub enum OutsideOrder {
     /// `create SCHEDULER.MODULE(ARGUMENTS);`
     Create {
         scheduler: Ident,
@@ -68,7 +66,7 @@ pub enum Order {
     },
     /// `broadcast EVENT;` or `broadcast EVENT, VALUE;`
     Broadcast {
-        event: Ident,
+        event: EventName,
         value: Option<i64>,
     },
 }
@@ -105,7 +103,7 @@ pub enum Item {
     /// `outside NAME { ORDERS }`
     Outside {
         name: Ident,
-        orders: Vec<Order>,
+        orders: Vec<OutsideOrder>,
     },
 }
 
@@ -151,13 +149,5 @@ impl Program {
         ensures fits { SourceFits (source_of self.now) }
     {
         self.items.as_slice()
-    }
-
-    /// Whether the program is small (docs/LANGUAGE.md, "Small programs"): one scheduler and else only modules and
-    /// starts there, names that differ, at most 16 modules, 16 starts and 256 simple statements in a module.
-    pub fn is_small(&self) -> bool
-        ensures { IsTrue result ↔ IsSmall (source_of self.now) }
-    {
-        small::is_small(self.items.as_slice())
     }
 }

@@ -48,7 +48,13 @@ pub struct Creation {
     pub arguments: Vec<Expr>,
 }
 
-/// A statement of a module. `at` is the place of its first byte: of its word, where it begins with one.
+/// An event that a statement or an order of a client names.
+#[derive(Drop)]
+pub struct EventName {
+    pub name: Ident,
+}
+
+/// A statement of a module. `at` is the offset of its first byte: of its word, where it begins with one.
 #[derive(Drop)]
 pub enum Stmt {
     /// `x = E;`
@@ -56,7 +62,7 @@ pub enum Stmt {
         target: Ident,
         value: Expr,
     },
-    /// `t = create S.m(E, F);` Its `at` is the place of `create`.
+    /// `t = create S.m(E, F);` Its `at` is the offset of `create`.
     AssignCreate {
         target: Ident,
         at: u32,
@@ -86,25 +92,25 @@ pub enum Stmt {
     /// `generate e;` or `generate e, E;`
     Generate {
         at: u32,
-        event: Ident,
+        event: EventName,
         value: Option<Expr>,
     },
     /// `await e;` or `await e for E;`
     Await {
         at: u32,
-        event: Ident,
+        event: EventName,
         limit: Option<Expr>,
     },
     /// `select e, g;` or `select e, g for E;`, with 2 to 8 events.
     Select {
         at: u32,
-        events: Vec<Ident>,
+        events: Vec<EventName>,
         limit: Option<Expr>,
     },
     /// `get e at E into x;`
     Get {
         at: u32,
-        event: Ident,
+        event: EventName,
         index: Expr,
         target: Ident,
     },
@@ -124,7 +130,7 @@ pub enum Stmt {
     /// `broadcast e;` or `broadcast e, E;`
     Broadcast {
         at: u32,
-        event: Ident,
+        event: EventName,
         value: Option<Expr>,
     },
     /// `link S;`

@@ -1,8 +1,8 @@
 use Rattle.std.proofs.Common.{◌∙◌, refl, arith, ap}
 use Rattle.loft_lex.specs.Front.{front_of}
 use Rattle.loft_lex.proofs.Steps.{at_start, at_gap, at_piece, at_fault, at_end}
-use Rattle.loft_lex.proofs.Laws.{first_fault, all_fit, all_rise}
-use Rattle.loft_lex.proofs.Readings.{found_is_cut}
+use Rattle.loft_lex.proofs.Spans.{first_fault, all_fit, all_rise}
+use Rattle.loft_lex.proofs.Readable.{all_readable}
 use Rattle.loft_lex.proofs.lex.Goals as goal
 
 pub loop-at-init : goal.loop-at-init
@@ -34,11 +34,5 @@ returns-clause-fits c = all_fit c.args.text.now c.new.result (returns-clause-fou
 pub returns-clause-rising : goal.returns-clause-rising
 returns-clause-rising c = all_rise c.args.text.now c.new.result (returns-clause-found c)
 
-pub returns-in_err-push-in-Piece-clause-cut : goal.returns-in_err-push-in-Piece-clause-cut
-returns-in_err-push-in-Piece-clause-cut c = found_is_cut c.args.text.now
-
-pub returns-in-Fault-clause-cut : goal.returns-in-Fault-clause-cut
-returns-in-Fault-clause-cut c = found_is_cut c.args.text.now
-
-pub returns-clause-cut : goal.returns-clause-cut
-returns-clause-cut c = found_is_cut c.args.text.now
+pub returns-clause-readable : goal.returns-clause-readable
+returns-clause-readable c = all_readable c.args.text.now c.new.result (returns-clause-fits c)

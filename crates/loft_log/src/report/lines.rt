@@ -4,19 +4,19 @@ ghost use Rattle.std.specs.Prelude.{◌≡◌, ◌++◌, ℕ, List, IfOk, OnOk, 
 ghost use Rattle.std.specs.Fmt.{decimal};
 ghost use Rattle.loft_tree.specs.declared.heads.Heads.{Heads};
 ghost use Rattle.loft_sense.specs.Text.{space, scheduler_name, event_name, sent_value, id_text, order_text};
-ghost use Rattle.loft_sense.specs.Report.{end_line, mark_word, to_text, act_line, at_line, standing_line};
+ghost use Rattle.loft_sense.specs.Lines.{end_line, mark_word, to_text, act_line, at_line};
+ghost use Rattle.loft_sense.specs.Report.{standing_line};
 
 use super::line::LineBuffer;
-use super::text::{
-    push_end, push_event_name, push_id, push_order, push_scheduler_name, push_sent_value,
-    push_thread,
-};
+use super::order_text::{push_order, push_sent_value};
+use super::text::{push_end, push_event_name, push_id, push_scheduler_name};
+use super::thread_text::push_thread;
 use loft_base::{EventId, NoMemory, SchedId, ThreadId};
 use loft_sense::{Act, End, Mark, Order, Sent, Standing, Thread, To};
 use loft_tree::Heads;
 use std::alloc::Global;
 
-/// What a report tells in a line of its own.
+/// What has a line of its own in a report.
 pub trait InOneLine {
     /// Its line, where a program declares these heads.
     ghost line: { Heads → Self → List ℕ };
@@ -209,7 +209,7 @@ impl InOneLine for Act {
     }
 }
 
-/// A thread that ran, as it stands behind its instant.
+/// A thread that ran, as it stands after its instant.
 impl InOneLine for Thread {
     ghost line = { at_line };
 

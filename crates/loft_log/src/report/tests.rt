@@ -2,10 +2,9 @@
 
 use super::write_report;
 use loft_base::{EventId, Maker, MemSink, ModuleId, NoMemory, SchedId, Sequence, ThreadId, Value};
-use loft_plain::{Finished, Turn};
 use loft_sense::{
-    Act, At, End, Ended, FinalState, Frame, InstantNote, Limits, Mark, Order, RunOptions, Sent,
-    Standing, Thread, To, Wait,
+    Act, At, End, Ended, FinalState, Finished, Frame, InstantNote, Limits, Mark, Order, RunOptions,
+    SchedulerTurn, Sent, Standing, Thread, To, Wait,
 };
 use loft_tree::{Client, EventHead, Heads, Name, Place, Signature};
 use std::alloc::Global;
@@ -72,6 +71,7 @@ fn heads(alloc: Global) -> Result<Heads, NoMemory> {
         modules: modules(alloc)?,
         starts: Sequence::new(alloc),
         clients: list(alloc, [client(alloc, "c")?])?,
+        items: Sequence::new(alloc),
     })
 }
 
@@ -159,7 +159,7 @@ fn only_standing(alloc: Global) -> Result<Sequence<Thread>, NoMemory> {
     list(alloc, [thread(alloc, start(0), Wait::Coop(0), frame)?])
 }
 
-fn first_turn(alloc: Global) -> Result<Turn, NoMemory> {
+fn first_turn(alloc: Global) -> Result<SchedulerTurn, NoMemory> {
     let batch = only_create(alloc)?;
     let marks = list(alloc, [Mark::Done])?;
     let acts = list(alloc, [print(alloc, "one")?])?;
@@ -172,10 +172,10 @@ fn first_turn(alloc: Global) -> Result<Turn, NoMemory> {
         stands: only_standing(alloc)?,
         changed: Sequence::new(alloc),
     };
-    Ok(Turn { batch, note })
+    Ok(SchedulerTurn { batch, note })
 }
 
-fn second_turn(alloc: Global) -> Result<Turn, NoMemory> {
+fn second_turn(alloc: Global) -> Result<SchedulerTurn, NoMemory> {
     let end = Act::End {
         thread: start(0),
         end: End::Done,
@@ -187,7 +187,7 @@ fn second_turn(alloc: Global) -> Result<Turn, NoMemory> {
             end: End::Done,
         },
     };
-    Ok(Turn {
+    Ok(SchedulerTurn {
         batch: Sequence::new(alloc),
         note: InstantNote {
             number: 2,
@@ -300,7 +300,7 @@ fn stopped(alloc: Global) -> Result<Sequence<Ended>, NoMemory> {
         alloc,
         [
             Ended {
-                place: 1,
+                index: 1,
                 thread: ThreadId {
                     maker: Maker::Sched(0),
                     seq: 4096,
@@ -308,7 +308,7 @@ fn stopped(alloc: Global) -> Result<Sequence<Ended>, NoMemory> {
                 end: End::Full,
             },
             Ended {
-                place: 3,
+                index: 3,
                 thread: start(0),
                 end: End::Stopped,
             },
@@ -409,8 +409,8 @@ fn stands(alloc: Global) -> Result<Sequence<Thread>, NoMemory> {
     Ok(threads)
 }
 
-fn whole_turn(alloc: Global) -> Result<Turn, NoMemory> {
-    Ok(Turn {
+fn whole_turn(alloc: Global) -> Result<SchedulerTurn, NoMemory> {
+    Ok(SchedulerTurn {
         batch: orders(alloc)?,
         note: InstantNote {
             number: 1,

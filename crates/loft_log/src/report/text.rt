@@ -1,17 +1,16 @@
-//! The texts of values: each function appends one to a line.
+//! The texts of names, ids and ends: each function appends one to a line.
 
-ghost use Rattle.std.specs.Prelude.{◌≡◌, ◌++◌, ℕ, List, OnOk, codes};
+ghost use Rattle.std.specs.Prelude.{◌≡◌, ◌++◌, ℕ, List, OnOk};
 ghost use Rattle.std.specs.Fmt.{signed_decimal};
 ghost use Rattle.loft_tree.specs.declared.heads.Heads.{Heads};
-ghost use Rattle.std.specs.List.{flat_map};
-ghost use Rattle.loft_sense.specs.Text.{client_name, space, colon, separated, name_at, scheduler_name, module_name, event_name, maker_name, id_text, value_text, at_text, end_text, left_text, events_word, wait_text, frame_text, thread_text, sent_value, order_text};
+ghost use Rattle.loft_sense.specs.Text.{client_name, separated_by, separated, name_at, scheduler_name, module_name, event_name, maker_name, id_text, value_text, at_text, end_text};
 
 use super::line::LineBuffer;
 use loft_base::{EventId, Maker, ModuleId, NoMemory, SchedId, ThreadId, Value};
-use loft_sense::{At, End, Frame, Order, Thread, Wait};
+use loft_sense::{At, End};
 use loft_tree::{Heads, Name};
 
-/// What stands between commas in a report.
+/// What can stand in a list of a report.
 pub trait Item {
     /// Its text, where a program declares these heads.
     ghost text: { Heads → Self → List ℕ };
@@ -48,23 +47,36 @@ impl Item for Value {
     }
 }
 
-/// The texts of items, with a comma between each two.
-fn push_separated<T: Item>(
+/// The texts of items, with this text between each two.
+pub fn push_separated_by<T: Item>(
     line: &mut LineBuffer,
     heads: &Heads,
+    between: &str,
     items: &[T],
 ) -> Result<(), NoMemory>
-    ensures { OnOk result (line.new ≡ line.old ++ separated (T.text heads.now) items.now) }
+    ensures { OnOk result (line.new ≡ line.old
+        ++ separated_by between.now (T.text heads.now) items.now) }
 {
     let [first, rest @ ..] = items else {
         return Ok(());
     };
     first.push_to(line, heads)?;
     for item in rest {
-        line.text(",")?;
+        line.text(between)?;
         item.push_to(line, heads)?;
     }
     Ok(())
+}
+
+/// The texts of items, with a comma between each two.
+pub fn push_separated<T: Item>(
+    line: &mut LineBuffer,
+    heads: &Heads,
+    items: &[T],
+) -> Result<(), NoMemory>
+    ensures { OnOk result (line.new ≡ line.old ++ separated (T.text heads.now) items.now) }
+{
+    push_separated_by(line, heads, ",", items)
 }
 
 /// The name with this number, and nothing where there is none.
@@ -138,7 +150,7 @@ pub fn push_id(line: &mut LineBuffer, heads: &Heads, thread: ThreadId) -> Result
     line.number(thread.seq)
 }
 
-/// A place in a program.
+/// A point in a program.
 fn push_at(line: &mut LineBuffer, heads: &Heads, at: At) -> Result<(), NoMemory>
     ensures { OnOk result (line.new ≡ line.old ++ at_text heads.now at) }
 {
@@ -162,244 +174,10 @@ pub fn push_end(line: &mut LineBuffer, heads: &Heads, end: End) -> Result<(), No
     }
 }
 
-/// A word, and a place in a program.
+/// A word, and a point in a program.
 fn push_reason(line: &mut LineBuffer, heads: &Heads, word: &str, at: At) -> Result<(), NoMemory>
     ensures { OnOk result (line.new ≡ line.old ++ (word.now ++ at_text heads.now at)) }
 {
     line.text(word)?;
     push_at(line, heads, at)
-}
-
-/// The instants that are left of a wait, or a sign that there is no number.
-fn push_left(line: &mut LineBuffer, left: Option<i64>) -> Result<(), NoMemory>
-    ensures { OnOk result (line.new ≡ line.old ++ left_text left) }
-{
-    match left {
-        Some(number) => line.signed(number),
-        None => line.text("-"),
-    }
-}
-
-/// The word of a wait for one event, or for several.
-fn push_events_word(line: &mut LineBuffer, events: &[EventId]) -> Result<(), NoMemory>
-    ensures { OnOk result (line.new ≡ line.old ++ events_word events.now) }
-{
-    match events {
-        [_] => line.text("await:"),
-        _ => line.text("select:"),
-    }
-}
-
-/// A wait for events.
-fn push_events(
-    line: &mut LineBuffer,
-    heads: &Heads,
-    events: &[EventId],
-    left: Option<i64>,
-) -> Result<(), NoMemory>
-    ensures { OnOk result (line.new ≡ line.old
-        ++ (events_word events.now ++ (left_text left
-        ++ (colon ++ separated (event_name heads.now) events.now)))) }
-{
-    push_events_word(line, events)?;
-    push_left(line, left)?;
-    line.text(":")?;
-    push_separated(line, heads, events)
-}
-
-/// A wait for the end of a thread.
-fn push_join(
-    line: &mut LineBuffer,
-    heads: &Heads,
-    thread: ThreadId,
-    left: Option<i64>,
-) -> Result<(), NoMemory>
-    ensures { OnOk result (line.new ≡ line.old
-        ++ (codes "join:" ++ (left_text left ++ (colon ++ id_text heads.now thread)))) }
-{
-    line.text("join:")?;
-    push_left(line, left)?;
-    line.text(":")?;
-    push_id(line, heads, thread)
-}
-
-/// What a thread waits for.
-fn push_wait(line: &mut LineBuffer, heads: &Heads, wait: &Wait) -> Result<(), NoMemory>
-    ensures { OnOk result (line.new ≡ line.old ++ wait_text heads.now wait.now) }
-{
-    match wait {
-        Wait::New => line.text("new"),
-        Wait::Coop(left) => {
-            line.text("coop:")?;
-            line.signed(*left)
-        }
-        Wait::Events { events, left } => push_events(line, heads, events.as_slice(), *left),
-        Wait::Index { .. } | Wait::Next => line.text("next"),
-        Wait::Join { thread, left } => push_join(line, heads, *thread, *left),
-        Wait::Halt => line.text("halt"),
-    }
-}
-
-/// A frame.
-fn push_frame(line: &mut LineBuffer, heads: &Heads, frame: &Frame) -> Result<(), NoMemory>
-    ensures { OnOk result (line.new ≡ line.old ++ frame_text heads.now frame.now) }
-{
-    push_module_name(line, heads, frame.module)?;
-    line.text(":")?;
-    line.number(u64::from(frame.stop))?;
-    push_kept(
-        line,
-        heads,
-        frame.counts.as_slice(),
-        frame.values.as_slice(),
-    )
-}
-
-/// What a frame keeps: its counts and its values.
-fn push_kept(
-    line: &mut LineBuffer,
-    heads: &Heads,
-    counts: &[i64],
-    values: &[Value],
-) -> Result<(), NoMemory>
-    ensures { OnOk result (line.new ≡ line.old
-        ++ (codes "[" ++ (separated signed_decimal counts.now
-        ++ (codes "](" ++ (separated (value_text heads.now) values.now ++ codes ")"))))) }
-{
-    line.text("[")?;
-    push_separated(line, heads, counts)?;
-    line.text("](")?;
-    push_separated(line, heads, values)?;
-    line.text(")")
-}
-
-/// Frames, each behind a blank.
-fn push_frames(line: &mut LineBuffer, heads: &Heads, frames: &[Frame]) -> Result<(), NoMemory>
-    ensures { OnOk result (line.new ≡ line.old
-        ++ flat_map (λ frame. space ++ frame_text heads.now frame) frames.now) }
-{
-    for frame in frames {
-        line.text(" ")?;
-        push_frame(line, heads, frame)?;
-    }
-    Ok(())
-}
-
-/// A thread that waits.
-pub fn push_thread(line: &mut LineBuffer, heads: &Heads, thread: &Thread) -> Result<(), NoMemory>
-    ensures { OnOk result (line.new ≡ line.old ++ thread_text heads.now thread.now) }
-{
-    push_id(line, heads, thread.id)?;
-    push_code_and_mask(line, thread.code, thread.mask)?;
-    line.text(" ")?;
-    push_wait(line, heads, &thread.wait)?;
-    push_frames(line, heads, thread.frames.as_slice())
-}
-
-/// The last code and mask of a thread, each behind a blank.
-fn push_code_and_mask(line: &mut LineBuffer, code: i64, mask: i64) -> Result<(), NoMemory>
-    ensures { OnOk result (line.new ≡ line.old
-        ++ (space ++ (signed_decimal code ++ (space ++ signed_decimal mask)))) }
-{
-    line.text(" ")?;
-    line.signed(code)?;
-    line.text(" ")?;
-    line.signed(mask)
-}
-
-/// A value behind the name of an event, where there is one.
-pub fn push_sent_value(line: &mut LineBuffer, value: Option<i64>) -> Result<(), NoMemory>
-    ensures { OnOk result (line.new ≡ line.old ++ sent_value value) }
-{
-    if let Some(number) = value {
-        line.text(" ")?;
-        line.signed(number)?;
-    }
-    Ok(())
-}
-
-/// A create.
-fn push_create(
-    line: &mut LineBuffer,
-    heads: &Heads,
-    thread: ThreadId,
-    module: ModuleId,
-    args: &[Value],
-) -> Result<(), NoMemory>
-    ensures { OnOk result (line.new ≡ line.old
-        ++ (codes "create " ++ (id_text heads.now thread
-        ++ (space ++ (module_name heads.now «module» ++ (codes "(" ++ (separated (value_text heads.now) args.now ++ codes ")"))))))) }
-{
-    line.text("create ")?;
-    push_id(line, heads, thread)?;
-    line.text(" ")?;
-    push_module_name(line, heads, module)?;
-    line.text("(")?;
-    push_separated(line, heads, args)?;
-    line.text(")")
-}
-
-/// A word, and the name of a thread.
-fn push_word_and_id(
-    line: &mut LineBuffer,
-    heads: &Heads,
-    word: &str,
-    thread: ThreadId,
-) -> Result<(), NoMemory>
-    ensures { OnOk result (line.new ≡ line.old ++ (word.now ++ id_text heads.now thread)) }
-{
-    line.text(word)?;
-    push_id(line, heads, thread)
-}
-
-/// An order.
-pub fn push_order(line: &mut LineBuffer, heads: &Heads, order: &Order) -> Result<(), NoMemory>
-    ensures { OnOk result (line.new ≡ line.old ++ order_text heads.now order.now) }
-{
-    match order {
-        Order::Create {
-            thread,
-            module,
-            args,
-        } => push_create(line, heads, *thread, *module, args.as_slice()),
-        Order::Arrive(thread) => {
-            line.text("arrive ")?;
-            push_thread(line, heads, thread)
-        }
-        Order::Stop(thread) => push_word_and_id(line, heads, "stop ", *thread),
-        Order::Suspend(thread) => push_word_and_id(line, heads, "suspend ", *thread),
-        Order::Resume(thread) => push_word_and_id(line, heads, "resume ", *thread),
-        Order::Broadcast { event, value } => push_broadcast(line, heads, *event, *value),
-        Order::Ended { thread, end } => push_ended(line, heads, *thread, *end),
-    }
-}
-
-/// A broadcast.
-fn push_broadcast(
-    line: &mut LineBuffer,
-    heads: &Heads,
-    event: EventId,
-    value: Option<i64>,
-) -> Result<(), NoMemory>
-    ensures { OnOk result (line.new ≡ line.old
-        ++ (codes "broadcast " ++ (event_name heads.now event ++ sent_value value))) }
-{
-    line.text("broadcast ")?;
-    push_event_name(line, heads, event)?;
-    push_sent_value(line, value)
-}
-
-/// The order that tells of an end.
-fn push_ended(
-    line: &mut LineBuffer,
-    heads: &Heads,
-    thread: ThreadId,
-    end: End,
-) -> Result<(), NoMemory>
-    ensures { OnOk result (line.new ≡ line.old
-        ++ (codes "ended " ++ (id_text heads.now thread ++ (space ++ end_text heads.now end)))) }
-{
-    push_word_and_id(line, heads, "ended ", thread)?;
-    line.text(" ")?;
-    push_end(line, heads, end)
 }

@@ -1,6 +1,6 @@
 //! Calls of modules in bodies.
 
-ghost use Rattle.std.specs.Prelude.{◌≡◌, length, map, slice_get};
+ghost use Rattle.std.specs.Prelude.{◌≡◌, map, slice_get};
 ghost use Rattle.std.specs.Option.{option_map};
 ghost use Rattle.loft_tree.specs.View.{creation_of, expression_of, named_of};
 ghost use Rattle.loft_names.specs.Scopes.{kinds_of};

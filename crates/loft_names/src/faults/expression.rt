@@ -2,7 +2,8 @@
 
 ghost use Rattle.std.specs.Prelude.{◌≡◌};
 ghost use Rattle.loft_tree.specs.View.{expression_of, value_of};
-ghost use Rattle.loft_names.specs.Faults.{begin_of, builtin_kind, compares, expression_faults, kind_of, wants, wants_if};
+ghost use Rattle.loft_tree.specs.KindOf.{builtin_kind, compares};
+ghost use Rattle.loft_names.specs.Faults.{begin_of, expression_faults, kind_of, wants, wants_if};
 ghost use Rattle.loft_names.specs.Least.{least_of};
 
 use crate::error::NameError;

@@ -1,20 +1,20 @@
 //! Declarations.
 
-ghost use Rattle.std.specs.Prelude.{◌≡◌, ◌+◌, ◌<◌, ◌^◌, length};
+ghost use Rattle.std.specs.Prelude.{◌≡◌, ◌<◌, ◌^◌, length};
 ghost use Rattle.loft_tree.specs.View.{declaration_of, head_of, place_name_of, source_of, statements_of};
 ghost use Rattle.loft_names.specs.Faults.{declaration_uses, place_faults, module_uses, uses_from};
 ghost use Rattle.loft_names.specs.Least.{least_of};
 
 use crate::error::NameError;
 use crate::faults::name::scheduler;
-use crate::faults::order::{making, orders};
+use crate::faults::order::{creation, orders};
 use crate::faults::statement::body;
 use crate::scope::Scope;
 use crate::sofar::next_module;
 use crate::table::Table;
 use loft_tree::{Item, ModuleHead, PlaceName, Stmt};
 
-/// A place.
+/// A place where threads are linked.
 fn place(table: &Table, scope: Scope, name: &PlaceName, least: &mut Option<NameError>)
     ensures { least.new ≡ least_of least.old
         (place_faults table.now scope (place_name_of name.now)) }
@@ -66,7 +66,7 @@ fn item(table: &Table, number: u32, declared: &Item, least: &mut Option<NameErro
             called,
             arguments,
             ..
-        } => making(
+        } => creation(
             table,
             Scope::Everywhere,
             scheduler,

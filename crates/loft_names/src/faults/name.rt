@@ -1,8 +1,8 @@
 //! Names where they are used.
 
-ghost use Rattle.std.specs.Prelude.{◌≡◌, ◌++◌, map};
+ghost use Rattle.std.specs.Prelude.{◌≡◌, map};
 ghost use Rattle.std.specs.Option.{option_map};
-ghost use Rattle.loft_tree.specs.View.{named_of};
+ghost use Rattle.loft_tree.specs.View.{event_name_of, named_of};
 ghost use Rattle.loft_names.specs.Scopes.{kinds_of, meaning};
 ghost use Rattle.loft_names.specs.Faults.{event_faults, events_faults, is_start, meant, module_use, scheduler_faults, start_use, target_faults, thread_if, unlike, use_faults, used, value_use};
 ghost use Rattle.loft_names.specs.Least.{least_of};
@@ -11,7 +11,7 @@ use crate::error::NameError;
 use crate::least::note;
 use crate::scope::Scope;
 use crate::table::{Sort, Table};
-use loft_tree::{Ident, Kind, Variable};
+use loft_tree::{EventName, Ident, Kind, Variable};
 
 /// A name that has to be a scheduler's.
 pub fn scheduler(table: &Table, scope: Scope, name: &Ident, least: &mut Option<NameError>)
@@ -25,9 +25,11 @@ pub fn scheduler(table: &Table, scope: Scope, name: &Ident, least: &mut Option<N
 }
 
 /// A name that has to be an event's.
-pub fn event(table: &Table, scope: Scope, name: &Ident, least: &mut Option<NameError>)
-    ensures { least.new ≡ least_of least.old (event_faults table.now scope name.now) }
+pub fn event(table: &Table, scope: Scope, event: &EventName, least: &mut Option<NameError>)
+    ensures { least.new ≡ least_of least.old
+        (event_faults table.now scope (event_name_of event.now)) }
 {
+    let name = &event.name;
     match table.meaning(scope, name) {
         None => note(least, NameError::Unknown(name.at())),
         Some(found) if found.sort.is_event() => {}
@@ -119,8 +121,9 @@ pub fn target(table: &Table, scope: Scope, kind: Kind, name: &Ident, least: &mut
 }
 
 /// Names that have to be events'.
-pub fn events(table: &Table, scope: Scope, names: &[Ident], least: &mut Option<NameError>)
-    ensures { least.new ≡ least_of least.old (events_faults table.now scope names.now) }
+pub fn events(table: &Table, scope: Scope, names: &[EventName], least: &mut Option<NameError>)
+    ensures { least.new ≡ least_of least.old
+        (events_faults table.now scope (map event_name_of names.now)) }
 {
     for name in names {
         event(table, scope, name, least);

@@ -11,7 +11,7 @@ use crate::faults::call::{arity, kind_at};
 use crate::faults::name::{event, module, scheduler, start, unlike};
 use crate::scope::Scope;
 use crate::table::Table;
-use loft_tree::{Argument, Ident, Kind, Order, Variable};
+use loft_tree::{Argument, Ident, Kind, OutsideOrder, Variable};
 
 /// Where an argument stands.
 fn argument_at(argument: &Argument) -> u32
@@ -59,9 +59,9 @@ fn arguments(
     }
 }
 
-/// A thread to be made in a scheduler.
+/// A thread to be made in a scheduler, outside module bodies.
 #[tactic(auto, using(crate::proofs::First::first_fault))]
-pub fn making(
+pub fn creation(
     table: &Table,
     scope: Scope,
     there: &Ident,
@@ -80,16 +80,16 @@ pub fn making(
 
 /// An order.
 #[tactic(auto, using(crate::proofs::First::first_fault))]
-fn order(table: &Table, scope: Scope, ordered: &Order, least: &mut Option<NameError>)
+fn order(table: &Table, scope: Scope, ordered: &OutsideOrder, least: &mut Option<NameError>)
     ensures { least.new ≡ least_of least.old (order_faults table.now scope (order_of ordered.now)) }
 {
     match ordered {
-        Order::Create {
+        OutsideOrder::Create {
             scheduler,
             called,
             arguments,
-        } => making(table, scope, scheduler, called, arguments.as_slice(), least),
-        Order::Control {
+        } => creation(table, scope, scheduler, called, arguments.as_slice(), least),
+        OutsideOrder::Control {
             thread,
             scheduler: there,
             ..
@@ -97,13 +97,13 @@ fn order(table: &Table, scope: Scope, ordered: &Order, least: &mut Option<NameEr
             start(table, scope, thread, least);
             scheduler(table, scope, there, least);
         }
-        Order::Broadcast { event: name, .. } => event(table, scope, name, least),
+        OutsideOrder::Broadcast { event: name, .. } => event(table, scope, name, least),
     }
 }
 
 /// Orders.
 #[tactic(auto, using(crate::proofs::First::first_fault))]
-pub fn orders(table: &Table, scope: Scope, ordered: &[Order], least: &mut Option<NameError>)
+pub fn orders(table: &Table, scope: Scope, ordered: &[OutsideOrder], least: &mut Option<NameError>)
     ensures { least.new ≡ least_of least.old
         (orders_faults table.now scope (map order_of ordered.now)) }
 {

@@ -2,7 +2,7 @@
 
 ghost use Rattle.std.specs.Prelude.{◌≡◌};
 ghost use Rattle.loft_tree.specs.Source.{Assign};
-ghost use Rattle.loft_tree.specs.View.{expression_of, statement_of, statements_of, value_of};
+ghost use Rattle.loft_tree.specs.View.{expression_of, statement_of, statements_of};
 ghost use Rattle.loft_names.specs.Faults.{body_faults, statement_faults};
 ghost use Rattle.loft_names.specs.Least.{least_of};
 

@@ -1,29 +1,29 @@
 //! Threads to be made by statements.
 
 ghost use Rattle.std.specs.Prelude.{◌≡◌, IfOk};
-ghost use Rattle.loft_tree.specs.View.{creation_of};
+ghost use Rattle.loft_tree.specs.View.{creation_of as creation_in};
 ghost use Rattle.loft_tree.specs.NamedView as view;
-ghost use Rattle.loft_names.specs.Numbers.{making_of};
+ghost use Rattle.loft_names.specs.Numbers.{creation_of};
 
 use crate::numbers::expression::terms;
 use crate::numbers::name::{module, scheduler};
 use crate::scope::Scope;
 use crate::table::Table;
 use loft_base::NoMemory;
-use loft_tree::{Creation, Making};
+use loft_tree::{Creation, NamedCreation};
 use std::alloc::Global;
 
 /// A thread to be made.
-pub fn making(
+pub fn creation(
     alloc: Global,
     table: &Table,
     scope: Scope,
     made: &Creation,
-) -> Result<Making, NoMemory>
-    ensures { IfOk result (λ m. view.making_of m
-        ≡ making_of table.now scope (creation_of made.now)) }
+) -> Result<NamedCreation, NoMemory>
+    ensures { IfOk result (λ m. view.creation_of m
+        ≡ creation_of table.now scope (creation_in made.now)) }
 {
-    Ok(Making {
+    Ok(NamedCreation {
         at: made.scheduler.at(),
         scheduler: scheduler(table, scope, &made.scheduler),
         module: module(table, scope, &made.called),

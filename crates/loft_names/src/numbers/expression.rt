@@ -9,24 +9,24 @@ use crate::numbers::name::variable;
 use crate::scope::Scope;
 use crate::table::Table;
 use loft_base::NoMemory;
-use loft_tree::{Expr, Term};
+use loft_tree::{Expr, NamedExpr};
 use std::alloc::Global;
 
 /// An expression.
-pub fn term(alloc: Global, table: &Table, scope: Scope, e: &Expr) -> Result<Term, NoMemory>
+pub fn term(alloc: Global, table: &Table, scope: Scope, e: &Expr) -> Result<NamedExpr, NoMemory>
     ensures { IfOk result (λ t. view.term_of t ≡ term_of table.now scope (expression_of e.now)) }
 {
     match e {
-        Expr::Number { value, .. } => Ok(Term::Number(*value)),
+        Expr::Number { value, .. } => Ok(NamedExpr::Number(*value)),
         Expr::Name(name) => Ok(variable(table, scope, name)),
-        Expr::Builtin { builtin, .. } => Ok(Term::Builtin(*builtin)),
+        Expr::Builtin { builtin, .. } => Ok(NamedExpr::Builtin(*builtin)),
         Expr::Unary {
             operator,
             operand,
             ..
         } => {
             let operand = term(alloc, table, scope, operand)?;
-            Ok(Term::Unary {
+            Ok(NamedExpr::Unary {
                 operator: *operator,
                 operand: Box::new(alloc, operand)?,
             })
@@ -38,7 +38,7 @@ pub fn term(alloc: Global, table: &Table, scope: Scope, e: &Expr) -> Result<Term
         } => {
             let left = term(alloc, table, scope, left)?;
             let right = term(alloc, table, scope, right)?;
-            Ok(Term::Binary {
+            Ok(NamedExpr::Binary {
                 operator: *operator,
                 left: Box::new(alloc, left)?,
                 right: Box::new(alloc, right)?,
@@ -53,7 +53,7 @@ pub fn term_if(
     table: &Table,
     scope: Scope,
     e: &Option<Expr>,
-) -> Result<Option<Term>, NoMemory>
+) -> Result<Option<NamedExpr>, NoMemory>
     ensures { IfOk result (λ t. view.value_of t ≡ value_of table.now scope (value_in e.now)) }
 {
     match e {
@@ -63,7 +63,12 @@ pub fn term_if(
 }
 
 /// Expressions.
-pub fn terms(alloc: Global, table: &Table, scope: Scope, es: &[Expr]) -> Result<Vec<Term>, NoMemory>
+pub fn terms(
+    alloc: Global,
+    table: &Table,
+    scope: Scope,
+    es: &[Expr],
+) -> Result<Vec<NamedExpr>, NoMemory>
     ensures { IfOk result (λ ts. map view.term_of ts.items
         ≡ terms_of table.now scope (map expression_of es.now)) }
 {

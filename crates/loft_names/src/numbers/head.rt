@@ -4,6 +4,7 @@ ghost use Rattle.std.specs.Prelude.{◌≡◌, ◌<◌, ◌^◌, length, IfOk};
 ghost use Rattle.loft_tree.specs.View.{source_of};
 ghost use Rattle.loft_names.specs.Numbers.{clients_in, events_in, heads_of, schedulers_in, shared_in, signatures_in, starts_in};
 
+use crate::numbers::item::head_items;
 use crate::numbers::name::{module, scheduler};
 use crate::numbers::part::{arguments, orders, signature, text, text_if};
 use crate::scope::Scope;
@@ -141,5 +142,6 @@ pub fn heads(alloc: Global, table: &Table, items: &[Item]) -> Result<Heads, NoMe
         modules: signatures(alloc, table, items)?,
         starts: starts(alloc, table, items)?,
         clients: clients(alloc, table, items)?,
+        items: head_items(alloc, items)?,
     })
 }

@@ -1,6 +1,7 @@
 //! Names where they are used.
 
 ghost use Rattle.std.specs.Prelude.{◌≡◌, IfOk, map};
+ghost use Rattle.loft_tree.specs.View.{event_name_of};
 ghost use Rattle.loft_tree.specs.NamedView as view;
 ghost use Rattle.loft_names.specs.Numbers.{event_of, event_use, event_uses, holder_of, module_of, number_of, scheduler_of, target_of, variable_term};
 ghost use Rattle.loft_names.specs.Scopes.{meaning};
@@ -8,7 +9,7 @@ ghost use Rattle.loft_names.specs.Scopes.{meaning};
 use crate::scope::Scope;
 use crate::table::{Sort, Table};
 use loft_base::{EventId, ModuleId, NoMemory, SchedId, SharedId};
-use loft_tree::{EventUse, Ident, Target, Term};
+use loft_tree::{EventName, EventUse, Ident, NamedExpr, Target};
 use std::alloc::Global;
 
 /// The number of what a name means.
@@ -29,10 +30,10 @@ pub fn scheduler(table: &Table, scope: Scope, name: &Ident) -> SchedId
 }
 
 /// The event that a name means.
-pub fn event(table: &Table, scope: Scope, name: &Ident) -> EventId
-    ensures { result ≡ event_of table.now scope name.now }
+pub fn event(table: &Table, scope: Scope, event: &EventName) -> EventId
+    ensures { result ≡ event_of table.now scope (event_name_of event.now) }
 {
-    EventId(number(table, scope, name))
+    EventId(number(table, scope, &event.name))
 }
 
 /// The module that a name means.
@@ -42,24 +43,25 @@ pub fn module(table: &Table, scope: Scope, name: &Ident) -> ModuleId
     ModuleId(number(table, scope, name))
 }
 
-/// The event that a name means, and where the name stands.
-pub fn event_use(table: &Table, scope: Scope, name: &Ident) -> EventUse
-    ensures { result ≡ event_use table.now scope name.now }
+/// The event that a name means, and the offset of the name.
+pub fn event_use(table: &Table, scope: Scope, named: &EventName) -> EventUse
+    ensures { view.event_use_of result ≡ event_use table.now scope (event_name_of named.now) }
 {
     EventUse {
-        at: name.at(),
-        event: event(table, scope, name),
+        at: named.name.at(),
+        event: event(table, scope, named),
     }
 }
 
-/// The events that names mean, and where the names stand.
+/// The events that names mean, and the offsets of the names.
 pub fn event_uses(
     alloc: Global,
     table: &Table,
     scope: Scope,
-    names: &[Ident],
+    names: &[EventName],
 ) -> Result<Vec<EventUse>, NoMemory>
-    ensures { IfOk result (λ events. events.items ≡ event_uses table.now scope names.now) }
+    ensures { IfOk result (λ events. map view.event_use_of events.items
+        ≡ event_uses table.now scope (map event_name_of names.now)) }
 {
     let mut events = Vec::new(alloc);
     for name in names {
@@ -85,12 +87,12 @@ pub fn target(table: &Table, scope: Scope, name: &Ident) -> Target
 }
 
 /// The variable that a name means, to be read.
-pub fn variable(table: &Table, scope: Scope, name: &Ident) -> Term
+pub fn variable(table: &Table, scope: Scope, name: &Ident) -> NamedExpr
     ensures { view.term_of result
         ≡ variable_term table.now scope name.now.at (holder_of (meaning table.now scope name.now)) }
 {
     match target(table, scope, name) {
-        Target::Slot(slot) => Term::Slot(slot),
-        Target::Shared { at, shared } => Term::Shared { at, shared },
+        Target::Slot(slot) => NamedExpr::Slot(slot),
+        Target::Shared { at, shared } => NamedExpr::Shared { at, shared },
     }
 }

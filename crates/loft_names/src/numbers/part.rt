@@ -2,8 +2,7 @@
 
 ghost use Rattle.std.specs.Prelude.{◌≡◌, IfOk, map};
 ghost use Rattle.loft_tree.specs.View.{argument_of as argument_in, head_of, named_of, order_of, place_name_of};
-ghost use Rattle.loft_names.specs.Scopes.{kinds_of};
-ghost use Rattle.loft_names.specs.Numbers.{argument_of, arguments_of, client_order, client_orders, name_text, place_of, signature_of};
+ghost use Rattle.loft_names.specs.Numbers.{argument_of, arguments_of, client_order, client_orders, name_text, place_of, signature_of, slots_of};
 ghost use Rattle.loft_tree.specs.Source.{AName};
 ghost use Rattle.loft_base.specs.declared.ids.Value.TheVariants.{Thread};
 
@@ -12,8 +11,8 @@ use crate::scope::Scope;
 use crate::table::Table;
 use loft_base::{Maker, NoMemory, Sequence, ThreadId, Value};
 use loft_tree::{
-    Argument, Arguments, ClientOrder, Ident, Kinds, ModuleHead, Name, Order, Place, PlaceName,
-    Signature, Variable,
+    Argument, Arguments, ClientOrder, Ident, ModuleHead, Name, OutsideOrder, Place, PlaceName,
+    Signature, SlotHead, Slots, Variable,
 };
 use std::alloc::Global;
 
@@ -34,18 +33,21 @@ pub fn text_if(alloc: Global, name: &Option<Ident>) -> Result<Option<Name>, NoMe
     }
 }
 
-/// The kinds of parameters or local variables.
-fn kinds(alloc: Global, variables: &[Variable]) -> Result<Kinds, NoMemory>
-    ensures { IfOk result (λ kinds. kinds ≡ kinds_of (map named_of variables.now)) }
+/// Parameters or local variables.
+fn slots(alloc: Global, variables: &[Variable]) -> Result<Slots, NoMemory>
+    ensures { IfOk result (λ slots. slots ≡ slots_of (map named_of variables.now)) }
 {
     let mut all = Sequence::new(alloc);
     for variable in variables {
-        all.push(variable.kind)?;
+        all.push(SlotHead {
+            kind: variable.kind,
+            name: text(alloc, &variable.name)?,
+        })?;
     }
     Ok(all)
 }
 
-/// A place.
+/// A place where threads are linked.
 fn place(table: &Table, scope: Scope, name: &PlaceName) -> Place
     ensures { result ≡ place_of table.now scope (place_name_of name.now) }
 {
@@ -69,8 +71,8 @@ pub fn signature(
     let scope = Scope::Within(number);
     Ok(Signature {
         name: text(alloc, &head.name)?,
-        parameters: kinds(alloc, head.parameters.as_slice())?,
-        locals: kinds(alloc, locals)?,
+        parameters: slots(alloc, head.parameters.as_slice())?,
+        locals: slots(alloc, locals)?,
         begin: place(table, scope, &head.begin),
         end: match &head.end {
             Some(end) => place(table, scope, end),
@@ -120,12 +122,12 @@ fn order(
     alloc: Global,
     table: &Table,
     scope: Scope,
-    ordered: &Order,
+    ordered: &OutsideOrder,
 ) -> Result<ClientOrder, NoMemory>
     ensures { IfOk result (λ order. order ≡ client_order table.now scope (order_of ordered.now)) }
 {
     match ordered {
-        Order::Create {
+        OutsideOrder::Create {
             scheduler: there,
             called,
             arguments: values,
@@ -134,7 +136,7 @@ fn order(
             module: module(table, scope, called),
             arguments: arguments(alloc, table, scope, values.as_slice())?,
         }),
-        Order::Control {
+        OutsideOrder::Control {
             control,
             thread: name,
             scheduler: there,
@@ -143,7 +145,7 @@ fn order(
             thread: thread(table, scope, name),
             scheduler: scheduler(table, scope, there),
         }),
-        Order::Broadcast { event: name, value } => Ok(ClientOrder::Broadcast {
+        OutsideOrder::Broadcast { event: name, value } => Ok(ClientOrder::Broadcast {
             event: event(table, scope, name),
             value: *value,
         }),
@@ -155,7 +157,7 @@ pub fn orders(
     alloc: Global,
     table: &Table,
     scope: Scope,
-    ordered: &[Order],
+    ordered: &[OutsideOrder],
 ) -> Result<Sequence<ClientOrder>, NoMemory>
     ensures { IfOk result (λ all. all ≡ client_orders table.now scope (map order_of ordered.now)) }
 {

@@ -1,18 +1,18 @@
 //! Statements, with the bodies in them.
 
-ghost use Rattle.std.specs.Prelude.{◌≡◌, ◌+◌, ◌≤◌, ◌<◌, ◌^◌, IfOk, OnOk};
+ghost use Rattle.std.specs.Prelude.{◌≡◌, ◌+◌, ◌<◌, ◌^◌, IfOk, OnOk};
 ghost use Rattle.loft_tree.specs.View.{statement_of, statements_of};
 ghost use Rattle.loft_tree.specs.NamedView as view;
 ghost use Rattle.loft_names.specs.Numbers as numbers;
 ghost use Rattle.loft_names.specs.Numbers.{stops_in, body_stops};
 
-use crate::numbers::call::making;
+use crate::numbers::call::creation;
 use crate::numbers::expression::{term, term_if, terms};
-use crate::numbers::name::{event, event_use, event_uses, module, scheduler, target};
+use crate::numbers::name::{event_use, event_uses, module, scheduler, target};
 use crate::scope::Scope;
 use crate::table::Table;
-use loft_base::{NoMemory, Sequence};
-use loft_tree::{Statement, Stmt};
+use loft_base::NoMemory;
+use loft_tree::{NamedStmt, Stmt, Text};
 use std::alloc::Global;
 
 /// The number of the next stop.
@@ -25,7 +25,7 @@ fn next_stop(stops: &mut u32) -> u32
     *stops
 }
 
-/// A statement, behind so many stops of its module.
+/// A statement, after so many stops of its module.
 #[cycle(statement)]
 #[tactic(auto, using(crate::proofs::Stops::numbered_statements))]
 fn statement(
@@ -34,7 +34,7 @@ fn statement(
     scope: Scope,
     s: &Stmt,
     stops: &mut u32,
-) -> Result<Statement, NoMemory>
+) -> Result<NamedStmt, NoMemory>
     requires { stops.old + stops_in (statement_of s.now) < 2 ^ 32 }
     ensures statement { IfOk result (λ t. view.statement_of t
         ≡ numbers.statement_of table.now scope (statement_of s.now) stops.old) }
@@ -44,33 +44,33 @@ fn statement(
         Stmt::Assign {
             target: name,
             value,
-        } => Ok(Statement::Assign {
+        } => Ok(NamedStmt::Assign {
             target: target(table, scope, name),
             value: term(alloc, table, scope, value)?,
         }),
         Stmt::AssignCreate {
             target: name,
             at,
-            creation,
-        } => Ok(Statement::AssignCreate {
+            creation: made,
+        } => Ok(NamedStmt::AssignCreate {
             target: target(table, scope, name),
             at: *at,
-            making: making(alloc, table, scope, creation)?,
+            creation: creation(alloc, table, scope, made)?,
         }),
-        Stmt::Create { at, creation } => Ok(Statement::Create {
+        Stmt::Create { at, creation: made } => Ok(NamedStmt::Create {
             at: *at,
-            making: making(alloc, table, scope, creation)?,
+            creation: creation(alloc, table, scope, made)?,
         }),
-        Stmt::PrintText { at, text, value } => Ok(Statement::PrintText {
+        Stmt::PrintText { at, text, value } => Ok(NamedStmt::PrintText {
             at: *at,
-            text: Sequence::from_slice(alloc, text.bytes())?,
+            text: Text::new(Vec::from_slice(alloc, text.bytes())?),
             value: term_if(alloc, table, scope, value)?,
         }),
-        Stmt::PrintValue { at, value } => Ok(Statement::PrintValue {
+        Stmt::PrintValue { at, value } => Ok(NamedStmt::PrintValue {
             at: *at,
             value: term(alloc, table, scope, value)?,
         }),
-        Stmt::Cooperate { at, instants } => Ok(Statement::Cooperate {
+        Stmt::Cooperate { at, instants } => Ok(NamedStmt::Cooperate {
             at: *at,
             stop: next_stop(stops),
             instants: term_if(alloc, table, scope, instants)?,
@@ -79,7 +79,7 @@ fn statement(
             at,
             event: name,
             value,
-        } => Ok(Statement::Generate {
+        } => Ok(NamedStmt::Generate {
             at: *at,
             event: event_use(table, scope, name),
             value: term_if(alloc, table, scope, value)?,
@@ -88,13 +88,13 @@ fn statement(
             at,
             event: name,
             limit,
-        } => Ok(Statement::Await {
+        } => Ok(NamedStmt::Await {
             at: *at,
             stop: next_stop(stops),
             event: event_use(table, scope, name),
             limit: term_if(alloc, table, scope, limit)?,
         }),
-        Stmt::Select { at, events, limit } => Ok(Statement::Select {
+        Stmt::Select { at, events, limit } => Ok(NamedStmt::Select {
             at: *at,
             stop: next_stop(stops),
             events: event_uses(alloc, table, scope, events.as_slice())?,
@@ -105,14 +105,14 @@ fn statement(
             event: name,
             index,
             target: into,
-        } => Ok(Statement::Get {
+        } => Ok(NamedStmt::Get {
             at: *at,
             stop: next_stop(stops),
             event: event_use(table, scope, name),
             index: term(alloc, table, scope, index)?,
             target: target(table, scope, into),
         }),
-        Stmt::Join { at, thread, limit } => Ok(Statement::Join {
+        Stmt::Join { at, thread, limit } => Ok(NamedStmt::Join {
             at: *at,
             stop: next_stop(stops),
             thread: term(alloc, table, scope, thread)?,
@@ -123,7 +123,7 @@ fn statement(
             control,
             thread,
             scheduler: name,
-        } => Ok(Statement::Control {
+        } => Ok(NamedStmt::Control {
             at: *at,
             control: *control,
             thread: term(alloc, table, scope, thread)?,
@@ -133,20 +133,20 @@ fn statement(
             at,
             event: name,
             value,
-        } => Ok(Statement::Broadcast {
+        } => Ok(NamedStmt::Broadcast {
             at: *at,
-            event: event(table, scope, name),
+            event: event_use(table, scope, name),
             value: term_if(alloc, table, scope, value)?,
         }),
         Stmt::Link {
             at,
             scheduler: name,
-        } => Ok(Statement::Link {
+        } => Ok(NamedStmt::Link {
             at: *at,
             stop: next_stop(stops),
             scheduler: scheduler(table, scope, name),
         }),
-        Stmt::Unlink { at } => Ok(Statement::Unlink {
+        Stmt::Unlink { at } => Ok(NamedStmt::Unlink {
             at: *at,
             stop: next_stop(stops),
         }),
@@ -154,14 +154,14 @@ fn statement(
             at,
             called,
             arguments,
-        } => Ok(Statement::Run {
+        } => Ok(NamedStmt::Run {
             at: *at,
             stop: next_stop(stops),
             called: called.at(),
             module: module(table, scope, called),
             arguments: terms(alloc, table, scope, arguments.as_slice())?,
         }),
-        Stmt::Halt { at } => Ok(Statement::Halt {
+        Stmt::Halt { at } => Ok(NamedStmt::Halt {
             at: *at,
             stop: next_stop(stops),
         }),
@@ -170,7 +170,7 @@ fn statement(
             test,
             first,
             second,
-        } => Ok(Statement::If {
+        } => Ok(NamedStmt::If {
             at: *at,
             test: term(alloc, table, scope, test)?,
             first: body(alloc, table, scope, first.as_slice(), stops)?,
@@ -180,7 +180,7 @@ fn statement(
             at,
             test,
             body: inner,
-        } => Ok(Statement::While {
+        } => Ok(NamedStmt::While {
             at: *at,
             test: term(alloc, table, scope, test)?,
             body: body(alloc, table, scope, inner.as_slice(), stops)?,
@@ -189,7 +189,7 @@ fn statement(
             at,
             count,
             body: inner,
-        } => Ok(Statement::Repeat {
+        } => Ok(NamedStmt::Repeat {
             at: *at,
             count: term(alloc, table, scope, count)?,
             body: body(alloc, table, scope, inner.as_slice(), stops)?,
@@ -197,7 +197,7 @@ fn statement(
     }
 }
 
-/// The statements of a body, behind so many stops of its module.
+/// The statements of a body, after so many stops of its module.
 #[cycle(statement)]
 #[tactic(auto, using(crate::proofs::Stops::numbered_statements))]
 pub fn body(
@@ -206,7 +206,7 @@ pub fn body(
     scope: Scope,
     statements: &[Stmt],
     stops: &mut u32,
-) -> Result<Vec<Statement>, NoMemory>
+) -> Result<Vec<NamedStmt>, NoMemory>
     requires { stops.old + body_stops (statements_of statements.now) < 2 ^ 32 }
     ensures body { IfOk result (λ body. view.statements_of body.items
         ≡ numbers.body_of table.now scope (statements_of statements.now) stops.old) }

@@ -3,7 +3,7 @@ use Rattle.std.proofs.Common.{◌≡◌, ℕ, zero, suc, ◌+◌, ◌≤◌, Boo
 use Rattle.std.proofs.Common.{⊎_elim}
 use Rattle.loft_form.specs.Form.{leaf, ◌▹◌, ◌∣◌, maybe, many, inside, counted, fresh, made, State}
 use Rattle.loft_form.specs.Spells.{Spelling, SpellsEach, SpellsMaybe, Spells, SpellsRule, owing, from_zero}
-use Rattle.loft_form.proofs.Clear.{and_true}
+use Rattle.loft_form.proofs.Disjoint.{and_true}
 use Rattle.loft_lex.specs.Symbol.{Symbol}
 use Rattle.loft_parse.specs.Grammar.{Form, rules}
 use Rattle.loft_parse.specs.Language.{Language, Rule, Bracketed, Signed, Conditional, Looped, Meaning}

@@ -13,7 +13,7 @@ use Rattle.loft_parse.proofs.fits.Counting.{one}
 use Rattle.loft_parse.proofs.fits.Expressions.{name_fits, numeral_fits}
 use Rattle.loft_parse.proofs.fits.Lists.{many_counts, in_brackets_gives}
 use Rattle.loft_parse.proofs.fits.Parts.{Gives, Weighs, gives_any, ◌▸◌, ◌or◌, gives_made, gives_counted, gives_fresh, gives_maybe, gives_many, gives_both, gives_so, weighs_none, weighs_one, weighs_either, weighs_made, weights, weighs_many, weighs_so, gives_few_fresh}
-use Rattle.loft_parse.proofs.fits.Statements.{statements_fit, statements_count}
+use Rattle.loft_parse.proofs.fits.Statements.{event_name_fits, statements_fit, statements_count}
 use Rattle.loft_parse.proofs.fits.Rules.{program_rules}
 
 -- ---- numbers
@@ -50,7 +50,7 @@ module _ {n : ℕ} where
       gives_made (gives_any ▸ name_fits ▸ gives_any ▸ name_fits ▸ outer_arguments_fit ▸ gives_any)
       (λ x h. record { there = h.1.0; runs = h.1.1.1.0; each = h.1.1.1.1.0.0; few = h.1.1.1.1.0.1 })
       or gives_made (gives_any ▸ name_fits ▸ gives_any ▸ name_fits ▸ gives_any) (λ x h. (h.1.0, h.1.1.1.0))
-      or gives_made (gives_any ▸ name_fits ▸ gives_maybe (gives_made {Q = SignedFits} (gives_any ▸ signed_fits) (λ x h. h.1)) ▸ gives_any) (λ x h. (h.1.0, h.1.1.0))
+      or gives_made (gives_any ▸ event_name_fits ▸ gives_maybe (gives_made {Q = SignedFits} (gives_any ▸ signed_fits) (λ x h. h.1)) ▸ gives_any) (λ x h. (h.1.0, h.1.1.0))
 
   order_counts : Weighs n Order order (λ _. 1)
   unfolding program_rules

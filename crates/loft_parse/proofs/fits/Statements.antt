@@ -4,9 +4,9 @@ use Rattle.loft_form.specs.Form.{inside}
 use Rattle.loft_lex.specs.Fits.{is_text}
 use Rattle.loft_tree.specs.Source.{Ident, Expression, Creation, Statement as AnyStatement}
 use Rattle.loft_tree.specs.View.{body_of}
-use Rattle.loft_tree.specs.Fits.{Each, IfThere, NameFits, ExpressionFits, ArgumentsFit, CreationFits, StatementFits, StatementsFit, size_of, size}
+use Rattle.loft_tree.specs.Fits.{Each, IfThere, NameFits, EventNameFits, ExpressionFits, ArgumentsFit, CreationFits, StatementFits, StatementsFit, size_of, size}
 use Rattle.loft_parse.specs.Language.{Conditional, Looped}
-use Rattle.loft_parse.specs.Grammar.{text, assignment_of, print_of, else_of, whole, argument, arguments, creation, behind_comma, time_limit, assigned, assignment, printed, print, create, cooperate, generate, await_event, choice, choices, select, get, join, control, broadcast, link, unlink, run, halt, conditional, while_loop, repeat, value_statement, event_statement, thread_statement, moving_statement, statement, body, test, otherwise, branches, turns}
+use Rattle.loft_parse.specs.Grammar.{text, event_name, assignment_of, print_of, else_of, whole, argument, arguments, creation, behind_comma, time_limit, assigned, assignment, printed, print, create, cooperate, generate, await_event, choice, choices, select, get, join, control, broadcast, link, unlink, run, halt, conditional, while_loop, repeat, value_statement, event_statement, thread_statement, moving_statement, statement, body, test, otherwise, branches, turns}
 use Rattle.loft_parse.specs.declared.counts.Counted.TheVariants.{Statement, Argument, Choice}
 use Rattle.loft_parse.proofs.fits.Expressions.{name_fits, whole_fits}
 use Rattle.loft_parse.proofs.fits.Lists.{many_counts, further_gives, further_counts, in_brackets_gives}
@@ -67,14 +67,17 @@ module _ {n : ℕ} where
   unfolding printed
   printed_fits = gives_made (text_fits ▸ gives_maybe comma_fits) (λ x h. h) or gives_made expression_fits (λ x h. h)
 
+  pub event_name_fits : Gives n event_name EventNameFits
+  event_name_fits = gives_made name_fits (λ e h. h)
+
   choice_counts : Weighs n Choice choice (λ _. 1)
   unfolding choice
   choice_counts = weighs_one refl refl
 
-  choices_fit : Gives n choices (λ xs. Each NameFits xs × (2 ≤ length xs))
+  choices_fit : Gives n choices (λ xs. Each EventNameFits xs × (2 ≤ length xs))
   unfolding choices choice
   choices_fit =
-      let one : Gives n choice NameFits = gives_counted name_fits in
+      let one : Gives n choice EventNameFits = gives_counted event_name_fits in
       gives_made (one ▸ further_gives one ▸ gives_many (further_gives one)) (λ x h. ((h.0, (h.1.0, h.1.1)), omega arith))
 
   choices_count : Weighs n Choice choices length
@@ -97,11 +100,11 @@ module _ {n : ℕ} where
   event_fits : Gives n event_statement (λ s. StatementFits s n)
   unfolding event_statement generate await_event get broadcast
   event_fits =
-      gives_made (gives_any ▸ name_fits ▸ gives_maybe comma_fits ▸ gives_any) (λ x h. (h.1.0, h.1.1.0))
-      or gives_made (gives_any ▸ name_fits ▸ gives_maybe limit_fits ▸ gives_any) (λ x h. (h.1.0, h.1.1.0))
+      gives_made (gives_any ▸ event_name_fits ▸ gives_maybe comma_fits ▸ gives_any) (λ x h. (h.1.0, h.1.1.0))
+      or gives_made (gives_any ▸ event_name_fits ▸ gives_maybe limit_fits ▸ gives_any) (λ x h. (h.1.0, h.1.1.0))
       or select_fits
-      or gives_made (gives_any ▸ name_fits ▸ gives_any ▸ expression_fits ▸ gives_any ▸ name_fits ▸ gives_any) (λ x h. (h.1.0, h.1.1.1.0, h.1.1.1.1.1.0))
-      or gives_made (gives_any ▸ name_fits ▸ gives_maybe comma_fits ▸ gives_any) (λ x h. (h.1.0, h.1.1.0))
+      or gives_made (gives_any ▸ event_name_fits ▸ gives_any ▸ expression_fits ▸ gives_any ▸ name_fits ▸ gives_any) (λ x h. (h.1.0, h.1.1.1.0, h.1.1.1.1.1.0))
+      or gives_made (gives_any ▸ event_name_fits ▸ gives_maybe comma_fits ▸ gives_any) (λ x h. (h.1.0, h.1.1.0))
 
   thread_fits : Gives n thread_statement (λ s. StatementFits s n)
   unfolding thread_statement cooperate join control run halt

@@ -10,7 +10,7 @@ use Rattle.loft_lex.specs.declared.token.Token.{Token}
 use Rattle.loft_lex.specs.declared.token.TokenKind.{TokenKind}
 use Rattle.loft_lex.specs.declared.token.TokenKind.TheVariants.{Name, Word, Number, Text, Sign}
 use Rattle.loft_lex.specs.declared.word.Word.{Word as LanguageWord}
-use Rattle.loft_lex.proofs.Laws.{all_fit}
+use Rattle.loft_lex.proofs.Spans.{all_fit}
 use Rattle.loft_tree.specs.Fits.{Each, NumberFits}
 use Rattle.loft_parse.specs.Language as language
 use Rattle.loft_parse.specs.Grammar.{bytes_of, value_of}

@@ -30,7 +30,7 @@ use Rattle.loft_show.specs.Canon.{Piece, space, tight, spaced, word, sign, kind_
 use Rattle.loft_show.specs.Places.{bare_name, bare_named, bare_place, bare_argument, bare_order}
 use Rattle.loft_show.proofs.reads.Spelling as spelling
 use Rattle.loft_show.proofs.reads.Spelling.{bare, syms, line_pieces, Is, spelled_as}
-use Rattle.loft_show.proofs.reads.Parts.{After, after_none, Part, joined, ◌then◌, left, right, some, none, built, word_is, sign_is, name_is, CountsOne, in_brackets_are, inner_parameter, inner_argument}
+use Rattle.loft_show.proofs.reads.Parts.{After, after_none, Part, joined, ◌then◌, left, right, some, none, built, word_is, sign_is, name_is, event_is, CountsOne, in_brackets_are, inner_parameter, inner_argument}
 use Rattle.loft_show.proofs.reads.Statements.{semicolon}
 
 -- ---- numbers with a sign
@@ -164,7 +164,7 @@ order_is n (ControlThere control thread scheduler) fits c few =
     let (d, after, whole) = followed (control_word_is n control count.Order c few) (name_is {gap = space} thread then word_is {gap = space} w.In then name_is {gap = space} scheduler then semicolon) in
     (d, after, spelling.right (spelling.left (spelling.built whole)))
 order_is n (BroadcastThere event value) fits c few =
-    let (d, after, whole) = followed (spelling.first_word_is c count.Order w.Broadcast few) (name_is {gap = space} event then value_is value fits.1 then semicolon) in
+    let (d, after, whole) = followed (spelling.first_word_is c count.Order w.Broadcast few) (event_is {gap = space} event then value_is value fits.1 then semicolon) in
     (d, after, spelling.right (spelling.right (spelling.built whole)))
 
 -- as many as before of all that a program declares

@@ -33,7 +33,7 @@ with_places ss p (d, spells) =
 
 pub canon_is : (p : Source) → SourceFits p → (q : Source) × Reads (Canon p) q × (without_places q ≡ without_places p)
 canon_is p fits =
-    let (ts, found, says) = says_lines (source_lines p) (source_kept p fits.each) in
+    let (ts, cut, says) = says_lines (source_lines p) (source_kept p fits.each) in
     let bares : map bare_symbol (symbols (Canon p) ts) ≡ syms (line_pieces (source_lines p)) = bare_symbols (symbols (Canon p) ts) ∙ ap (map bare) says ∙ symbols_of (line_pieces (source_lines p)) in
     let (q, is, whole) = with_places (symbols (Canon p) ts) (without_places p) (subst (λ ss. SpellsProgram ss (without_places p)) (sym bares) (source_is p fits)) in
-    (q, (ts, found, whole), sym is)
+    (q, (ts, cut, whole), sym is)

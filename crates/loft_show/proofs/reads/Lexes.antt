@@ -7,10 +7,9 @@ use Rattle.loft_lex.specs.declared.token.TokenKind.{TokenKind}
 use Rattle.loft_lex.specs.declared.sign.Sign.TheVariants as s
 use Rattle.loft_lex.specs.Bytes.{is_blank}
 use Rattle.loft_lex.specs.Fits.{IsOfKind}
-use Rattle.loft_lex.specs.Cut.{IsWhole, nothing, blank, token as one_token}
+use Rattle.loft_lex.specs.Cut.{Cut, IsWhole, nothing, blank, token as one_token}
 use Rattle.loft_lex.specs.Symbol.{Symbol, What, Mark, what_of, symbols}
-use Rattle.loft_lex.specs.Tokens.{tokens, token_behind}
-use Rattle.loft_lex.proofs.Readings.{complete, found_is_cut}
+use Rattle.loft_lex.specs.Tokens.{token_behind}
 use Rattle.loft_tree.specs.Fits.{Each}
 use Rattle.loft_show.specs.Canon.{Piece, Line, spelled, pieces_text, lines_text}
 use Rattle.loft_show.proofs.reads.Spelling.{line_pieces}
@@ -22,7 +21,7 @@ whats text ts = map (λ (x : Symbol). x.what) (symbols text ts)
 
 -- the tokens of the text say this
 abbrev pub Says : List ℕ → List What → Type 0
-Says text ws = (ts : List Token) × (tokens text ≡ Ok ts) × (whats text ts ≡ ws)
+Says text ws = (ts : List Token) × Cut text (Ok ts) × (whats text ts ≡ ws)
 
 -- ---- bytes put before a text
 
@@ -40,17 +39,17 @@ whats_behind front rest [] = refl
 whats_behind front rest (t ∷ ts) = λ i. what_of t.kind (slice_behind front rest t.from t.to i) ∷ whats_behind front rest ts i
 
 says_nothing : Says [] []
-says_nothing = ([], complete nothing, refl)
+says_nothing = ([], nothing, refl)
 
 says_blank : (b : ℕ) (rest : List ℕ) (ws : List What) → is_blank b ≡ true → Says rest ws → Says (b ∷ rest) ws
-says_blank b rest ws h (ts, e, same) = (map (token_behind 1) ts, complete (blank b rest (Ok ts) h ((found_is_cut rest (Ok ts)).0 e)), whats_behind (b ∷ []) rest ts ∙ same)
+says_blank b rest ws h (ts, cut, same) = (map (token_behind 1) ts, blank b rest (Ok ts) h cut, whats_behind (b ∷ []) rest ts ∙ same)
 
 says_token : (kind : TokenKind) (bytes rest : List ℕ) (w : What) (ws : List What) → IsOfKind kind bytes → IsWhole kind bytes rest → what_of kind bytes ≡ w → Says rest ws → Says (bytes ++ rest) (w ∷ ws)
-says_token kind bytes rest w ws fits whole is (ts, e, same) =
+says_token kind bytes rest w ws fits whole is (ts, cut, same) =
     let first : what_of kind (slice_range (bytes ++ rest) 0 (length bytes)) ≡ w = (let n : length bytes - 0 ≡ length bytes = omega arith in rw (n, take_at bytes rest (length bytes) refl) is) in
     let others : whats (bytes ++ rest) (map (token_behind (length bytes)) ts) ≡ ws = whats_behind bytes rest ts ∙ same in (
       record { kind = kind; from = 0; to = length bytes } ∷ map (token_behind (length bytes)) ts,
-      complete (one_token kind bytes rest (Ok ts) fits whole ((found_is_cut rest (Ok ts)).0 e)),
+      one_token kind bytes rest (Ok ts) fits whole cut,
       (λ i. first i ∷ others i),
     )
 

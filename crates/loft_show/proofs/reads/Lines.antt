@@ -5,9 +5,9 @@ use Rattle.loft_lex.specs.declared.word.Word.{Word}
 use Rattle.loft_lex.specs.declared.word.Word.TheVariants as w
 use Rattle.loft_lex.specs.declared.sign.Sign.TheVariants as s
 use Rattle.loft_lex.specs.Symbol.{Numeral, Quoted}
-use Rattle.loft_tree.specs.Source.{Ident, Expression, Creation, Statement, Assign, AssignCreate, Create, PrintText, PrintValue, Cooperate, Generate, Await, Select, Get, Join, ControlThread, Broadcast, Link, Unlink, Run, Halt, If, While, Repeat, Statements, Done, Then, Named, PlaceName, InScheduler, Unlinked, ModuleHead, Argument, ANumber, AName, Order, CreateThere, ControlThere, BroadcastThere, Declaration, Scheduler, Event, Shared, Module, Start, Outside, Source}
-use Rattle.loft_tree.specs.Fits.{Each, IfThere, NameFits, NumberFits, SignedFits, ExpressionFits, CreationFits, ChoicesFit, StatementFits, StatementsFit, PlaceFits, EndFits, ModuleFits, ArgumentFits, CallFits, OrderFits, DeclarationFits}
-use Rattle.loft_show.specs.Canon.{Piece, line, space, tight, spaced, word, sign, name, ended, expression_pieces, signed_pieces, bracketed_pieces, creation_pieces, name_pieces, control_word, test_line, end_line, statement_lines, body_lines, else_lines, kind_word, named_pieces, place_pieces, head_line, local_lines, argument_pieces, call_pieces, order_line, order_lines, declaration_lines, source_lines}
+use Rattle.loft_tree.specs.Source.{Ident, EventName, Expression, Creation, Statement, Assign, AssignCreate, Create, PrintText, PrintValue, Cooperate, Generate, Await, Select, Get, Join, ControlThread, Broadcast, Link, Unlink, Run, Halt, If, While, Repeat, Statements, Done, Then, Named, PlaceName, InScheduler, Unlinked, ModuleHead, Argument, ANumber, AName, Order, CreateThere, ControlThere, BroadcastThere, Declaration, Scheduler, Event, Shared, Module, Start, Outside, Source}
+use Rattle.loft_tree.specs.Fits.{Each, IfThere, NameFits, EventNameFits, NumberFits, SignedFits, ExpressionFits, CreationFits, ChoicesFit, StatementFits, StatementsFit, PlaceFits, EndFits, ModuleFits, ArgumentFits, CallFits, OrderFits, DeclarationFits}
+use Rattle.loft_show.specs.Canon.{Piece, line, space, tight, spaced, word, sign, name, ended, expression_pieces, signed_pieces, bracketed_pieces, creation_pieces, name_pieces, event_pieces, control_word, test_line, end_line, statement_lines, body_lines, else_lines, kind_word, named_pieces, place_pieces, head_line, local_lines, argument_pieces, call_pieces, order_line, order_lines, declaration_lines, source_lines}
 use Rattle.loft_show.proofs.reads.Lexes.{LineFits}
 use Rattle.loft_show.proofs.reads.Kept.{Flows, Kept, ◌then◌, loose, none, at_gap, space_blank, spaced_is, tight_is, tight_sign, expression_kept, further_kept, brackets_kept, behind_kept, arguments_kept, name_kept, word_kept, called_kept, comma_kept, for_kept, instants_kept, value_kept, line_kept, ended_kept, word_line_kept}
 
@@ -21,9 +21,9 @@ both_lists P (x ∷ xs) ys p q = (p.0, both_lists P xs ys p.1 q)
 creation_kept : (n : ℕ) (x : Creation) → CreationFits n x → Flows false true (creation_pieces x)
 creation_kept n x fits = called_kept x.scheduler x.called (bracketed_pieces expression_pieces x.arguments) fits.scheduler fits.called (arguments_kept n x.arguments fits.arguments)
 
-names_kept : (xs : List Ident) → Each NameFits xs → Each (λ x. Kept (name_pieces x)) xs
-names_kept [] all = tt
-names_kept (x ∷ xs) all = ((λ gap blank. at_gap gap (name x) blank all.0 refl), names_kept xs all.1)
+events_kept : (xs : List EventName) → Each EventNameFits xs → Each (λ x. Kept (event_pieces x)) xs
+events_kept [] all = tt
+events_kept (x ∷ xs) all = ((λ gap blank. at_gap gap (name x.name) blank all.0 refl), events_kept xs all.1)
 
 -- " = " behind a target, and what stands behind it
 assigned_kept : {b : Bool} {ps : List Piece} (target : Ident) → NameFits target → Flows false b ps → Flows true true (tight (name target) ∷ spaced (sign s.Equals) ∷ ended ps)
@@ -33,9 +33,9 @@ test_kept : (n k : ℕ) (before : Word) (e : Expression) (after : Word) → Expr
 test_kept n k before e after fits =
     line_kept (tight_is (word before) tt refl then spaced_is (sign s.Open) tt then expression_kept e fits.words [] tt then loose true (tight_sign s.Close refl) then word_kept after)
 
-select_kept : (n k : ℕ) (at : ℕ) (events : List Ident) (e : Option Expression) → ChoicesFit events → IfThere (ExpressionFits n) e → Each LineFits (statement_lines (Select at events e) k)
+select_kept : (n k : ℕ) (at : ℕ) (events : List EventName) (e : Option Expression) → ChoicesFit events → IfThere (ExpressionFits n) e → Each LineFits (statement_lines (Select at events e) k)
 select_kept n k at [] e several fits = absurd (let h = several.several in omega arith)
-select_kept n k at (x ∷ xs) e several fits = (word_line_kept k w.Select (name_kept x several.each.0 then further_kept name_pieces xs (names_kept xs several.each.1) then for_kept n e fits), tt)
+select_kept n k at (x ∷ xs) e several fits = (word_line_kept k w.Select (name_kept x.name several.each.0 then further_kept event_pieces xs (events_kept xs several.each.1) then for_kept n e fits), tt)
 
 end_kept : (k : ℕ) → LineFits (end_line k)
 end_kept k = line_kept (tight_is (word w.End) tt refl)
@@ -49,13 +49,13 @@ mutual
   statement_kept (PrintText at text value) n k fits = (word_line_kept k w.Print (spaced_is (Quoted text) fits.0 then comma_kept n value fits.1), tt)
   statement_kept (PrintValue at value) n k fits = (word_line_kept k w.Print (value_kept n value fits), tt)
   statement_kept (Cooperate at instants) n k fits = (word_line_kept k w.Cooperate (instants_kept n instants fits), tt)
-  statement_kept (Generate at event value) n k fits = (word_line_kept k w.Generate (name_kept event fits.0 then comma_kept n value fits.1), tt)
-  statement_kept (Await at event limit) n k fits = (word_line_kept k w.Await (name_kept event fits.0 then for_kept n limit fits.1), tt)
+  statement_kept (Generate at event value) n k fits = (word_line_kept k w.Generate (name_kept event.name fits.0 then comma_kept n value fits.1), tt)
+  statement_kept (Await at event limit) n k fits = (word_line_kept k w.Await (name_kept event.name fits.0 then for_kept n limit fits.1), tt)
   statement_kept (Select at events limit) n k fits = select_kept n k at events limit fits.0 fits.1
-  statement_kept (Get at event index target) n k fits = (word_line_kept k w.Get (name_kept event fits.0 then word_kept w.At then value_kept n index fits.1 then word_kept w.Into then name_kept target fits.2), tt)
+  statement_kept (Get at event index target) n k fits = (word_line_kept k w.Get (name_kept event.name fits.0 then word_kept w.At then value_kept n index fits.1 then word_kept w.Into then name_kept target fits.2), tt)
   statement_kept (Join at thread limit) n k fits = (word_line_kept k w.Join (value_kept n thread fits.0 then for_kept n limit fits.1), tt)
   statement_kept (ControlThread at control thread scheduler) n k fits = (word_line_kept k (control_word control) (value_kept n thread fits.0 then word_kept w.In then name_kept scheduler fits.1), tt)
-  statement_kept (Broadcast at event value) n k fits = (word_line_kept k w.Broadcast (name_kept event fits.0 then comma_kept n value fits.1), tt)
+  statement_kept (Broadcast at event value) n k fits = (word_line_kept k w.Broadcast (name_kept event.name fits.0 then comma_kept n value fits.1), tt)
   statement_kept (Link at scheduler) n k fits = (word_line_kept k w.Link (name_kept scheduler fits), tt)
   statement_kept (Unlink at) n k fits = (word_line_kept k w.Unlink none, tt)
   statement_kept (Run at called arguments) n k fits = (word_line_kept k w.Run (name_kept called fits.0 then arguments_kept n arguments fits.1), tt)
@@ -130,7 +130,7 @@ if_signed_kept (Some x) fits = signed_kept x fits
 order_kept : (x : Order) → OrderFits x → LineFits (order_line x)
 order_kept (CreateThere scheduler called arguments) fits = word_line_kept 2 w.Create (call_kept scheduler called arguments fits)
 order_kept (ControlThere control thread scheduler) fits = word_line_kept 2 (control_word control) (name_kept thread fits.0 then word_kept w.In then name_kept scheduler fits.1)
-order_kept (BroadcastThere event value) fits = word_line_kept 2 w.Broadcast (name_kept event fits.0 then behind_kept signed_pieces (tight (sign s.Comma) ∷ []) value (loose true (tight_sign s.Comma refl)) (if_signed_kept value fits.1))
+order_kept (BroadcastThere event value) fits = word_line_kept 2 w.Broadcast (name_kept event.name fits.0 then behind_kept signed_pieces (tight (sign s.Comma) ∷ []) value (loose true (tight_sign s.Comma refl)) (if_signed_kept value fits.1))
 
 orders_kept : (xs : List Order) → Each OrderFits xs → Each LineFits (order_lines xs)
 orders_kept [] all = tt

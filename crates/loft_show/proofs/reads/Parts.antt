@@ -5,7 +5,7 @@ use Rattle.loft_lex.specs.declared.word.Word.{Word}
 use Rattle.loft_lex.specs.declared.sign.Sign.{Sign}
 use Rattle.loft_lex.specs.declared.sign.Sign.TheVariants as s
 use Rattle.loft_lex.specs.Symbol.{Symbol, Named as NamedWhat, Keyword, Quoted, Mark}
-use Rattle.loft_tree.specs.Source.{Ident, Expression}
+use Rattle.loft_tree.specs.Source.{Ident, EventName, Expression}
 use Rattle.loft_tree.specs.Levels.{level, operands}
 use Rattle.loft_tree.specs.Fits.{Each, ExpressionFits, ArgumentsFit}
 use Rattle.loft_form.specs.Form.{◌▹◌, ◌∣◌, maybe, many, made, State}
@@ -16,10 +16,10 @@ use Rattle.loft_parse.specs.declared.counts.Counted.TheVariants as count
 use Rattle.loft_parse.specs.declared.counts.Counts.{Counts}
 use Rattle.loft_parse.specs.Counts.{most, number, put}
 use Rattle.loft_parse.specs.Language.{Language}
-use Rattle.loft_parse.specs.Grammar.{Form, word, sign, word_place, sign_place, name, text, whole, argument, arguments, further, listed, in_brackets}
+use Rattle.loft_parse.specs.Grammar.{Form, word, sign, word_place, sign_place, name, event_name, text, whole, argument, arguments, further, listed, in_brackets}
 use Rattle.loft_parse.specs.Source.{limits}
 use Rattle.loft_show.specs.Canon.{Piece, piece, space, tight, sign as sign_piece, expression_pieces, further_pieces, list_pieces, bracketed_pieces}
-use Rattle.loft_show.specs.Places.{bare_name, bare_expression}
+use Rattle.loft_show.specs.Places.{bare_name, bare_event, bare_expression}
 use Rattle.loft_show.proofs.reads.Spelling as spelling
 use Rattle.loft_show.proofs.reads.Spelling.{bare, syms, Is, spelled_as}
 use Rattle.loft_show.proofs.reads.Expressions.{more, lower, expression_is}
@@ -97,6 +97,9 @@ module _ {n : ℕ} {gap : List ℕ} where
 
   pub name_is : (x : Ident) → Part n name (piece gap (NamedWhat x.text) ∷ []) (bare_name x)
   name_is x = record { at = λ c. (c, after_none c, spelling.name_is c x) }
+
+  pub event_is : (x : EventName) → Part n event_name (piece gap (NamedWhat x.name.text) ∷ []) (bare_event x)
+  event_is x = built (name_is x.name)
 
   pub text_is : (bytes : List ℕ) → Part n text (piece gap (Quoted bytes) ∷ []) bytes
   text_is bytes = record { at = λ c. (c, after_none c, spelling.text_is c bytes) }

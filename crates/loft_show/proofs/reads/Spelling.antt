@@ -11,11 +11,11 @@ use Rattle.loft_parse.specs.declared.counts.Counted.{Counted}
 use Rattle.loft_parse.specs.declared.counts.Counts.{Counts}
 use Rattle.loft_parse.specs.Counts.{most, number, put}
 use Rattle.loft_parse.specs.Language.{Language, Kind, kind_of, word_number, sign_number, Rule, Meaning}
-use Rattle.loft_parse.specs.Grammar.{Form, rules, word, sign, word_place, sign_place, opening_word, opening_sign, name, text, numeral, first_word}
+use Rattle.loft_parse.specs.Grammar.{Form, rules, word, sign, word_place, sign_place, opening_word, opening_sign, name, event_name, text, numeral, first_word}
 use Rattle.loft_parse.specs.Source.{limits}
-use Rattle.loft_tree.specs.Source.{Ident}
+use Rattle.loft_tree.specs.Source.{Ident, EventName}
 use Rattle.loft_show.specs.Canon.{Piece, Line}
-use Rattle.loft_show.specs.Places.{bare_name}
+use Rattle.loft_show.specs.Places.{bare_name, bare_event}
 
 -- a symbol without a place
 abbrev pub bare : What → Symbol
@@ -146,6 +146,9 @@ module _ {n : ℕ} (c : Counts) where
 
   pub counted_name_is : (w : Counted) (x : Ident) → number w c < most w → Is n (counted w name) (bare (NamedWhat x.text) ∷ []) (paid c) (bare_name x) (paid (put w (number w c + 1) c))
   counted_name_is w x few = counting_it (symbol (NamedWhat x.text) (owing w (paid c)) (put w (number w c + 1) c) refl (few, refl))
+
+  pub counted_event_is : (w : Counted) (x : EventName) → number w c < most w → Is n (counted w event_name) (bare (NamedWhat x.name.text) ∷ []) (paid c) (bare_event x) (paid (put w (number w c + 1) c))
+  counted_event_is w x few = counting_it (built (symbol (NamedWhat x.name.text) (owing w (paid c)) (put w (number w c + 1) c) refl (few, refl)))
 
 -- a sign that opens a nesting, where something may be due
 pub opening_sign_is : {n : ℕ} (c : State Language) (m : Counts) (v : Sign) → 0 < n → Adds limits c.due c.counts m → Is n (opening_sign v) (bare (Mark v) ∷ []) c 0 (paid m)

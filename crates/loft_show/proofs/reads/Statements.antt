@@ -7,7 +7,7 @@ use Rattle.loft_lex.specs.declared.sign.Sign.TheVariants as s
 use Rattle.loft_lex.specs.Symbol.{Symbol, Named as NamedWhat, Keyword, Mark}
 use Rattle.loft_tree.specs.declared.kinds.Control.{Control}
 use Rattle.loft_tree.specs.declared.kinds.Control.TheVariants as c
-use Rattle.loft_tree.specs.Source.{Ident, Expression, Creation, Statement, Assign, AssignCreate, Create, PrintText, PrintValue, Cooperate, Generate, Await, Select, Get, Join, ControlThread, Broadcast, Link, Unlink, Run, Halt}
+use Rattle.loft_tree.specs.Source.{Ident, EventName, Expression, Creation, Statement, Assign, AssignCreate, Create, PrintText, PrintValue, Cooperate, Generate, Await, Select, Get, Join, ControlThread, Broadcast, Link, Unlink, Run, Halt}
 use Rattle.loft_tree.specs.Fits.{Each, IfThere, ExpressionFits, ArgumentsFit, CreationFits, ChoicesFit, size_of}
 use Rattle.loft_form.specs.Form.{◌▹◌, ◌∣◌, maybe, many, counted, fresh, made}
 use Rattle.loft_form.specs.Reading.{paid}
@@ -16,11 +16,11 @@ use Rattle.loft_parse.specs.declared.counts.Counts.{Counts}
 use Rattle.loft_parse.specs.Counts.{put}
 use Rattle.loft_parse.specs.Grammar
 use Rattle.loft_parse.specs.Grammar.{Form, further, whole, begins_with, opens_with, creation, behind_comma, time_limit, assigned, assignment, printed, print, create, cooperate, generate, await_event, choice, choices, select, get, join, control, broadcast, link, unlink, run, halt, value_statement, event_statement, thread_statement, moving_statement, statement}
-use Rattle.loft_show.specs.Canon.{Piece, piece, space, tight, spaced, word, sign, name, expression_pieces, name_pieces, further_pieces, creation_pieces, control_word, comma_part, for_part, behind, statement_lines}
-use Rattle.loft_show.specs.Places.{bare_name, bare_value, bare_creation, bare_statement}
+use Rattle.loft_show.specs.Canon.{Piece, piece, space, tight, spaced, word, sign, name, expression_pieces, event_pieces, further_pieces, creation_pieces, control_word, comma_part, for_part, behind, statement_lines}
+use Rattle.loft_show.specs.Places.{bare_name, bare_event, bare_value, bare_creation, bare_statement}
 use Rattle.loft_show.proofs.reads.Spelling as spelling
 use Rattle.loft_show.proofs.reads.Spelling.{bare, syms, line_pieces, Is, spelled_as}
-use Rattle.loft_show.proofs.reads.Parts.{After, after_then, Part, joined, ◌then◌, left, right, some, none, built, grouped, word_is, sign_is, word_place_is, name_is, text_is, whole_is, arguments_are, CountsOne, further_are, inner_choice}
+use Rattle.loft_show.proofs.reads.Parts.{After, after_then, Part, joined, ◌then◌, left, right, some, none, built, grouped, word_is, sign_is, word_place_is, name_is, event_is, text_is, whole_is, arguments_are, CountsOne, further_are, inner_choice}
 
 -- ---- parts of statements
 
@@ -114,54 +114,54 @@ pub print_value_is : (n k at : ℕ) (e : Expression) → ExpressionFits n e → 
 unfolding statement value_statement print printed
 print_value_is n k at e fits = on_line (first_of (second_of (first_of (making (begun w.Print before right (built (whole_is e space fits)) then semicolon)))))
 
-pub generate_is : (n k at : ℕ) (event : Ident) (e : Option Expression) → IfThere (ExpressionFits n) e → StatementIs n (Generate at event e) k
+pub generate_is : (n k at : ℕ) (event : EventName) (e : Option Expression) → IfThere (ExpressionFits n) e → StatementIs n (Generate at event e) k
 unfolding statement event_statement generate
-generate_is n k at event e fits = on_line (second_of (first_of (first_of (making (begun w.Generate before name_is event then comma_is e fits then semicolon)))))
+generate_is n k at event e fits = on_line (second_of (first_of (first_of (making (begun w.Generate before event_is event then comma_is e fits then semicolon)))))
 
-pub await_is : (n k at : ℕ) (event : Ident) (e : Option Expression) → IfThere (ExpressionFits n) e → StatementIs n (Await at event e) k
+pub await_is : (n k at : ℕ) (event : EventName) (e : Option Expression) → IfThere (ExpressionFits n) e → StatementIs n (Await at event e) k
 unfolding statement event_statement await_event
-await_is n k at event e fits = on_line (second_of (first_of (second_of (first_of (making (begun w.Await before name_is event then for_is e fits then semicolon))))))
+await_is n k at event e fits = on_line (second_of (first_of (second_of (first_of (making (begun w.Await before event_is event then for_is e fits then semicolon))))))
 
-choice_counts : (n : ℕ) (x : Ident) → CountsOne count.Choice n choice name_pieces bare_name x
+choice_counts : (n : ℕ) (x : EventName) → CountsOne count.Choice n choice event_pieces bare_event x
 unfolding choice
-choice_counts n x gap = record { at = λ c few. (put count.Choice (c.choices + 1) c, omega arith, refl, spelling.counted_name_is c count.Choice x few) }
+choice_counts n x gap = record { at = λ c few. (put count.Choice (c.choices + 1) c, omega arith, refl, spelling.counted_event_is c count.Choice x few) }
 
-choices_count : (n : ℕ) (xs : List Ident) → Each (CountsOne count.Choice n choice name_pieces bare_name) xs
+choices_count : (n : ℕ) (xs : List EventName) → Each (CountsOne count.Choice n choice event_pieces bare_event) xs
 choices_count n [] = tt
 choices_count n (x ∷ xs) = (choice_counts n x, choices_count n xs)
 
 -- a name, a comma, a name and the others
-choices_spelled : {n : ℕ} {xs ys zs : List Symbol} {x y : Ident} {others : List Ident} {c d e g : Counts} → Is n choice xs (paid c) x (paid d) → Is n choice ys (paid d) y (paid e) → Is n (many (further choice)) zs (paid e) others (paid g)
+choices_spelled : {n : ℕ} {xs ys zs : List Symbol} {x y : EventName} {others : List EventName} {c d e g : Counts} → Is n choice xs (paid c) x (paid d) → Is n choice ys (paid d) y (paid e) → Is n (many (further choice)) zs (paid e) others (paid g)
     → Is n choices (xs ++ ((bare (Mark s.Comma) ∷ ys) ++ zs)) (paid c) (x ∷ y ∷ others) (paid g)
 unfolding choices
 choices_spelled {d} p q r = spelling.built (spelling.◌then◌ p (spelling.◌then◌ (spelling.built (spelling.◌then◌ (spelling.sign_is d s.Comma) q)) r))
 
-choices_are : {n : ℕ} (x y : Ident) (zs : List Ident) → length zs + 2 ≤ 8 → Part n (fresh count.Choice choices) (spaced (name x) ∷ further_pieces name_pieces (y ∷ zs)) (bare_name x ∷ bare_name y ∷ map bare_name zs)
+choices_are : {n : ℕ} (x y : EventName) (zs : List EventName) → length zs + 2 ≤ 8 → Part n (fresh count.Choice choices) (spaced (name x.name) ∷ further_pieces event_pieces (y ∷ zs)) (bare_event x ∷ bare_event y ∷ map bare_event zs)
 choices_are {n} x y zs few = record {
   at = λ c. (
       let (d, after, one, first) = (choice_counts n x space).at (put count.Choice 0 c) (omega arith) in
       let (e, again, two, second) = (choice_counts n y space).at d (omega (arith, one)) in
-      let (g, last, others) = further_are count.Choice n choice name_pieces bare_name zs (choices_count n zs) e (omega (arith, one, two)) in
+      let (g, last, others) = further_are count.Choice n choice event_pieces bare_event zs (choices_count n zs) e (omega (arith, one, two)) in
       (g, after_then 0 0 0 c d g (inner_choice.stays c d after) (after_then 0 0 0 d e g again last (omega arith)) (omega arith), spelling.afresh {d = paid g} (choices_spelled first second others)));
 }
 
-pub select_is : (n k at : ℕ) (events : List Ident) (e : Option Expression) → ChoicesFit events → IfThere (ExpressionFits n) e → StatementIs n (Select at events e) k
+pub select_is : (n k at : ℕ) (events : List EventName) (e : Option Expression) → ChoicesFit events → IfThere (ExpressionFits n) e → StatementIs n (Select at events e) k
 unfolding statement event_statement select
 select_is n k at [] e several fits = absurd (let h = several.several in omega arith)
 select_is n k at (x ∷ []) e several fits = absurd (let h = several.several in omega arith)
 select_is n k at (x ∷ y ∷ zs) e several fits =
     let few : length zs + 2 ≤ 8 = (let h = several.few in omega arith) in
-    on_line (second_of (first_of (second_of (second_of (first_of (making (begun w.Select before grouped (spaced (name x) ∷ further_pieces name_pieces (y ∷ zs)) (for_part e) (tight (sign s.Semicolon) ∷ []) (choices_are x y zs few then for_is e fits then semicolon))))))))
+    on_line (second_of (first_of (second_of (second_of (first_of (making (begun w.Select before grouped (spaced (name x.name) ∷ further_pieces event_pieces (y ∷ zs)) (for_part e) (tight (sign s.Semicolon) ∷ []) (choices_are x y zs few then for_is e fits then semicolon))))))))
 
-pub get_is : (n k at : ℕ) (event : Ident) (e : Expression) (target : Ident) → ExpressionFits n e → StatementIs n (Get at event e target) k
+pub get_is : (n k at : ℕ) (event : EventName) (e : Expression) (target : Ident) → ExpressionFits n e → StatementIs n (Get at event e target) k
 unfolding statement event_statement get
 get_is n k at event e target fits =
-    on_line (second_of (first_of (second_of (second_of (second_of (first_of (making (begun w.Get before name_is event then word_is w.At then
+    on_line (second_of (first_of (second_of (second_of (second_of (first_of (making (begun w.Get before event_is event then word_is w.At then
     grouped (expression_pieces e space) (spaced (word w.Into) ∷ spaced (name target) ∷ []) (tight (sign s.Semicolon) ∷ []) (whole_is e space fits then word_is w.Into then name_is target then semicolon)))))))))
 
-pub broadcast_is : (n k at : ℕ) (event : Ident) (e : Option Expression) → IfThere (ExpressionFits n) e → StatementIs n (Broadcast at event e) k
+pub broadcast_is : (n k at : ℕ) (event : EventName) (e : Option Expression) → IfThere (ExpressionFits n) e → StatementIs n (Broadcast at event e) k
 unfolding statement event_statement broadcast
-broadcast_is n k at event e fits = on_line (second_of (first_of (second_of (second_of (second_of (second_of (making (begun w.Broadcast before name_is event then comma_is e fits then semicolon))))))))
+broadcast_is n k at event e fits = on_line (second_of (first_of (second_of (second_of (second_of (second_of (making (begun w.Broadcast before event_is event then comma_is e fits then semicolon))))))))
 
 pub cooperate_is : (n k at : ℕ) (e : Option Expression) → IfThere (ExpressionFits n) e → StatementIs n (Cooperate at e) k
 unfolding statement thread_statement cooperate

@@ -1,52 +1,57 @@
-use Rattle.std.proofs.Common.{◌≡◌, ◌∙◌, sym, ap, subst, ℕ, List, Option, Err}
-use Rattle.loft_tree.specs.View.{source_of}
-use Rattle.loft_app.specs.declared.app.Status.{Status}
-use Rattle.loft_app.specs.declared.source.Unread.{Unread}
-use Rattle.loft_app.specs.Command.{Command, Run, Show, Check, file_of}
-use Rattle.loft_app.specs.Asked.{command_of}
-use Rattle.loft_app.specs.Endings.{status_of}
-use Rattle.loft_app.specs.Answer.{Answers}
-use Rattle.loft_app.proofs.AnswerLemmas.{tells_file_fault, refuses_fault, showed}
+use Rattle.std.proofs.Common.{◌≡◌, ◌∙◌, ap, subst, Err, Result, inl, inr, refl}
+use Rattle.loft_app.specs.declared.refusal.Stopped.{Stopped}
+use Rattle.loft_app.specs.declared.refusal.Stopped.TheVariants as stopped
+use Rattle.loft_app.specs.declared.status.Status.TheVariants as status
+use Rattle.loft_app.specs.Command.{file_of}
+use Rattle.loft_app.specs.CommandView.{command_of}
+use Rattle.loft_app.specs.Answer.{Attempts}
+use Rattle.loft_app.proofs.AnswerLemmas.{done_answers, broken_answers, file_answers, refused_answers}
 use Rattle.loft_app.proofs.app.answer.Goals as goal
 
-pub returns-in-Err-Failed-clause-answers : goal.returns-in-Err-Failed-clause-answers
-returns-in-Err-Failed-clause-answers g c =
-    tells_file_fault (command_of c.args.asked) (g.F.Files.contents c.args.files.now (file_of (command_of c.args.asked))) c.tell.result
-    (g.S.Sink.written c.args.sink.now) (g.S.Sink.written c.tell.new.sink) c.tell.ensures.told
-    (λ e. c.tell.ensures.written e (λ n. cc)) (λ e. c.tell.ensures.cut (λ n. cc) e)
+pub returns-in-Ok-clause-answers : goal.returns-in-Ok-clause-answers
+returns-in-Ok-clause-answers g c =
+    let known = g.F.Files.contents c.args.files.now (file_of (command_of c.args.command)) in
+    done_answers (g.F.Files.faults c.args.files.now) (g.F.Files.faults c.attempt.new.files)
+    (record {
+      one = c.texts_are_decided.ensures.one;
+      texts = c.texts_are_decided.ensures.never_both;
+      names = c.names_are_decided.ensures.never_both;
+      links = λ n e placed. c.links_are_decided.ensures.placed n placed e;
+    })
+    (subst (λ (r : Result (Unit {0}) Stopped). Attempts (command_of c.args.command) known r (g.S.Sink.written c.args.sink.now) (g.S.Sink.written c.attempt.new.sink)) c.in-Ok.is c.attempt.ensures.attempts)
 
-pub returns-in-Err-Source-clause-answers : goal.returns-in-Err-Source-clause-answers
-returns-in-Err-Source-clause-answers g c =
-    let told : List ℕ → Option (List ℕ) = λ file. g.F.Files.contents c.args.files.now file in
-    let same : told c.file.result.now ≡ told (file_of (command_of c.args.asked)) = ap told c.file.ensures in
-    refuses_fault (command_of c.args.asked) (told (file_of (command_of c.args.asked))) c.refuse_source.result (g.S.Sink.written c.args.sink.now) (g.S.Sink.written c.refuse_source.new.sink) c.in-Err-Source.fault
-    (λ contents t. c.in-Err-Source.ensures.source contents c.in-Err-Source.fault (same ∙ t) (ap (λ (u : Unread). Err u) c.in-Err-Source.field-0-is))
-    c.refuse_source.ensures.told c.refuse_source.ensures.written c.refuse_source.ensures.cut c.refuse_source.ensures.no_memory
+pub returns-in-Err-Refused-clause-answers : goal.returns-in-Err-Refused-clause-answers
+returns-in-Err-Refused-clause-answers g c =
+    let known = g.F.Files.contents c.args.files.now (file_of (command_of c.args.command)) in
+    let is : c.attempt.result ≡ Err (stopped.Refused c.in-Err-Refused.refusal) = c.in-Err-Refused.is ∙ ap (λ (s : Stopped). Err s) c.in-Err-Refused.field-0-is in
+    refused_answers {known = known} c.refuse.result (g.S.Sink.written c.refuse.new.sink) (g.F.Files.faults c.args.files.now) (g.F.Files.faults c.attempt.new.files)
+    (record {
+      one = c.texts_are_decided.ensures.one;
+      texts = c.texts_are_decided.ensures.never_both;
+      names = c.names_are_decided.ensures.never_both;
+      links = λ n e placed. c.links_are_decided.ensures.placed n placed e;
+    })
+    (subst (λ (r : Result (Unit {0}) Stopped). Attempts (command_of c.args.command) known r (g.S.Sink.written c.args.sink.now) (g.S.Sink.written c.attempt.new.sink)) is c.attempt.ensures.attempts)
+    c.refuse.ensures.told c.refuse.ensures.written c.refuse.ensures.cut c.refuse.ensures.no_memory
 
-pub returns-in-Run-clause-answers : goal.returns-in-Run-clause-answers
-returns-in-Run-clause-answers g c =
-    let told : List ℕ → Option (List ℕ) = λ file. g.F.Files.contents c.args.files.now file in
-    let same : told c.file.result.now ≡ told (file_of (command_of c.args.asked)) = ap told c.file.ensures in
-    let is : command_of c.args.asked ≡ Run c.in-Run.field-0.now = ap command_of c.in-Run.is in
-    subst (λ (k : Command). Answers k (told (file_of (command_of c.args.asked))) c.run_source.result (g.S.Sink.written c.args.sink.now) (g.S.Sink.written c.run_source.new.sink)) (sym is)
-    (c.run_source.ensures.answers c.in-Run.field-0.now (told (file_of (command_of c.args.asked))) (λ contents t. c.in-Ok.ensures.program contents (same ∙ t)))
+pub returns-in-Err-FileFault-clause-answers : goal.returns-in-Err-FileFault-clause-answers
+returns-in-Err-FileFault-clause-answers g c =
+    let known = g.F.Files.contents c.args.files.now (file_of (command_of c.args.command)) in
+    let is : c.attempt.result ≡ Err stopped.FileFault = c.in-Err-FileFault.is ∙ ap (λ (s : Stopped). Err s) c.in-Err-FileFault.field-0-is in
+    file_answers (command_of c.args.command) known c.tell.result (g.S.Sink.written c.args.sink.now) (g.S.Sink.written c.attempt.new.sink) (g.S.Sink.written c.tell.new.sink)
+    (g.F.Files.faults c.args.files.now) (g.F.Files.faults c.attempt.new.files) (c.attempt.ensures.attempts.no_file is) (c.attempt.ensures.file_fault is)
+    c.tell.ensures.told (λ e. c.tell.ensures.written e (λ n. cc)) (λ e. c.tell.ensures.cut (λ n. cc) e)
 
-pub returns-in-Check-clause-answers : goal.returns-in-Check-clause-answers
-returns-in-Check-clause-answers g c =
-    let told : List ℕ → Option (List ℕ) = λ file. g.F.Files.contents c.args.files.now file in
-    let same : told c.file.result.now ≡ told (file_of (command_of c.args.asked)) = ap told c.file.ensures in
-    let is : command_of c.args.asked ≡ Check c.in-Check.field-0.now = ap command_of c.in-Check.is in
-    subst (λ (k : Command). Answers k (told (file_of (command_of c.args.asked))) c.check_source.result (g.S.Sink.written c.args.sink.now) (g.S.Sink.written c.check_source.new.sink)) (sym is)
-    (c.check_source.ensures.answers c.in-Check.field-0.now (told (file_of (command_of c.args.asked))) (λ contents t. c.in-Ok.ensures.program contents (same ∙ t)))
+pub returns-in-Err-SinkFault-clause-answers : goal.returns-in-Err-SinkFault-clause-answers
+returns-in-Err-SinkFault-clause-answers g c =
+    let known = g.F.Files.contents c.args.files.now (file_of (command_of c.args.command)) in
+    let is : c.attempt.result ≡ Err stopped.SinkFault = c.in-Err-SinkFault.is ∙ ap (λ (s : Stopped). Err s) c.in-Err-SinkFault.field-0-is in
+    broken_answers (command_of c.args.command) known status.SinkFault (g.S.Sink.written c.args.sink.now) (g.S.Sink.written c.attempt.new.sink)
+    (g.F.Files.faults c.args.files.now) (g.F.Files.faults c.attempt.new.files) (inl refl) (λ contents k. c.attempt.ensures.attempts.cut contents k (inl is))
 
-pub returns-in-Show-clause-answers : goal.returns-in-Show-clause-answers
-returns-in-Show-clause-answers g c =
-    let told : List ℕ → Option (List ℕ) = λ file. g.F.Files.contents c.args.files.now file in
-    let same : told c.file.result.now ≡ told (file_of (command_of c.args.asked)) = ap told c.file.ensures in
-    let old = g.S.Sink.written c.args.sink.now in
-    let new = g.S.Sink.written c.show_program.new.sink in
-    let is : command_of c.args.asked ≡ Show c.in-Show.field-0.now = ap command_of c.in-Show.is in
-    let made = showed c.in-Show.field-0.now (told (file_of (command_of c.args.asked))) c.show_program.result old new (source_of c.in-Ok.program)
-    (λ contents t. c.in-Ok.ensures.program contents (same ∙ t)) c.show_program.ensures.canon c.show_program.ensures.failed in
-    subst (λ (end : Status). Answers (command_of c.args.asked) (told (file_of (command_of c.args.asked))) end old new) (sym c.ended.ensures)
-    (subst (λ (k : Command). Answers k (told (file_of (command_of c.args.asked))) (status_of c.show_program.result) old new) (sym is) made)
+pub returns-in-Err-NoMemory-clause-answers : goal.returns-in-Err-NoMemory-clause-answers
+returns-in-Err-NoMemory-clause-answers g c =
+    let known = g.F.Files.contents c.args.files.now (file_of (command_of c.args.command)) in
+    let is : c.attempt.result ≡ Err stopped.NoMemory = c.in-Err-NoMemory.is ∙ ap (λ (s : Stopped). Err s) c.in-Err-NoMemory.field-0-is in
+    broken_answers (command_of c.args.command) known status.NoMemory (g.S.Sink.written c.args.sink.now) (g.S.Sink.written c.attempt.new.sink)
+    (g.F.Files.faults c.args.files.now) (g.F.Files.faults c.attempt.new.files) (inr refl) (λ contents k. c.attempt.ensures.attempts.cut contents k (inr is))

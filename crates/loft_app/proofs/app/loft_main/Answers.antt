@@ -1,49 +1,44 @@
 use Rattle.std.proofs.Common.{◌≡◌, ◌++◌, ◌∷◌, [], refl, List, ℕ, Some}
 use Rattle.std.specs.Prelude.{codes}
 use Rattle.loft_app.specs.Command.{file_of}
-use Rattle.loft_app.specs.Written.{Appends, IsLine, IsFirstPart}
-use Rattle.loft_app.specs.Refusals.{IsRefusal}
+use Rattle.loft_app.specs.Written.{Appends, IsLine, IsPrefix}
+use Rattle.loft_app.specs.Refusals.{Refuses, IsRefusal}
+use Rattle.loft_app.specs.Status.{IsRefused}
 use Rattle.loft_app.specs.Promise.{IsAnswer}
 use Rattle.loft_app.specs.Answer.{IsText}
-use Rattle.loft_app.proofs.PromiseLemmas.{appends, begun, of_command}
+use Rattle.loft_app.proofs.Written.{appends, begun, of_command}
 use Rattle.loft_app.proofs.app.loft_main.Goals as goal
 
-pub returns-in-Some-clause-run : goal.returns-in-Some-clause-run
-returns-in-Some-clause-run g c = λ name contents is told done.
+pub returns-in-Some-clause-done : goal.returns-in-Some-clause-done
+returns-in-Some-clause-done g c = λ k contents is known done.
     of_command (λ k. g.F.Files.contents c.args.files.now (file_of k) ≡ Some contents
     → Appends (g.S.Sink.written c.args.sink.now) (g.S.Sink.written c.answer.new.sink) (IsAnswer k contents))
-    c.in-Some.ensures is (λ t. c.answer.ensures.answers.done contents t done) told
-
-pub returns-in-Some-clause-show : goal.returns-in-Some-clause-show
-returns-in-Some-clause-show g c = λ name contents is told done.
-    of_command (λ k. g.F.Files.contents c.args.files.now (file_of k) ≡ Some contents
-    → Appends (g.S.Sink.written c.args.sink.now) (g.S.Sink.written c.answer.new.sink) (IsAnswer k contents))
-    c.in-Some.ensures is (λ t. c.answer.ensures.answers.done contents t done) told
-
-pub returns-in-Some-clause-check : goal.returns-in-Some-clause-check
-returns-in-Some-clause-check g c = λ name contents is told done.
-    of_command (λ k. g.F.Files.contents c.args.files.now (file_of k) ≡ Some contents
-    → Appends (g.S.Sink.written c.args.sink.now) (g.S.Sink.written c.answer.new.sink) (IsAnswer k contents))
-    c.in-Some.ensures is (λ t. c.answer.ensures.answers.done contents t done) told
+    c.in-Some.ensures is (λ t. c.answer.ensures.answers.done contents t done) known
 
 pub returns-in-Some-clause-source : goal.returns-in-Some-clause-source
-returns-in-Some-clause-source g c = λ k contents is told source.
+returns-in-Some-clause-source g c = λ k contents is known source.
     of_command (λ k. g.F.Files.contents c.args.files.now (file_of k) ≡ Some contents
     → Appends (g.S.Sink.written c.args.sink.now) (g.S.Sink.written c.answer.new.sink) (IsRefusal k contents))
-    c.in-Some.ensures is (λ t. c.answer.ensures.answers.source contents t source) told
+    c.in-Some.ensures is (λ t. c.answer.ensures.answers.source contents t source) known
 
-pub returns-in-Some-clause-first_part : goal.returns-in-Some-clause-first_part
-returns-in-Some-clause-first_part g c = λ k contents is told cut.
+pub returns-in-Some-clause-refused : goal.returns-in-Some-clause-refused
+returns-in-Some-clause-refused g c = λ k contents line is known refuses.
+    of_command (λ k. g.F.Files.contents c.args.files.now (file_of k) ≡ Some contents → Refuses k contents line → IsRefused c.answer.result)
+    c.in-Some.ensures is (λ t r. c.answer.ensures.answers.refused contents line t r) known refuses
+
+pub returns-in-Some-clause-prefix : goal.returns-in-Some-clause-prefix
+returns-in-Some-clause-prefix g c = λ k contents is known cut.
     of_command (λ k. g.F.Files.contents c.args.files.now (file_of k) ≡ Some contents
-    → Appends (g.S.Sink.written c.args.sink.now) (g.S.Sink.written c.answer.new.sink) (IsFirstPart (IsText k contents)))
-    c.in-Some.ensures is (λ t. c.answer.ensures.answers.first_part contents t cut) told
+    → Appends (g.S.Sink.written c.args.sink.now) (g.S.Sink.written c.answer.new.sink)
+    (IsPrefix (IsText k contents (g.F.Files.faults c.args.files.now) (g.F.Files.faults c.answer.new.files))))
+    c.in-Some.ensures is (λ t. c.answer.ensures.answers.prefix contents t cut) known
 
 pub returns-in-None-clause-usage_line : goal.returns-in-None-clause-usage_line
 returns-in-None-clause-usage_line g c = λ is_usage.
     let line : List ℕ = codes "loft: usage" in
     appends {P = IsLine line} (line ++ 10 ∷ []) (c.tell.ensures.written is_usage (λ e. cc)) refl
 
-pub returns-in-None-clause-usage_part : goal.returns-in-None-clause-usage_part
-returns-in-None-clause-usage_part g c = λ none cut.
+pub returns-in-None-clause-usage_prefix : goal.returns-in-None-clause-usage_prefix
+returns-in-None-clause-usage_prefix g c = λ none cut.
     let line : List ℕ = codes "loft: usage" in
     begun (IsLine line) (line ++ 10 ∷ []) (c.tell.ensures.cut (λ e. cc) cut) refl

@@ -1,6 +1,6 @@
 use Rattle.std.proofs.Common.{◌≡◌, ◌++◌, ◌≤◌, length, take, drop, rules, arith, inr, sym, ◌∙◌}
 use Rattle.std.proofs.lemmas.List.{take_at}
-use Rattle.loft_base.proofs.Reading.{told-front-part}
+use Rattle.loft_base.proofs.Reading.{known-front-part}
 use Rattle.loft_base.proofs.whole.read_whole.Goals as goal
 
 pub loop-whole-preserved : goal.loop-whole-preserved
@@ -15,7 +15,7 @@ loop-whole-preserved g c =
       within = omega arith;
       read = search rules;
       buffer = search rules;
-      whole = rw (c.in_ok-count.ensures.same_contents, c.in_ok-extend_from_slice.ensures.items, c.deref.ensures.value, buffer) (told-front-part _ _ _ _ _ c.loop-whole.invariant.whole c.in_ok-count.ensures.bytes fits);
+      whole = rw (c.in_ok-count.ensures.same_contents, c.in_ok-extend_from_slice.ensures.items, c.deref.ensures.value, buffer) (known-front-part _ _ _ _ _ c.loop-whole.invariant.whole c.in_ok-count.ensures.bytes fits);
       never_falls = search rules;
       no_fault = λ sure. c.in_ok-count.ensures.no_fault (rw c.loop-whole.invariant.same_sure sure) ∙ c.loop-whole.invariant.no_fault sure;
       same_contents = c.in_ok-count.ensures.same_contents ∙ c.loop-whole.invariant.same_contents;

@@ -1,4 +1,5 @@
 use Rattle.std.proofs.Common.{◌≡◌, ◌-◌, ◌≤◌, vec_len, IfSome, IsTrue}
+use Rattle.loft_base.specs.declared.whole.TheConstants.{PART}
 use Rattle.loft_base.specs.Outside.{IsNextPlace}
 use Rattle.loft_base.proofs.Reading.{IsFront}
 use Rattle.loft_base.proofs.whole.read_whole.Given as goal
@@ -9,7 +10,7 @@ invariant-loop-whole g l = record {
   place : IsNextPlace l.at (g.F.Files.place l.files);
   within : l.at ≤ l.limit;
   read : vec_len l.whole ≡ l.at;
-  buffer : vec_len l.buffer ≡ 16384;
+  buffer : vec_len l.buffer ≡ PART;
   whole : IfSome (g.F.Files.contents l.files l.name) (IsFront l.whole.items l.at);
   never_falls : g.F.Files.faults l.initial.files ≤ g.F.Files.faults l.files;
   no_fault : IsTrue (g.F.Files.never_fails l.initial.files l.name) → g.F.Files.faults l.files ≡ g.F.Files.faults l.initial.files;

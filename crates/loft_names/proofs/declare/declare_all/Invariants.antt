@@ -5,7 +5,7 @@ use Rattle.loft_names.specs.Scopes.{declared, declared_from}
 use Rattle.loft_names.proofs.Declaring.{Remains}
 use Rattle.loft_names.proofs.declare.declare_all.Given as goal
 
--- what is left is declared behind, and can be numbered
+-- what is left is declared after, and can be numbered
 abbrev pub invariant-loop-item : goal.invariant-loop-item
 invariant-loop-item l = record {
   room : HasRoom l.sofar (length l.items - l.item-index);

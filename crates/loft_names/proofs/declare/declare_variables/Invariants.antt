@@ -4,7 +4,7 @@ use Rattle.loft_names.specs.Scopes.{variables}
 use Rattle.loft_names.proofs.Declaring.{Remains}
 use Rattle.loft_names.proofs.declare.declare_variables.Given as goal
 
--- the variables that are left come behind
+-- the variables that are left come after
 abbrev pub invariant-loop-variable : goal.invariant-loop-variable
 invariant-loop-variable l = record {
   number : l.number ≡ l.from + l.variable-index;

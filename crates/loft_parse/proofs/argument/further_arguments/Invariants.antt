@@ -9,4 +9,4 @@ abbrev pub invariant-all : goal.invariant-all
 invariant-all l = with_front (expressions_of l.arguments) (reads l.deeper (many (further argument)) l.at) ≡ with_front (expressions_of l.fn.arguments) (reads l.deeper (many (further argument)) l.fn.at)
 
 abbrev pub decreases-all : goal.decreases-all
-decreases-all l = length l.at.tokens.now
+decreases-all l = length l.at.symbols.now

@@ -36,4 +36,4 @@ abbrev pub invariant-body-all : goal.invariant-body-all
 invariant-body-all l = with_front (statement_list_of l.statements) (reads l.deeper (many statement) l.at) ≡ reads l.deeper body l.fn.at
 
 abbrev pub decreases-body-all : goal.decreases-body-all
-decreases-body-all l = length l.at.tokens.now
+decreases-body-all l = length l.at.symbols.now

@@ -1,77 +1,53 @@
-use Rattle.std.proofs.Common.{◌≡◌, ◌+◌, ◌*◌, length}
+use Rattle.std.proofs.Common.{◌≡◌, ℕ, ◌+◌, ◌*◌, length}
 use Rattle.loft_form.specs.Form.{many}
 use Rattle.loft_tree.specs.View.{expression_of}
-use Rattle.loft_parse.specs.Grammar.{factor, term, summand, sum, conjunct, conjunction, disjunct, expression}
+use Rattle.loft_parse.specs.Levels.{operation_at, chain_at}
 use Rattle.loft_parse.specs.View.{reads}
+use Rattle.loft_parse.specs.declared.operator.Level.{Level}
+use Rattle.loft_parse.specs.declared.operator.Level.TheVariants.{Product, Sum, Conjunction, Disjunction}
 use Rattle.loft_parse.proofs.Chains.{finish}
 use Rattle.loft_parse.proofs.expression.+expression.Given as goal
 
+-- above what the operands of the level call
+abbrev pub rank : Level → ℕ
+rank Product = 3
+rank Sum = 6
+rank Conjunction = 11
+rank Disjunction = 14
+
 abbrev pub decreases-bracketed : goal.decreases-bracketed
-decreases-bracketed l = 16 * l.deeper + 0
+decreases-bracketed l = 20 * l.deeper + 0
 
 abbrev pub decreases-negated : goal.decreases-negated
-decreases-negated l = 16 * l.deeper + 0
+decreases-negated l = 20 * l.deeper + 0
 
 abbrev pub decreases-inverted : goal.decreases-inverted
-decreases-inverted l = 16 * l.deeper + 0
+decreases-inverted l = 20 * l.deeper + 0
 
 abbrev pub decreases-atom : goal.decreases-atom
-decreases-atom l = 16 * l.deeper + 1
+decreases-atom l = 20 * l.deeper + 1
 
 abbrev pub decreases-unary : goal.decreases-unary
-decreases-unary l = 16 * l.deeper + 2
-
-abbrev pub decreases-factor : goal.decreases-factor
-decreases-factor l = 16 * l.deeper + 3
-
-abbrev pub decreases-term : goal.decreases-term
-decreases-term l = 16 * l.deeper + 4
-
-abbrev pub decreases-summand : goal.decreases-summand
-decreases-summand l = 16 * l.deeper + 5
-
-abbrev pub decreases-sum : goal.decreases-sum
-decreases-sum l = 16 * l.deeper + 6
+decreases-unary l = 20 * l.deeper + 2
 
 abbrev pub decreases-compared : goal.decreases-compared
-decreases-compared l = 16 * l.deeper + 7
+decreases-compared l = 20 * l.deeper + 9
 
 abbrev pub decreases-comparison : goal.decreases-comparison
-decreases-comparison l = 16 * l.deeper + 8
+decreases-comparison l = 20 * l.deeper + 10
 
-abbrev pub decreases-conjunct : goal.decreases-conjunct
-decreases-conjunct l = 16 * l.deeper + 9
+abbrev pub decreases-operand : goal.decreases-operand
+decreases-operand l = 20 * l.deeper + rank l.level
 
-abbrev pub decreases-conjunction : goal.decreases-conjunction
-decreases-conjunction l = 16 * l.deeper + 10
+abbrev pub decreases-operation : goal.decreases-operation
+decreases-operation l = 20 * l.deeper + (rank l.level + 1)
 
-abbrev pub decreases-disjunct : goal.decreases-disjunct
-decreases-disjunct l = 16 * l.deeper + 11
-
-abbrev pub decreases-expression : goal.decreases-expression
-decreases-expression l = 16 * l.deeper + 12
+abbrev pub decreases-chain : goal.decreases-chain
+decreases-chain l = 20 * l.deeper + (rank l.level + 2)
 
 -- what was read of a chain and what is left of it make up the whole
-abbrev pub invariant-term-chain : goal.invariant-term-chain
-invariant-term-chain l = finish (expression_of l.left) (reads l.deeper (many factor) l.at) ≡ reads l.deeper term l.fn.at
+abbrev pub invariant-chain-chain : goal.invariant-chain-chain
+invariant-chain-chain l = finish (expression_of l.left) (reads l.deeper (many (operation_at l.level)) l.at) ≡ reads l.deeper (chain_at l.level) l.fn.at
 
-abbrev pub decreases-term-chain : goal.decreases-term-chain
-decreases-term-chain l = length l.at.tokens.now
-
-abbrev pub invariant-sum-chain : goal.invariant-sum-chain
-invariant-sum-chain l = finish (expression_of l.left) (reads l.deeper (many summand) l.at) ≡ reads l.deeper sum l.fn.at
-
-abbrev pub decreases-sum-chain : goal.decreases-sum-chain
-decreases-sum-chain l = length l.at.tokens.now
-
-abbrev pub invariant-conjunction-chain : goal.invariant-conjunction-chain
-invariant-conjunction-chain l = finish (expression_of l.left) (reads l.deeper (many conjunct) l.at) ≡ reads l.deeper conjunction l.fn.at
-
-abbrev pub decreases-conjunction-chain : goal.decreases-conjunction-chain
-decreases-conjunction-chain l = length l.at.tokens.now
-
-abbrev pub invariant-expression-chain : goal.invariant-expression-chain
-invariant-expression-chain l = finish (expression_of l.left) (reads l.deeper (many disjunct) l.at) ≡ reads l.deeper expression l.fn.at
-
-abbrev pub decreases-expression-chain : goal.decreases-expression-chain
-decreases-expression-chain l = length l.at.tokens.now
+abbrev pub decreases-chain-chain : goal.decreases-chain-chain
+decreases-chain-chain l = length l.at.symbols.now

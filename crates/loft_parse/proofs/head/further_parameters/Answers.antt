@@ -2,7 +2,7 @@ use Rattle.std.proofs.Common.{sym, arith}
 use Rattle.std.proofs.lemmas.Result.{err_from_is_err_and}
 use Rattle.std.proofs.lemmas.List.{length-map, map_push}
 use Rattle.loft_form.proofs.Lists.{list_more, list_fails, list_done}
-use Rattle.loft_form.proofs.Eats.{eaten}
+use Rattle.loft_form.proofs.Progress.{eaten}
 use Rattle.loft_tree.specs.View.{named_of}
 use Rattle.loft_parse.specs.Grammar.{rules, further, parameter}
 use Rattle.loft_parse.specs.Source.{limits}

@@ -9,4 +9,4 @@ abbrev pub invariant-all : goal.invariant-all
 invariant-all l = with_front (variables_of l.parameters) (reads_flat (many (further parameter)) l.at) ≡ with_front (variables_of l.fn.parameters) (reads_flat (many (further parameter)) l.fn.at)
 
 abbrev pub decreases-all : goal.decreases-all
-decreases-all l = length l.at.tokens.now
+decreases-all l = length l.at.symbols.now

@@ -10,4 +10,4 @@ abbrev pub invariant-all : goal.invariant-all
 invariant-all l = with_front (variables_of l.locals) (reads_flat (many local) l.at) ≡ reads_flat (fresh count.Local (many local)) l.fn.at
 
 abbrev pub decreases-all : goal.decreases-all
-decreases-all l = length l.at.tokens.now
+decreases-all l = length l.at.symbols.now

@@ -10,4 +10,4 @@ abbrev pub invariant-all : goal.invariant-all
 invariant-all l = with_front (declarations_of l.items) (reads nesting (many item) l.at) ≡ reads nesting program l.fn.at
 
 abbrev pub decreases-all : goal.decreases-all
-decreases-all l = length l.at.tokens.now
+decreases-all l = length l.at.symbols.now

@@ -10,4 +10,4 @@ abbrev pub invariant-all : goal.invariant-all
 invariant-all l = with_front (orders_of l.orders) (reads_flat (many order) l.at) ≡ reads_flat (fresh count.Order (many order)) l.fn.at
 
 abbrev pub decreases-all : goal.decreases-all
-decreases-all l = length l.at.tokens.now
+decreases-all l = length l.at.symbols.now

@@ -1,8 +1,8 @@
 use Rattle.std.proofs.Common.{map, refl}
 use Rattle.std.proofs.lemmas.Result.{err_from_is_err_and}
 use Rattle.loft_tree.specs.NamedView.{term_of}
-use Rattle.loft_place.specs.Goes.{terms_needs, term_needs}
-use Rattle.loft_place.proofs.NeedLemmas.{first_left, left_behind, unmet_left}
+use Rattle.loft_place.specs.Links.{terms_needs, term_needs}
+use Rattle.loft_place.proofs.NeedLemmas.{first_left, left_after, unmet_left}
 use Rattle.loft_place.proofs.needs.check_terms.Goals as goal
 
 pub returns-in_err-check_term : goal.returns-in_err-check_term
@@ -16,7 +16,7 @@ returns-in_err-check_term c =
 
 pub loop-term-preserved : goal.loop-term-preserved
 loop-term-preserved c =
-    left_behind _ _ _ _
+    left_after _ _ _ _
     (first_left (λ ts. terms_needs c.args.heads.now c.args.here (map term_of ts)) (λ t. term_needs c.args.heads.now c.args.here (term_of t))
     c.args.terms.now c.loop-term.term-index c.term-item.result (λ t ts. refl) c.loop-term-test.true c.term-item.is)
     c.in_ok-check_term.ensures c.loop-term.invariant

@@ -1,6 +1,6 @@
 use Rattle.std.proofs.Common.{drop, map}
 use Rattle.loft_tree.specs.NamedView.{term_of}
-use Rattle.loft_place.specs.Goes.{terms_needs}
+use Rattle.loft_place.specs.Links.{terms_needs}
 use Rattle.loft_place.proofs.Rests.{NeedsLeft}
 use Rattle.loft_place.proofs.needs.check_terms.Given as goal
 

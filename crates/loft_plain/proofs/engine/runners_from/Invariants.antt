@@ -1,6 +1,6 @@
 use Rattle.std.proofs.Common.{◌≡◌, map, take}
 use Rattle.loft_sense.specs.Instant as instant
-use Rattle.loft_plain.specs.Walker.{runner_of, standing_of}
+use Rattle.loft_plain.specs.EngineView.{runner_of, standing_of}
 use Rattle.loft_plain.proofs.engine.runners_from.Given as goal
 
 -- the first of them are there

@@ -1,28 +1,29 @@
-use Rattle.std.proofs.Common.{◌≡◌, ◌++◌, ◌∷◌, ◌-◌, ◌≤◌, ◌<◌, ℕ, [], List, Option, ◌∙◌, ap, sym, refl, length, get_or, take, drop, drop-cons, append_assoc, append-nil, arith}
+use Rattle.std.proofs.Common.{◌≡◌, ◌++◌, ◌∷◌, ◌-◌, ◌≤◌, ◌<◌, ℕ, [], List, Option, ◌∙◌, ap, sym, refl, length, get_or, map, take, drop, drop-cons, append_assoc, append-nil, arith}
 use Rattle.std.proofs.lemmas.Grind.{common_steps}
 use Rattle.std.proofs.lemmas.Result.{on_ok_weaker}
 use Rattle.std.specs.Prelude.{replicate, codes}
 use Rattle.loft_lex.specs.declared.word.Word.TheVariants as w
-use Rattle.loft_tree.specs.Source.{Ident, Expression, Select}
-use Rattle.loft_tree.specs.View.{value_of}
-use Rattle.loft_show.specs.Canon.{Piece, for_part, further_pieces, lines_text, name, name_pieces, pieces_text, spaced, statement_lines, word_line}
-use Rattle.loft_show.proofs.Texts.{pieces_text-append}
+use Rattle.loft_tree.specs.Source.{EventName, Expression, Select}
+use Rattle.loft_tree.specs.View.{event_name_of, value_of}
+use Rattle.loft_tree.specs.declared.statement.EventName.{EventName as EventNameInMemory}
+use Rattle.loft_show.specs.Canon.{Piece, for_part, event_pieces, further_pieces, lines_text, name, pieces_text, spaced, statement_lines, word_line}
+use Rattle.loft_show.proofs.Texts.{further_pieces-map, pieces_text-append}
 use Rattle.loft_show.proofs.simple.put_select.Goals as goal
 use Rattle.loft_show.proofs.simple.put_select.Goals.{in_default, in-len1-up+in_ok-put_name+in_ok-put_further}
 
 -- the events, as they stand behind the word
-choice_pieces : List Ident → List Piece
+choice_pieces : List EventName → List Piece
 choice_pieces [] = []
-choice_pieces (event ∷ events) = spaced (name event) ∷ further_pieces name_pieces events
+choice_pieces (event ∷ events) = spaced (name event.name) ∷ further_pieces event_pieces events
 
-select_lines : (n : ℕ) (events : List Ident) (limit : Option Expression)
+select_lines : (n : ℕ) (events : List EventName) (limit : Option Expression)
     → statement_lines (Select 0 events limit) n ≡ word_line n w.Select (choice_pieces events ++ for_part limit) ∷ []
 unfolding choice_pieces
 select_lines n [] limit = refl
 select_lines n (event ∷ events) limit = refl
 
 -- the line of a `select` in its parts
-select_text : (out : List ℕ) (n : ℕ) (events : List Ident) (limit : Option Expression)
+select_text : (out : List ℕ) (n : ℕ) (events : List EventName) (limit : Option Expression)
     → (((out ++ (replicate n 32 ++ codes "select")) ++ pieces_text (choice_pieces events)) ++ pieces_text (for_part limit)) ++ 59 ∷ 10 ∷ []
     ≡ out ++ lines_text (statement_lines (Select 0 events limit) n)
 select_text out n events limit =
@@ -30,7 +31,7 @@ select_text out n events limit =
     simp append_assoc (ap (λ t. out ++ t) (sym (ap lines_text (select_lines n events limit) ∙ parted)))
 
 -- its parts written one after the other
-select_shown : (old begun chosen limited ended : List ℕ) (n : ℕ) (events : List Ident) (limit : Option Expression)
+select_shown : (old begun chosen limited ended : List ℕ) (n : ℕ) (events : List EventName) (limit : Option Expression)
     → begun ≡ old ++ (replicate n 32 ++ codes "select") → chosen ≡ begun ++ pieces_text (choice_pieces events)
     → limited ≡ chosen ++ pieces_text (for_part limit) → ended ≡ limited ++ 59 ∷ 10 ∷ []
     → ended ≡ old ++ lines_text (statement_lines (Select 0 events limit) n)
@@ -38,24 +39,25 @@ select_shown old begun chosen limited ended n events limit begins chooses limits
     ends ∙ rw (limits, chooses, begins) (select_text old n events limit)
 
 -- there is no event
-none_chosen : (out : List ℕ) (events : List Ident) → length events < 1 → out ≡ out ++ pieces_text (choice_pieces events)
+none_chosen : (out : List ℕ) (events : List EventNameInMemory) → length events < 1 → out ≡ out ++ pieces_text (choice_pieces (map event_name_of events))
 unfolding choice_pieces
 none_chosen out [] none = sym (append-nil out)
 none_chosen out (event ∷ events) none = absurd (omega arith)
 
--- the first event, and those behind it
-some_chosen : (out : List ℕ) (events : List Ident) (first : Ident) → 1 ≤ length events → first ≡ get_or events 0 first
-    → (out ++ (32 ∷ first.text)) ++ pieces_text (further_pieces name_pieces (take (length events - 1) (drop 1 events))) ≡ out ++ pieces_text (choice_pieces events)
+-- the first event, and those after it
+some_chosen : (out : List ℕ) (events : List EventNameInMemory) (first : EventNameInMemory) → 1 ≤ length events → first ≡ get_or events 0 first
+    → (out ++ (32 ∷ first.name.text)) ++ pieces_text (further_pieces (λ e. event_pieces (event_name_of e)) (take (length events - 1) (drop 1 events))) ≡ out ++ pieces_text (choice_pieces (map event_name_of events))
 unfolding choice_pieces
 some_chosen out events first some is =
     let behind : take (length events - 1) (drop 1 events) ≡ drop 1 events = grind (arith, common_steps) in
     let split : events ≡ first ∷ drop 1 events = drop-cons events 0 first some ∙ rw (← is) refl in
     append_assoc out _ _
-    ∙ ap (λ es. out ++ (32 ∷ (first.text ++ pieces_text (further_pieces name_pieces es)))) behind
-    ∙ ap (λ es. out ++ pieces_text (choice_pieces es)) (sym split)
+    ∙ ap (λ es. out ++ (32 ∷ (first.name.text ++ pieces_text (further_pieces (λ e. event_pieces (event_name_of e)) es)))) behind
+    ∙ ap (λ ps. out ++ (32 ∷ (first.name.text ++ pieces_text ps))) (sym (further_pieces-map event_pieces event_name_of (drop 1 events)))
+    ∙ ap (λ es. out ++ pieces_text (choice_pieces (map event_name_of es))) (sym split)
 
 -- what the branches leave
-chosen : (c : goal.After-end_statement) → c.if-events-lt1.out.items ≡ c.begin_line.new.out.items ++ pieces_text (choice_pieces c.args.events.now)
+chosen : (c : goal.After-end_statement) → c.if-events-lt1.out.items ≡ c.begin_line.new.out.items ++ pieces_text (choice_pieces (map event_name_of c.args.events.now))
 chosen c = elim c.if-events-lt1.branch [
   | in_default w ↦ rw w.out-is (none_chosen c.begin_line.new.out.items c.args.events.now w.in_default.len_below)
   | in-len1-up+in_ok-put_name+in_ok-put_further w ↦ rw (w.out-is, w.in_ok-put_further.ensures, w.in_ok-put_name.ensures) (some_chosen c.begin_line.new.out.items c.args.events.now w.first-item.result w.in-len1-up.len_at_least w.first-item.is)
@@ -64,5 +66,5 @@ chosen c = elim c.if-events-lt1.branch [
 pub returns : goal.returns
 returns c =
     on_ok_weaker c.end_statement.result
-    (λ ended. select_shown _ _ _ _ _ c.args.indent c.args.events.now (value_of c.args.limit.now) c.in_ok-begin_line.ensures (chosen c) c.in_ok-put_limit_part.ensures ended)
+    (λ ended. select_shown _ _ _ _ _ c.args.indent (map event_name_of c.args.events.now) (value_of c.args.limit.now) c.in_ok-begin_line.ensures (chosen c) c.in_ok-put_limit_part.ensures ended)
     c.end_statement.ensures

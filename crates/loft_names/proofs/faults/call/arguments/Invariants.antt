@@ -5,7 +5,7 @@ use Rattle.loft_names.specs.Faults.{arguments_faults}
 use Rattle.loft_names.specs.Least.{least_of}
 use Rattle.loft_names.proofs.faults.call.arguments.Given as goal
 
--- the faults of those that are left come behind
+-- the faults of those that are left come after
 abbrev pub invariant-loop-i : goal.invariant-loop-i
 invariant-loop-i l =
     least_of l.least (arguments_faults l.table l.scope (drop l.i (kinds_of (map named_of l.parameters))) (map expression_of (drop l.i l.values)))

@@ -4,7 +4,7 @@ use Rattle.loft_names.specs.Faults.{uses_from}
 use Rattle.loft_names.specs.Least.{least_of}
 use Rattle.loft_names.proofs.faults.item.items.Given as goal
 
--- the faults of those that are left come behind
+-- the faults of those that are left come after
 abbrev pub invariant-loop-one : goal.invariant-loop-one
 invariant-loop-one l = record {
   few : l.number ≤ l.one-index;

@@ -5,7 +5,7 @@ use Rattle.loft_names.specs.Faults.{outer_faults}
 use Rattle.loft_names.specs.Least.{least_of}
 use Rattle.loft_names.proofs.faults.order.arguments.Given as goal
 
--- the faults of those that are left come behind
+-- the faults of those that are left come after
 abbrev pub invariant-loop-i : goal.invariant-loop-i
 invariant-loop-i l =
     least_of l.least (outer_faults l.table l.scope (drop l.i (kinds_of (map named_of l.parameters))) (map argument_of (drop l.i l.values)))

@@ -1,13 +1,12 @@
-use Rattle.std.proofs.Common.{subst, arith}
+use Rattle.std.proofs.Common.{subst}
 use Rattle.loft_tree.specs.declared.program.Item.{Item}
-use Rattle.loft_tree.specs.View.{declaration_of, statements_of}
+use Rattle.loft_tree.specs.View.{declaration_of}
 use Rattle.loft_tree.specs.Fits.{DeclarationFits}
 use Rattle.loft_names.proofs.Numbered.{item_fits}
-use Rattle.loft_names.proofs.Sizes.{body_stops-le}
 use Rattle.loft_names.proofs.numbers.module.modules.Goals as goal
 
-pub body-requires : goal.body-requires
-body-requires c =
+pub module-requires : goal.module-requires
+module-requires c =
     let fits = item_fits c.args.items.now c.loop-item.item-index c.item-item.result c.loop-item-test.true c.item-item.is c.requires.fits in
     let module_fits = subst (λ (item : Item). DeclarationFits (declaration_of item)) c.in-Module.is fits in
-    rw c.as_slice.ensures.value (omega (arith, module_fits.few_statements, body_stops-le (statements_of c.in-Module.statements.items)))
+    rw c.as_slice.ensures.value module_fits.few_statements

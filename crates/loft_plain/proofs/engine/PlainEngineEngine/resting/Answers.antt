@@ -1,6 +1,6 @@
 use Rattle.std.proofs.Common.{◌∙◌, sym, ap, List, length}
 use Rattle.std.specs.Prelude.{◌==◌}
-use Rattle.loft_plain.specs.declared.engine.Linked.{Linked}
+use Rattle.loft_plain.specs.declared.thread.Linked.{Linked}
 use Rattle.loft_plain.proofs.RestLemmas.{rests_alone}
 use Rattle.loft_plain.proofs.engine.PlainEngineEngine.resting.Goals as goal
 

@@ -1,0 +1,28 @@
+-- What stops the reading and the placing of a program.
+use Rattle.std.specs.Prelude.{ℕ, List}
+use Rattle.loft_tree.specs.Source.{Source}
+use Rattle.loft_app.specs.declared.refusal.Refusal.{Refusal}
+use Rattle.loft_app.specs.declared.refusal.Refusal.TheVariants as refusal
+use Rattle.loft_app.specs.declared.refusal.Stopped.{Stopped}
+use Rattle.loft_app.specs.declared.refusal.Stopped.TheVariants.{Refused, FileFault, SinkFault, NoMemory}
+use Rattle.loft_app.specs.Refusals.{ContentsFault, IsRefusedFor}
+
+-- there is no program in a file with these contents: they have the fault; out of memory says nothing of them
+abbrev pub IsFault : List ℕ → Stopped → Type 0
+IsFault contents (Refused (refusal.Text e)) = ContentsFault contents e
+IsFault contents (Refused (refusal.Names e)) = ⊥
+IsFault contents (Refused (refusal.Links e schedulers)) = ⊥
+IsFault contents (Refused refusal.NotBuilt) = ⊥
+IsFault contents FileFault = Unit {0}
+IsFault contents SinkFault = ⊥
+IsFault contents NoMemory = Unit {0}
+
+-- the program's names or links are refused; out of memory says nothing of them
+abbrev pub IsUnfit : Source → Stopped → Type 0
+IsUnfit p (Refused (refusal.Text e)) = ⊥
+IsUnfit p (Refused (refusal.Names e)) = IsRefusedFor p (refusal.Names e)
+IsUnfit p (Refused (refusal.Links e schedulers)) = IsRefusedFor p (refusal.Links e schedulers)
+IsUnfit p (Refused refusal.NotBuilt) = ⊥
+IsUnfit p FileFault = ⊥
+IsUnfit p SinkFault = ⊥
+IsUnfit p NoMemory = Unit {0}

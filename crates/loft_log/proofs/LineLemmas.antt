@@ -1,0 +1,11 @@
+-- Lines written one after the other.
+use Rattle.std.proofs.Common.{◌≡◌, ℕ, ◌+◌, ◌<◌, List, ◌∷◌, ◌++◌, length, drop, get_or, drop-cons, [], arith}
+use Rattle.std.proofs.lemmas.Grind.{common_steps, flat_map-append}
+use Rattle.loft_sense.specs.Lines.{text_of}
+
+pub text_of-append : (a b : List (List ℕ)) → text_of (a ++ b) ≡ text_of a ++ text_of b
+text_of-append a b = flat_map-append (λ line. line ++ 10 ∷ []) a b
+
+-- the element at an index, and those after it
+pub drop-at : {A : Type 0} (xs : List A) (i : ℕ) (x : A) → i < length xs → x ≡ get_or xs i x → drop i xs ≡ x ∷ drop (i + 1) xs
+drop-at xs i x below is = grind (arith, common_steps, drop-cons xs i x below)

@@ -1,0 +1,11 @@
+use Rattle.std.proofs.Common.{drop, map}
+use Rattle.loft_sense.specs.Lines.{text_of}
+use Rattle.loft_base.proofs.WritesLemmas.{Going}
+use Rattle.loft_log.proofs.report.ReportWriter.write_lines.Given as goal
+
+-- the items from here on are left
+abbrev pub invariant-loop-item : goal.invariant-loop-item
+invariant-loop-item g l =
+    Going (g.S.Sink.written l.initial.sink) (g.S.Sink.written l.sink) (g.S.Sink.faults l.initial.sink) (g.S.Sink.faults l.sink)
+    (text_of (map (g.T.InOneLine.line l.self.heads.now) (drop l.item-index l.items)))
+    (text_of (map (g.T.InOneLine.line l.self.heads.now) l.items))

@@ -1,0 +1,108 @@
+//! The texts of orders: each function appends one to a line.
+
+ghost use Rattle.std.specs.Prelude.{◌≡◌, ◌++◌, OnOk, codes};
+ghost use Rattle.loft_sense.specs.Text.{space, separated, module_name, event_name, id_text, value_text, end_text, sent_value, order_text};
+
+use super::line::LineBuffer;
+use super::text::{push_end, push_event_name, push_id, push_module_name, push_separated};
+use super::thread_text::push_thread;
+use loft_base::{EventId, ModuleId, NoMemory, ThreadId, Value};
+use loft_sense::{End, Order};
+use loft_tree::Heads;
+
+/// A value after the name of an event, where there is one.
+pub fn push_sent_value(line: &mut LineBuffer, value: Option<i64>) -> Result<(), NoMemory>
+    ensures { OnOk result (line.new ≡ line.old ++ sent_value value) }
+{
+    if let Some(number) = value {
+        line.text(" ")?;
+        line.signed(number)?;
+    }
+    Ok(())
+}
+
+/// A create.
+fn push_create(
+    line: &mut LineBuffer,
+    heads: &Heads,
+    thread: ThreadId,
+    module: ModuleId,
+    args: &[Value],
+) -> Result<(), NoMemory>
+    ensures { OnOk result (line.new ≡ line.old
+        ++ (codes "create " ++ (id_text heads.now thread
+        ++ (space ++ (module_name heads.now «module» ++ (codes "(" ++ (separated (value_text heads.now) args.now ++ codes ")"))))))) }
+{
+    line.text("create ")?;
+    push_id(line, heads, thread)?;
+    line.text(" ")?;
+    push_module_name(line, heads, module)?;
+    line.text("(")?;
+    push_separated(line, heads, args)?;
+    line.text(")")
+}
+
+/// A word, and the name of a thread.
+fn push_word_and_id(
+    line: &mut LineBuffer,
+    heads: &Heads,
+    word: &str,
+    thread: ThreadId,
+) -> Result<(), NoMemory>
+    ensures { OnOk result (line.new ≡ line.old ++ (word.now ++ id_text heads.now thread)) }
+{
+    line.text(word)?;
+    push_id(line, heads, thread)
+}
+
+/// An order.
+pub fn push_order(line: &mut LineBuffer, heads: &Heads, order: &Order) -> Result<(), NoMemory>
+    ensures { OnOk result (line.new ≡ line.old ++ order_text heads.now order.now) }
+{
+    match order {
+        Order::Create {
+            thread,
+            module,
+            args,
+        } => push_create(line, heads, *thread, *module, args.as_slice()),
+        Order::Arrive(thread) => {
+            line.text("arrive ")?;
+            push_thread(line, heads, thread)
+        }
+        Order::Stop(thread) => push_word_and_id(line, heads, "stop ", *thread),
+        Order::Suspend(thread) => push_word_and_id(line, heads, "suspend ", *thread),
+        Order::Resume(thread) => push_word_and_id(line, heads, "resume ", *thread),
+        Order::Broadcast { event, value } => push_broadcast(line, heads, *event, *value),
+        Order::Ended { thread, end } => push_ended(line, heads, *thread, *end),
+    }
+}
+
+/// A broadcast.
+fn push_broadcast(
+    line: &mut LineBuffer,
+    heads: &Heads,
+    event: EventId,
+    value: Option<i64>,
+) -> Result<(), NoMemory>
+    ensures { OnOk result (line.new ≡ line.old
+        ++ (codes "broadcast " ++ (event_name heads.now event ++ sent_value value))) }
+{
+    line.text("broadcast ")?;
+    push_event_name(line, heads, event)?;
+    push_sent_value(line, value)
+}
+
+/// The order that tells of an end.
+fn push_ended(
+    line: &mut LineBuffer,
+    heads: &Heads,
+    thread: ThreadId,
+    end: End,
+) -> Result<(), NoMemory>
+    ensures { OnOk result (line.new ≡ line.old
+        ++ (codes "ended " ++ (id_text heads.now thread ++ (space ++ end_text heads.now end)))) }
+{
+    push_word_and_id(line, heads, "ended ", thread)?;
+    line.text(" ")?;
+    push_end(line, heads, end)
+}

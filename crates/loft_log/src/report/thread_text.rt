@@ -1,0 +1,149 @@
+//! The texts of waits, frames and threads: each function appends one to a line.
+
+ghost use Rattle.std.specs.Prelude.{◌≡◌, ◌++◌, OnOk, codes};
+ghost use Rattle.std.specs.Fmt.{signed_decimal};
+ghost use Rattle.loft_tree.specs.declared.heads.Heads.{Heads};
+ghost use Rattle.loft_sense.specs.declared.thread.Wait.TheVariants.{Events};
+ghost use Rattle.loft_sense.specs.Text.{space, colon, separated, id_text, value_text, left_text, events_word, wait_text, frame_text, thread_text};
+
+use super::line::LineBuffer;
+use super::text::{Item, push_id, push_module_name, push_separated, push_separated_by};
+use loft_base::{EventId, NoMemory, ThreadId, Value};
+use loft_sense::{Frame, Thread, Wait};
+use loft_tree::Heads;
+
+/// The instants that are left of a wait, or a sign that there is no number.
+fn push_left(line: &mut LineBuffer, left: Option<i64>) -> Result<(), NoMemory>
+    ensures { OnOk result (line.new ≡ line.old ++ left_text left) }
+{
+    match left {
+        Some(number) => line.signed(number),
+        None => line.text("-"),
+    }
+}
+
+/// The word of a wait for an event and for these others.
+fn push_events_word(line: &mut LineBuffer, others: &[EventId]) -> Result<(), NoMemory>
+    ensures { OnOk result (line.new ≡ line.old ++ events_word others.now) }
+{
+    match others {
+        [] => line.text("await:"),
+        [_, ..] => line.text("select:"),
+    }
+}
+
+/// A wait for events.
+fn push_events(
+    line: &mut LineBuffer,
+    heads: &Heads,
+    events: &[EventId],
+    left: Option<i64>,
+) -> Result<(), NoMemory>
+    ensures { OnOk result (line.new ≡ line.old ++ wait_text heads.now (Events events.now left)) }
+{
+    let [_, others @ ..] = events else {
+        return Ok(());
+    };
+    push_events_word(line, others)?;
+    push_left(line, left)?;
+    line.text(":")?;
+    push_separated(line, heads, events)
+}
+
+/// A wait for the end of a thread.
+fn push_join(
+    line: &mut LineBuffer,
+    heads: &Heads,
+    thread: ThreadId,
+    left: Option<i64>,
+) -> Result<(), NoMemory>
+    ensures { OnOk result (line.new ≡ line.old
+        ++ (codes "join:" ++ (left_text left ++ (colon ++ id_text heads.now thread)))) }
+{
+    line.text("join:")?;
+    push_left(line, left)?;
+    line.text(":")?;
+    push_id(line, heads, thread)
+}
+
+/// What a thread waits for.
+fn push_wait(line: &mut LineBuffer, heads: &Heads, wait: &Wait) -> Result<(), NoMemory>
+    ensures { OnOk result (line.new ≡ line.old ++ wait_text heads.now wait.now) }
+{
+    match wait {
+        Wait::New => line.text("new"),
+        Wait::Coop(left) => {
+            line.text("coop:")?;
+            line.signed(*left)
+        }
+        Wait::Events { events, left } => push_events(line, heads, events.as_slice(), *left),
+        Wait::Index { .. } => Ok(()),
+        Wait::Next => line.text("next"),
+        Wait::Join { thread, left } => push_join(line, heads, *thread, *left),
+        Wait::Halt => line.text("halt"),
+    }
+}
+
+/// A frame.
+fn push_frame(line: &mut LineBuffer, heads: &Heads, frame: &Frame) -> Result<(), NoMemory>
+    ensures { OnOk result (line.new ≡ line.old ++ frame_text heads.now frame.now) }
+{
+    push_module_name(line, heads, frame.module)?;
+    line.text(":")?;
+    line.number(u64::from(frame.stop))?;
+    push_kept(
+        line,
+        heads,
+        frame.counts.as_slice(),
+        frame.values.as_slice(),
+    )
+}
+
+/// What a frame keeps: its counts and its values.
+fn push_kept(
+    line: &mut LineBuffer,
+    heads: &Heads,
+    counts: &[i64],
+    values: &[Value],
+) -> Result<(), NoMemory>
+    ensures { OnOk result (line.new ≡ line.old
+        ++ (codes "[" ++ (separated signed_decimal counts.now
+        ++ (codes "](" ++ (separated (value_text heads.now) values.now ++ codes ")"))))) }
+{
+    line.text("[")?;
+    push_separated(line, heads, counts)?;
+    line.text("](")?;
+    push_separated(line, heads, values)?;
+    line.text(")")
+}
+
+impl Item for Frame {
+    ghost text = { frame_text };
+
+    fn push_to(&self, line: &mut LineBuffer, heads: &Heads) -> Result<(), NoMemory> {
+        push_frame(line, heads, self)
+    }
+}
+
+/// A thread that waits.
+pub fn push_thread(line: &mut LineBuffer, heads: &Heads, thread: &Thread) -> Result<(), NoMemory>
+    ensures { OnOk result (line.new ≡ line.old ++ thread_text heads.now thread.now) }
+{
+    push_id(line, heads, thread.id)?;
+    push_code_and_mask(line, thread.code, thread.mask)?;
+    line.text(" ")?;
+    push_wait(line, heads, &thread.wait)?;
+    line.text(" ")?;
+    push_separated_by(line, heads, " ", thread.frames.as_slice())
+}
+
+/// The last code and mask of a thread, each after a blank.
+fn push_code_and_mask(line: &mut LineBuffer, code: i64, mask: i64) -> Result<(), NoMemory>
+    ensures { OnOk result (line.new ≡ line.old
+        ++ (space ++ (signed_decimal code ++ (space ++ signed_decimal mask)))) }
+{
+    line.text(" ")?;
+    line.signed(code)?;
+    line.text(" ")?;
+    line.signed(mask)
+}

@@ -1,0 +1,192 @@
+//! Reading statements about events.
+
+ghost use Rattle.loft_tree.specs.View.{event_name_of, statement_of};
+ghost use Rattle.loft_form.specs.Form.{many};
+ghost use Rattle.loft_form.specs.Reading.{Gives};
+ghost use Rattle.loft_parse.specs.Grammar.{counting, event_name, further, generate, await_event, choice, choices, select, get, broadcast, event_statement};
+ghost use Rattle.loft_parse.specs.View.{reads, reads_flat, viewed, with_front, event_names_of};
+
+use crate::counts::Counted;
+use crate::cursor::Cursor;
+use crate::expression::whole;
+use crate::lookahead::{next_is_sign, next_is_word};
+use crate::optional::{optional_limit, optional_value};
+use crate::token::{first_word, name, sign, word};
+use loft_form::Stop;
+use loft_lex::{Sign, Word};
+use loft_tree::{EventName, Stmt};
+use std::alloc::Global;
+
+/// Reads the name of an event.
+#[tactic(auto, using(crate::proofs::Leaves::counting_is))]
+pub fn event_name<'a>(
+    alloc: Global,
+    what: Option<Counted>,
+    at: Cursor<'a>,
+) -> Result<(EventName, Cursor<'a>), Stop>
+    ensures { Gives (viewed event_name_of) result (reads_flat (counting what event_name) at.entry) }
+{
+    let (name, at) = name(alloc, what, at)?;
+    Ok((EventName { name }, at))
+}
+
+#[tactic(auto, unfolding(crate::specs::Grammar::generate), using(loft_tree::proofs::Trees::statements))]
+fn generate<'a>(alloc: Global, deeper: u32, at: Cursor<'a>) -> Result<(Stmt, Cursor<'a>), Stop>
+    ensures { Gives (viewed statement_of) result (reads deeper generate at.entry) }
+{
+    let (place, at) = first_word(Counted::Statement, Word::Generate, at)?;
+    let (event, at) = event_name(alloc, None, at)?;
+    let (value, at) = optional_value(alloc, deeper, at)?;
+    let at = sign(Sign::Semicolon, at)?;
+    Ok((
+        Stmt::Generate {
+            at: place,
+            event,
+            value,
+        },
+        at,
+    ))
+}
+
+#[tactic(auto, unfolding(crate::specs::Grammar::await_event), using(loft_tree::proofs::Trees::statements))]
+fn await_event<'a>(alloc: Global, deeper: u32, at: Cursor<'a>) -> Result<(Stmt, Cursor<'a>), Stop>
+    ensures { Gives (viewed statement_of) result (reads deeper await_event at.entry) }
+{
+    let (place, at) = first_word(Counted::Statement, Word::Await, at)?;
+    let (event, at) = event_name(alloc, None, at)?;
+    let (limit, at) = optional_limit(alloc, deeper, at)?;
+    let at = sign(Sign::Semicolon, at)?;
+    Ok((
+        Stmt::Await {
+            at: place,
+            event,
+            limit,
+        },
+        at,
+    ))
+}
+
+#[tactic(auto, unfolding(crate::specs::Grammar::choice))]
+fn choice<'a>(alloc: Global, at: Cursor<'a>) -> Result<(EventName, Cursor<'a>), Stop>
+    ensures { Gives (viewed event_name_of) result (reads_flat choice at.entry) }
+{
+    event_name(alloc, Some(Counted::Choice), at)
+}
+
+#[tactic(auto, unfolding(crate::specs::Grammar::choice))]
+fn further_choice<'a>(alloc: Global, at: Cursor<'a>) -> Result<(EventName, Cursor<'a>), Stop>
+    ensures { Gives (viewed event_name_of) result (reads_flat (further choice) at.entry) }
+{
+    let at = sign(Sign::Comma, at)?;
+    choice(alloc, at)
+}
+
+/// Reads further events behind these.
+fn further_choices<'a>(
+    alloc: Global,
+    events: Vec<EventName>,
+    at: Cursor<'a>,
+) -> Result<(Vec<EventName>, Cursor<'a>), Stop>
+    ensures { Gives (viewed event_names_of) result (with_front (event_names_of events) (reads_flat (many (further choice)) at.entry)) }
+{
+    let mut events = events;
+    let mut at = at;
+    'all: while next_is_sign(Sign::Comma, &at) {
+        let (one, next) = further_choice(alloc, at)?;
+        events.push(one)?;
+        at = next;
+    }
+    Ok((events, at))
+}
+
+#[tactic(auto, unfolding(crate::specs::Grammar::choices, crate::specs::Grammar::choice))]
+fn choices<'a>(alloc: Global, at: Cursor<'a>) -> Result<(Vec<EventName>, Cursor<'a>), Stop>
+    ensures { Gives (viewed event_names_of) result (reads_flat choices at.entry) }
+{
+    let mut events = Vec::new(alloc);
+    let (first, at) = choice(alloc, at)?;
+    events.push(first)?;
+    let (second, at) = further_choice(alloc, at)?;
+    events.push(second)?;
+    further_choices(alloc, events, at)
+}
+
+#[tactic(auto, unfolding(crate::specs::Grammar::select, crate::specs::Grammar::choices, crate::specs::Grammar::choice), using(loft_tree::proofs::Trees::statements))]
+fn select<'a>(alloc: Global, deeper: u32, at: Cursor<'a>) -> Result<(Stmt, Cursor<'a>), Stop>
+    ensures { Gives (viewed statement_of) result (reads deeper select at.entry) }
+{
+    let (place, at) = first_word(Counted::Statement, Word::Select, at)?;
+    let (events, at) = choices(alloc, at.anew(Counted::Choice))?;
+    let (limit, at) = optional_limit(alloc, deeper, at)?;
+    let at = sign(Sign::Semicolon, at)?;
+    Ok((
+        Stmt::Select {
+            at: place,
+            events,
+            limit,
+        },
+        at,
+    ))
+}
+
+#[tactic(auto, unfolding(crate::specs::Grammar::get), using(loft_tree::proofs::Trees::statements))]
+fn get<'a>(alloc: Global, deeper: u32, at: Cursor<'a>) -> Result<(Stmt, Cursor<'a>), Stop>
+    ensures { Gives (viewed statement_of) result (reads deeper get at.entry) }
+{
+    let (place, at) = first_word(Counted::Statement, Word::Get, at)?;
+    let (event, at) = event_name(alloc, None, at)?;
+    let at = word(Word::At, at)?;
+    let (index, at) = whole(alloc, deeper, at)?;
+    let at = word(Word::Into, at)?;
+    let (target, at) = name(alloc, None, at)?;
+    let at = sign(Sign::Semicolon, at)?;
+    Ok((
+        Stmt::Get {
+            at: place,
+            event,
+            index,
+            target,
+        },
+        at,
+    ))
+}
+
+#[tactic(auto, unfolding(crate::specs::Grammar::broadcast), using(loft_tree::proofs::Trees::statements))]
+fn broadcast<'a>(alloc: Global, deeper: u32, at: Cursor<'a>) -> Result<(Stmt, Cursor<'a>), Stop>
+    ensures { Gives (viewed statement_of) result (reads deeper broadcast at.entry) }
+{
+    let (place, at) = first_word(Counted::Statement, Word::Broadcast, at)?;
+    let (event, at) = event_name(alloc, None, at)?;
+    let (value, at) = optional_value(alloc, deeper, at)?;
+    let at = sign(Sign::Semicolon, at)?;
+    Ok((
+        Stmt::Broadcast {
+            at: place,
+            event,
+            value,
+        },
+        at,
+    ))
+}
+
+/// Reads a statement about events.
+#[tactic(auto, unfolding(crate::specs::Grammar::event_statement, crate::specs::Grammar::generate, crate::specs::Grammar::await_event, crate::specs::Grammar::select, crate::specs::Grammar::get), using(loft_tree::proofs::Trees::statements))]
+pub fn event_statement<'a>(
+    alloc: Global,
+    deeper: u32,
+    at: Cursor<'a>,
+) -> Result<(Stmt, Cursor<'a>), Stop>
+    ensures { Gives (viewed statement_of) result (reads deeper event_statement at.entry) }
+{
+    if next_is_word(Word::Generate, &at) {
+        generate(alloc, deeper, at)
+    } else if next_is_word(Word::Await, &at) {
+        await_event(alloc, deeper, at)
+    } else if next_is_word(Word::Select, &at) {
+        select(alloc, deeper, at)
+    } else if next_is_word(Word::Get, &at) {
+        get(alloc, deeper, at)
+    } else {
+        broadcast(alloc, deeper, at)
+    }
+}

@@ -1,0 +1,68 @@
+//! Reading what statements have in common.
+
+ghost use Rattle.loft_tree.specs.View.{value_of};
+ghost use Rattle.loft_form.specs.Form.{maybe};
+ghost use Rattle.loft_form.specs.Reading.{Gives};
+ghost use Rattle.loft_parse.specs.Grammar.{whole, behind_comma, time_limit};
+ghost use Rattle.loft_parse.specs.View.{reads, viewed};
+
+use crate::cursor::Cursor;
+use crate::expression::whole;
+use crate::lookahead::{next_expression, next_is_sign, next_is_word};
+use crate::token::{sign, word};
+use loft_form::Stop;
+use loft_lex::{Sign, Word};
+use loft_tree::Expr;
+use std::alloc::Global;
+
+/// Reads an expression, if one begins here.
+pub fn optional_whole<'a>(
+    alloc: Global,
+    deeper: u32,
+    at: Cursor<'a>,
+) -> Result<(Option<Expr>, Cursor<'a>), Stop>
+    ensures { Gives (viewed value_of) result (reads deeper (maybe whole) at.entry) }
+{
+    if next_expression(&at) {
+        let (value, at) = whole(alloc, deeper, at)?;
+        Ok((Some(value), at))
+    } else {
+        Ok((None, at))
+    }
+}
+
+/// Reads a comma and an expression, if a comma stands here.
+#[tactic(auto, unfolding(crate::specs::Grammar::behind_comma))]
+pub fn optional_value<'a>(
+    alloc: Global,
+    deeper: u32,
+    at: Cursor<'a>,
+) -> Result<(Option<Expr>, Cursor<'a>), Stop>
+    ensures { Gives (viewed value_of) result (reads deeper (maybe behind_comma) at.entry) }
+{
+    if next_is_sign(Sign::Comma, &at) {
+        let at = sign(Sign::Comma, at)?;
+        let (value, at) = whole(alloc, deeper, at)?;
+        Ok((Some(value), at))
+    } else {
+        Ok((None, at))
+    }
+}
+
+/// Reads `for` and an expression, if `for` stands here.
+#[tactic(auto, unfolding(crate::specs::Grammar::time_limit))]
+pub fn optional_limit<'a>(
+    alloc: Global,
+    deeper: u32,
+    at: Cursor<'a>,
+) -> Result<(Option<Expr>, Cursor<'a>), Stop>
+    ensures { Gives (viewed value_of) result (reads deeper (maybe time_limit) at.entry) }
+{
+    if next_is_word(Word::For, &at) {
+        let at = word(Word::For, at)?;
+        let (limit, at) = whole(alloc, deeper, at)?;
+        Ok((Some(limit), at))
+    } else {
+        Ok((None, at))
+    }
+}

@@ -1,0 +1,16 @@
+use Rattle.std.proofs.Common.{◌≡◌, map}
+use Rattle.loft_tree.specs.ProgramView.{program_of}
+use Rattle.loft_tree.specs.Resolved.{resolved_of}
+use Rattle.loft_sense.specs.Machine.{Tree}
+use Rattle.loft_sense.specs.Passes.{passes, steps_left}
+use Rattle.loft_plain.specs.EngineView.{around_of, runner_of}
+use Rattle.loft_plain.proofs.pass.passes.Given as goal
+
+-- the passes that are left end as all of them
+abbrev pub invariant-passes : goal.invariant-passes
+invariant-passes l =
+    let x = Tree (resolved_of (program_of l.program)) in
+    passes x (map runner_of l.runners.items) (around_of l.around) ≡ passes x (map runner_of l.fn.runners.items) (around_of l.fn.around)
+
+abbrev pub decreases-passes : goal.decreases-passes
+decreases-passes l = steps_left (map runner_of l.runners.items)

@@ -1,0 +1,18 @@
+//! The turns of a scheduler.
+
+use crate::note::{FinalState, InstantNote};
+use crate::order::Orders;
+
+/// A turn of a scheduler: the batch that it took, and what its instant did.
+#[derive(Debug, Drop)]
+pub struct SchedulerTurn {
+    pub batch: Orders,
+    pub note: InstantNote,
+}
+
+/// All turns of a scheduler in order, and its state after the last of them.
+#[derive(Debug, Drop)]
+pub struct Finished {
+    pub turns: Vec<SchedulerTurn>,
+    pub last: FinalState,
+}

@@ -1,0 +1,83 @@
+//! The run of a program with one scheduler, on one thread.
+
+ghost use Rattle.std.specs.Prelude.{◌≡◌, ◌≤◌, ◌<◌, IfOk, All, length, false};
+ghost use Rattle.loft_sense.specs.Machine.{empty, heads as heads_of};
+ghost use Rattle.loft_sense.specs.Fits.{Fits};
+ghost use Rattle.loft_sense.specs.History.{starts_of, has_turn as has_turn_on};
+ghost use Rattle.loft_turns.specs.Running.{IsWholeRun};
+
+use loft_base::{Gate, Maker, NoMemory, SchedId, Sequence, ThreadId, Turn};
+use loft_sense::{Engine, Finished, Order, Orders, SchedulerTurn};
+use loft_tree::Heads;
+use std::alloc::Global;
+use std::mem;
+use std::sync::Wait;
+use std::thread::Threads;
+
+/// The creates of a scheduler's starts, in text order.
+fn starts(alloc: Global, heads: &Heads, scheduler: SchedId) -> Result<Orders, NoMemory>
+    ensures { IfOk result (λ orders. orders ≡ starts_of heads.now scheduler) }
+{
+    let mut orders = Sequence::new(alloc);
+    for (k, start) in heads.starts.as_slice().iter().enumerate() {
+        if scheduler.0 == start.scheduler.0 {
+            orders.push(Order::Create {
+                thread: ThreadId {
+                    maker: Maker::Source,
+                    seq: k as u64,
+                },
+                module: start.module,
+                args: Sequence::from_slice(alloc, start.arguments.as_slice())?,
+            })?;
+        }
+    }
+    Ok(orders)
+}
+
+/// Whether the scheduler has a turn to make on these orders.
+fn has_turn<E: Engine>(engine: &E, orders: &Orders) -> bool
+    requires { E.has_failed engine.now ≡ false }
+    ensures { result ≡ has_turn_on (E.limits engine.now) (E.machine engine.now) orders.now }
+{
+    !engine.spent() && !(engine.resting() && orders.is_empty())
+}
+
+/// All turns of the only scheduler of a program (docs/SEMANTICS.md, "History"): each takes the
+/// orders that wait, passes the gate and makes an instant. None is made where the bounds are used
+/// up, nor where the scheduler rests and nothing waits. `NoMemory` comes where an allocation
+/// fails, of this call or of the engine.
+pub fn run_alone<R: Threads + Wait + Sync, E: Engine, G: Gate>(
+    rt: &R,
+    alloc: Global,
+    heads: &Heads,
+    mut engine: E,
+    scheduler: SchedId,
+    gate: &G,
+) -> Result<Finished, NoMemory>
+    requires fresh { E.machine engine ≡ empty scheduler }
+    requires works { E.has_failed engine ≡ false }
+    requires scheduler { E.scheduler engine ≡ scheduler }
+    requires only { (scheduler.0 ≡ 0) × (length heads.now.schedulers ≡ 1) }
+    requires heads { heads.now ≡ heads_of (E.program engine) }
+    requires bound { 1 ≤ (E.limits engine).instants }
+    requires starts { All (Fits (E.program engine) scheduler) (starts_of heads.now scheduler) }
+    ensures { IfOk result (λ run.
+        IsWholeRun (E.program engine) (E.limits engine) scheduler run.turns.items run.last) }
+{
+    let mut turns = Vec::new(alloc);
+    let mut orders = starts(alloc, heads, scheduler)?;
+    'turns: while has_turn(&engine, &orders) {
+        let batch = mem::replace(&mut orders, Sequence::new(alloc));
+        gate.pass(
+            rt,
+            Turn::Instant {
+                s: scheduler,
+                number: engine.instant().saturating_add(1),
+            },
+        );
+        let note = engine.take(alloc, &batch)?;
+        turns.push(SchedulerTurn { batch, note })?;
+    }
+    let last = engine.last(alloc)?;
+    Ok(Finished { turns, last })
+}
