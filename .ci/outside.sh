@@ -1,0 +1,87 @@
+#!/usr/bin/env bash
+# What a program does with files, pipes and an output of the system, which the cases don't have:
+# outside.sh PROGRAM. Each difference is told, and the status is 1 where there is one.
+set -eu
+program=$(realpath "$1")
+cd "$(dirname "$0")/.."
+name=${program##*/}
+source=crates/loft_app/data/two_prints.loft
+report=crates/loft_app/stdout
+room=$(mktemp -d)
+trap 'rm -rf "$room"' EXIT
+failed=0
+
+# Whether a command ends with this status: wants WHAT STATUS COMMAND ..
+wants() {
+    local what=$1 status=$2 ended=0
+    shift 2
+    "$@" || ended=$?
+    if [ "$ended" != "$status" ]; then
+        echo "$name: $what: the status is $ended, not $status"
+        failed=1
+    fi
+}
+
+# Whether the last answer is this text: wrote WHAT FILE
+wrote() {
+    if ! cmp -s "$room/answer" "$2"; then
+        echo "$name: $1: the answer isn't that of ${2#"$room/"}"
+        failed=1
+    fi
+}
+
+# Runs the program with these words; its answer goes into the room, or to an output that is full.
+answer() { timeout 60 "$program" "$@" > "$room/answer"; }
+full() { timeout 60 "$program" "$@" > /dev/full; }
+
+# The same with the source in a pipe, without a name and with one.
+answer_of_input() { cat "$source" | answer run /dev/stdin; }
+answer_of_pipe() {
+    local ended=0
+    timeout 60 cp "$source" "$room/pipe" &
+    answer run "$room/pipe" || ended=$?
+    wait
+    return "$ended"
+}
+
+printf 'files: fault\n' > "$room/fault"
+printf 'loft: usage\n' > "$room/usage"
+printf 'source: too long\n' > "$room/too_long"
+printf 'ok\n' > "$room/ok"
+printf '#' > "$room/refused"
+mkfifo "$room/pipe"
+
+for command in run show check; do
+    wants "$command, the output is full" 6 full "$command" "$source"
+    wants "$command, a missing file" 5 answer "$command" "$room/missing"
+    wrote "$command, a missing file" "$room/fault"
+    wants "$command, a folder" 5 answer "$command" "$room"
+    wrote "$command, a folder" "$room/fault"
+done
+wants "a refusal, the output is full" 6 full check "$room/refused"
+wants "a missing file, the output is full" 6 full run "$room/missing"
+wants "no command, the output is full" 6 full
+
+wants "a pipe as standard input" 0 answer_of_input
+wrote "a pipe as standard input" "$report"
+wants "a named pipe" 0 answer_of_pipe
+wrote "a named pipe" "$report"
+
+# A source of 4 MiB, and one that has a byte more.
+{ cat "$source"; head -c 4194305 /dev/zero | tr '\0' ' '; } > "$room/blanks"
+head -c 4194304 "$room/blanks" > "$room/long"
+head -c 4194305 "$room/blanks" > "$room/longer"
+wants "4 MiB" 0 answer check "$room/long"
+wrote "4 MiB" "$room/ok"
+wants "more than 4 MiB" 3 answer check "$room/longer"
+wrote "more than 4 MiB" "$room/too_long"
+
+wants "no words" 2 answer
+wrote "no words" "$room/usage"
+wants "an unknown option" 2 answer run "$source" --loud
+wrote "an unknown option" "$room/usage"
+wants "a file after --" 0 answer run -- "$source"
+wrote "a file after --" "$report"
+
+[ "$failed" = 1 ] || echo "$name: files, pipes and a full output are answered as docs/COMMANDS.md says"
+exit "$failed"
