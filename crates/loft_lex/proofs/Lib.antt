@@ -9,4 +9,5 @@ pub mod Signs
 pub mod Spans
 pub mod Spelled
 pub mod Steps
+pub mod SymbolsRead
 pub mod Words

@@ -6,5 +6,6 @@ pub mod Scan
 pub mod Seen
 pub mod Sign
 pub mod Symbol
+pub mod TextSymbols
 pub mod Tokens
 pub mod Word

@@ -1,13 +1,14 @@
 //! What stands at the front of a text.
 
-ghost use Rattle.std.specs.Prelude.{◌≡◌, ◌+◌, ◌<◌, ◌≤◌, ◌∷◌, ◌==◌, length, MatchOption};
+ghost use Rattle.std.specs.Prelude.{◌≡◌, ◌+◌, ◌<◌, ◌≤◌, ◌∷◌, ◌==◌, ℕ, List, length, MatchOption};
 ghost use Rattle.std.specs.List.{prefix_len};
 ghost use Rattle.loft_lex.specs.Bytes.{is_blank, is_digit, is_letter, begins, value_of, max_number};
 ghost use Rattle.loft_lex.specs.Front.{name_front, number_front, text_end, text_front, sign_of_one, sign_front, front_of};
-ghost use Rattle.loft_lex.specs.Scan.{belongs, front_seen, step_len};
+ghost use Rattle.loft_lex.specs.Scan.{belongs, front_seen, step_len, IsReadable};
 
+use crate::piece::Piece;
 use crate::sign::Sign;
-use crate::token::{LexError, TokenKind};
+use crate::token::LexError;
 use crate::word::Word;
 
 /// What stands at the front: a gap and a token take the first byte and `more` after it, and the offset of a
@@ -15,7 +16,7 @@ use crate::word::Word;
 #[derive(Clone, Copy, Debug, PartialEq, Eq)]
 pub enum Step {
     Gap(usize),
-    Piece { kind: TokenKind, more: usize },
+    Token { piece: Piece, more: usize },
     Fault(LexError),
 }
 
@@ -116,17 +117,18 @@ fn begins_with_slash(bytes: &[u8]) -> bool
 fn name_step(b: u8, bytes: &[u8], rest: &[u8]) -> Step
     requires { rest.now ≡ b ∷ bytes.now }
     ensures front { front_seen result ≡ name_front b bytes.now }
+    ensures readable { IsReadable rest.now result }
     ensures fits { step_len result ≤ length rest.now }
 {
     let more = run_len(Class::Name, bytes);
     if more + 1 > MAX_NAME_LEN {
         return Step::Fault(LexError::LongName(0));
     }
-    let kind = match Word::of(&rest[..more + 1]) {
-        Some(_) => TokenKind::Word,
-        None => TokenKind::Name,
+    let piece = match Word::of(&rest[..more + 1]) {
+        Some(word) => Piece::Word(word),
+        None => Piece::Name,
     };
-    Step::Piece { kind, more }
+    Step::Token { piece, more }
 }
 
 /// The number that begins with the digit `b`, with `bytes` after it.
@@ -134,6 +136,7 @@ fn name_step(b: u8, bytes: &[u8], rest: &[u8]) -> Step
 fn number_step(b: u8, bytes: &[u8], rest: &[u8]) -> Step
     requires { rest.now ≡ b ∷ bytes.now }
     ensures front { front_seen result ≡ number_front b bytes.now }
+    ensures readable { IsReadable rest.now result }
     ensures fits { step_len result ≤ length rest.now }
 {
     let more = run_len(Class::Digit, bytes);
@@ -143,8 +146,8 @@ fn number_step(b: u8, bytes: &[u8], rest: &[u8]) -> Step
             if begins_with_letter(&bytes[more..]) {
                 Step::Fault(LexError::BadNumber(0))
             } else {
-                Step::Piece {
-                    kind: TokenKind::Number(value as i64),
+                Step::Token {
+                    piece: Piece::Number(value as i64),
                     more,
                 }
             }
@@ -157,12 +160,13 @@ fn number_step(b: u8, bytes: &[u8], rest: &[u8]) -> Step
 fn text_end(inside: usize, bytes: &[u8]) -> Step
     requires { inside ≤ 120 }
     ensures front { front_seen result ≡ text_end inside bytes.now }
+    ensures readable { (all : List ℕ) → IsReadable all result }
     ensures fits { step_len result ≤ inside + length bytes.now + 1 }
 {
     match bytes {
         [] | [b'\n', ..] => Step::Fault(LexError::OpenText(0)),
-        [b'"', ..] => Step::Piece {
-            kind: TokenKind::Text,
+        [b'"', ..] => Step::Token {
+            piece: Piece::Text,
             more: inside + 1,
         },
         [_, ..] => Step::Fault(LexError::BadByte(inside as u32 + 1)),
@@ -173,6 +177,7 @@ fn text_end(inside: usize, bytes: &[u8]) -> Step
 #[tactic(auto, unfolding(crate::specs::Front::text_front))]
 fn text_step(bytes: &[u8]) -> Step
     ensures front { front_seen result ≡ text_front bytes.now }
+    ensures readable { (all : List ℕ) → IsReadable all result }
     ensures fits { step_len result ≤ length bytes.now + 1 }
 {
     let inside = run_len(Class::Text, bytes);
@@ -186,11 +191,12 @@ fn text_step(bytes: &[u8]) -> Step
 #[tactic(auto, unfolding(crate::specs::Front::sign_of_one))]
 fn sign_of_one(b: u8) -> Step
     ensures front { front_seen result ≡ sign_of_one b }
+    ensures readable { (bytes : List ℕ) → IsReadable (b ∷ bytes) result }
     ensures fits { step_len result ≤ 1 }
 {
     match Sign::of(&[b]) {
-        Some(_) => Step::Piece {
-            kind: TokenKind::Sign,
+        Some(sign) => Step::Token {
+            piece: Piece::Sign(sign),
             more: 0,
         },
         None => Step::Fault(LexError::BadByte(0)),
@@ -201,14 +207,18 @@ fn sign_of_one(b: u8) -> Step
 #[tactic(auto, unfolding(crate::specs::Front::sign_front))]
 fn sign_step(b: u8, bytes: &[u8]) -> Step
     ensures front { front_seen result ≡ sign_front b bytes.now }
+    ensures readable { IsReadable (b ∷ bytes.now) result }
     ensures fits { step_len result ≤ length bytes.now + 1 }
 {
-    match bytes {
-        [c, ..] if Sign::of(&[b, *c]).is_some() => Step::Piece {
-            kind: TokenKind::Sign,
+    let [c, ..] = bytes else {
+        return sign_of_one(b);
+    };
+    match Sign::of(&[b, *c]) {
+        Some(sign) => Step::Token {
+            piece: Piece::Sign(sign),
             more: 1,
         },
-        _ => sign_of_one(b),
+        None => sign_of_one(b),
     }
 }
 
@@ -217,6 +227,7 @@ fn sign_step(b: u8, bytes: &[u8]) -> Step
 pub fn next_step(rest: &[u8]) -> Step
     requires { 0 < length rest.now }
     ensures front { front_seen result ≡ front_of rest.now }
+    ensures readable { IsReadable rest.now result }
     ensures fits { step_len result ≤ length rest.now }
 {
     match rest {

@@ -3,6 +3,8 @@
 
 mod front;
 mod laws;
+mod piece;
+mod reading;
 mod sign;
 mod symbol;
 #[cfg(test)]
@@ -17,6 +19,7 @@ ghost use Rattle.loft_lex.specs.Symbol.{symbols, Unreadable};
 
 use crate::front::{Step, next_step};
 pub use laws::tokens_are_cut;
+pub use reading::read_symbols;
 pub use sign::Sign;
 use std::alloc::Global;
 pub use symbol::{Symbol, What, symbols};
@@ -46,10 +49,10 @@ pub fn lex(alloc: Global, text: &[u8]) -> Result<Tokens, LexError>
         let (_, rest) = text.split_at(at);
         match next_step(rest) {
             Step::Gap(more) => at += more + 1,
-            Step::Piece { kind, more } => {
+            Step::Token { piece, more } => {
                 let to = at + (more + 1);
                 items.push(Token {
-                    kind,
+                    kind: piece.kind(),
                     from: at as u32,
                     to: to as u32,
                 })?;

@@ -35,7 +35,7 @@ pub struct Symbol<'a> {
 }
 
 /// The bytes between the quotes of a text.
-fn inside(quoted: &[u8]) -> &[u8]
+pub fn inside(quoted: &[u8]) -> &[u8]
     ensures { result.now ≡ between_quotes quoted.now }
 {
     let (_, after_quote) = quoted.split_at(quoted.len().min(1));

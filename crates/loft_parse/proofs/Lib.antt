@@ -4,6 +4,7 @@ pub mod Flat
 pub mod Inside
 pub mod Laws
 pub mod Leaves
+pub mod Located
 pub mod fits
 pub mod SourceFaults
 pub mod Offsets

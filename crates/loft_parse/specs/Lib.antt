@@ -5,5 +5,6 @@ pub mod Levels
 pub mod Source
 pub mod View
 pub mod Parsing
+pub mod SymbolPlaces
 pub mod Alike
 pub mod Unlimited

@@ -42,40 +42,40 @@ pub enum Counted {
 /// How many of each there were so far.
 #[derive(Clone, Copy)]
 pub struct Counts {
-    pub schedulers: u32,
-    pub events: u32,
-    pub shared: u32,
-    pub modules: u32,
-    pub starts: u32,
-    pub clients: u32,
-    pub orders: u32,
-    pub parameters: u32,
-    pub locals: u32,
-    pub statements: u32,
-    pub operands: u32,
-    pub arguments: u32,
-    pub choices: u32,
+    pub schedulers: u16,
+    pub events: u16,
+    pub shared: u16,
+    pub modules: u16,
+    pub starts: u16,
+    pub clients: u16,
+    pub orders: u16,
+    pub parameters: u16,
+    pub locals: u16,
+    pub statements: u16,
+    pub operands: u16,
+    pub arguments: u16,
+    pub choices: u16,
 }
 
 impl Counted {
     /// How many there may be (docs/LANGUAGE.md, "Limits").
-    pub fn most(self) -> u32
+    pub fn most(self) -> u16
         ensures { result ≡ most self }
     {
         match self {
-            Counted::Scheduler => MAX_SCHEDULERS as u32,
-            Counted::Event => MAX_EVENTS as u32,
-            Counted::Shared => MAX_SHARED as u32,
-            Counted::Module => MAX_MODULES as u32,
-            Counted::Start => MAX_STARTS as u32,
-            Counted::Client => MAX_CLIENTS as u32,
-            Counted::Order => MAX_ORDERS as u32,
-            Counted::Parameter => MAX_PARAMETERS as u32,
-            Counted::Local => MAX_LOCALS as u32,
-            Counted::Statement => MAX_STATEMENTS as u32,
-            Counted::Operand => MAX_OPERANDS as u32,
-            Counted::Argument => MAX_ARGUMENTS as u32,
-            Counted::Choice => MAX_CHOICES as u32,
+            Counted::Scheduler => MAX_SCHEDULERS as u16,
+            Counted::Event => MAX_EVENTS as u16,
+            Counted::Shared => MAX_SHARED as u16,
+            Counted::Module => MAX_MODULES as u16,
+            Counted::Start => MAX_STARTS as u16,
+            Counted::Client => MAX_CLIENTS as u16,
+            Counted::Order => MAX_ORDERS as u16,
+            Counted::Parameter => MAX_PARAMETERS as u16,
+            Counted::Local => MAX_LOCALS as u16,
+            Counted::Statement => MAX_STATEMENTS as u16,
+            Counted::Operand => MAX_OPERANDS as u16,
+            Counted::Argument => MAX_ARGUMENTS as u16,
+            Counted::Choice => MAX_CHOICES as u16,
         }
     }
 }
@@ -103,7 +103,7 @@ impl Counts {
     }
 
     /// How many of these there were.
-    pub fn number(self, what: Counted) -> u32
+    pub fn number(self, what: Counted) -> u16
         ensures { result ≡ number what self }
     {
         match what {
@@ -124,62 +124,25 @@ impl Counts {
     }
 
     /// The same, but so many of these.
-    pub fn with(self, what: Counted, number: u32) -> Counts
+    pub fn with(self, what: Counted, number: u16) -> Counts
         ensures { result ≡ put what number self }
     {
+        let mut counts = self;
         match what {
-            Counted::Scheduler => Counts {
-                schedulers: number,
-                ..self
-            },
-            Counted::Event => Counts {
-                events: number,
-                ..self
-            },
-            Counted::Shared => Counts {
-                shared: number,
-                ..self
-            },
-            Counted::Module => Counts {
-                modules: number,
-                ..self
-            },
-            Counted::Start => Counts {
-                starts: number,
-                ..self
-            },
-            Counted::Client => Counts {
-                clients: number,
-                ..self
-            },
-            Counted::Order => Counts {
-                orders: number,
-                ..self
-            },
-            Counted::Parameter => Counts {
-                parameters: number,
-                ..self
-            },
-            Counted::Local => Counts {
-                locals: number,
-                ..self
-            },
-            Counted::Statement => Counts {
-                statements: number,
-                ..self
-            },
-            Counted::Operand => Counts {
-                operands: number,
-                ..self
-            },
-            Counted::Argument => Counts {
-                arguments: number,
-                ..self
-            },
-            Counted::Choice => Counts {
-                choices: number,
-                ..self
-            },
+            Counted::Scheduler => counts.schedulers = number,
+            Counted::Event => counts.events = number,
+            Counted::Shared => counts.shared = number,
+            Counted::Module => counts.modules = number,
+            Counted::Start => counts.starts = number,
+            Counted::Client => counts.clients = number,
+            Counted::Order => counts.orders = number,
+            Counted::Parameter => counts.parameters = number,
+            Counted::Local => counts.locals = number,
+            Counted::Statement => counts.statements = number,
+            Counted::Operand => counts.operands = number,
+            Counted::Argument => counts.arguments = number,
+            Counted::Choice => counts.choices = number,
         }
+        counts
     }
 }

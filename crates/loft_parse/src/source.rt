@@ -1,59 +1,57 @@
 //! Reading a whole text.
 
-ghost use Rattle.std.specs.Prelude.{◌≡◌, ◌<◌, ◌≤◌, ◌↔◌, All, Ok, Err, IfOk, IfErr, length};
-ghost use Rattle.loft_lex.specs.Fits.{Fits};
-ghost use Rattle.loft_lex.specs.Tokens.{tokens};
+ghost use Rattle.std.specs.Prelude.{◌≡◌, ◌<◌, ◌≤◌, ◌↔◌, Ok, Err, IfOk, IfErr, length};
+ghost use Rattle.loft_lex.specs.TextSymbols.{symbols_seen, SymbolsOf};
 ghost use Rattle.loft_tree.specs.Source.{Source};
 ghost use Rattle.loft_tree.specs.View.{source_of};
 ghost use Rattle.loft_parse.specs.declared.error.ParseError.TheVariants.{TooLong};
 ghost use Rattle.loft_parse.specs.declared.error.ParseError.{ParseError};
-ghost use Rattle.loft_parse.specs.Source.{Reads, place, located, SourceFault, IsFault};
-ghost use Rattle.loft_parse.specs.Parsing.{whole_text, parsed, Answers};
+ghost use Rattle.loft_parse.specs.Source.{Reads, SourceFault, IsFault};
+ghost use Rattle.loft_parse.specs.Parsing.{parsed, Answers};
+ghost use Rattle.loft_parse.specs.SymbolPlaces.{offset_of, fault_at, spelled};
 
 use crate::counts::Counts;
 use crate::cursor::Cursor;
 use crate::error::ParseError;
 use crate::item::items;
 use loft_form::{Fault, Stop};
-use loft_lex::{LexError, MAX_TEXT_LEN, Token, lex, symbols};
+use loft_lex::{LexError, MAX_TEXT_LEN, Symbol, read_symbols};
 use loft_tree::Program;
 use std::alloc::Global;
 
-/// The offset of the token from which on so many are left, or of the text's end.
-fn place(end: u32, tokens: &[Token], left: usize) -> u32
-    ensures { result ≡ place end tokens.now left }
+/// The offset of the symbol from which on so many are left, or of the text's end.
+fn offset_of(end: u32, symbols: &[Symbol], left: usize) -> u32
+    ensures { result ≡ offset_of end (symbols_seen symbols.now) left }
 {
-    let (_, rest) = tokens.split_at(tokens.len().saturating_sub(left));
+    let (_, rest) = symbols.split_at(symbols.len().saturating_sub(left));
     match rest {
         [] => end,
-        [token, ..] => token.from,
+        [symbol, ..] => symbol.at,
     }
 }
 
 /// The fault, with its offset in the text.
-fn located(end: u32, tokens: &[Token], fault: Fault) -> ParseError
-    ensures { result ≡ located end tokens.now fault }
+fn located(end: u32, symbols: &[Symbol], fault: Fault) -> ParseError
+    ensures { result ≡ fault_at end (symbols_seen symbols.now) fault }
 {
     match fault {
-        Fault::Expected(left) => ParseError::Expected(place(end, tokens, left)),
-        Fault::TooDeep(left) => ParseError::TooDeep(place(end, tokens, left)),
+        Fault::Expected(left) => ParseError::Expected(offset_of(end, symbols, left)),
+        Fault::TooDeep(left) => ParseError::TooDeep(offset_of(end, symbols, left)),
         Fault::TooMany { left, limit } => ParseError::TooMany {
-            at: place(end, tokens, left),
+            at: offset_of(end, symbols, left),
             limit,
         },
     }
 }
 
-/// The program that the tokens found in the text spell, or their first fault.
-fn program_of(alloc: Global, text: &[u8], found: &[Token]) -> Result<Program, ParseError>
+/// The program that the symbols found in the text spell, or their first fault.
+fn program_of(alloc: Global, text: &[u8], found: &[Symbol]) -> Result<Program, ParseError>
     requires short { length text.now ≤ MAX_TEXT_LEN }
-    requires lexed { tokens text.now ≡ Ok found.now }
-    requires fits { All (Fits text.now) found.now }
-    ensures { Answers result (whole_text text.now (Ok found.now)) }
+    requires symbols { SymbolsOf text.now (symbols_seen found.now) }
+    ensures { Answers result (spelled (length text.now) (symbols_seen found.now)) }
 {
     let end = text.len() as u32;
-    let symbols = symbols(alloc, text, found)?;
-    let start = Cursor::after(symbols.as_slice(), Counts::none());
+    let start = Cursor::after(found, Counts::none());
     match items(alloc, start) {
         Err(Stop::NoMemory) => Err(ParseError::NoMemory),
         Err(Stop::Fault(fault)) => Err(located(end, found, fault)),
@@ -69,10 +67,10 @@ fn parsed(alloc: Global, text: &[u8]) -> Result<Program, ParseError>
     requires { length text.now ≤ MAX_TEXT_LEN }
     ensures { Answers result (parsed text.now) }
 {
-    match lex(alloc, text) {
+    match read_symbols(alloc, text) {
         Err(LexError::NoMemory) => Err(ParseError::NoMemory),
         Err(fault) => Err(ParseError::Lex(fault)),
-        Ok(tokens) => program_of(alloc, text, tokens.as_slice()),
+        Ok(symbols) => program_of(alloc, text, symbols.as_slice()),
     }
 }
 

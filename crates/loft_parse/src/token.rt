@@ -25,7 +25,10 @@ fn more(left: usize, what: Option<Counted>, counts: Counts) -> Result<Counts, St
             let number = counts.number(what);
             let limit = what.most();
             if limit <= number {
-                Err(Stop::Fault(Fault::TooMany { left, limit }))
+                Err(Stop::Fault(Fault::TooMany {
+                    left,
+                    limit: u32::from(limit),
+                }))
             } else {
                 Ok(counts.with(what, number + 1))
             }

@@ -1,5 +1,6 @@
 use Rattle.std.proofs.Common.{◌∙◌, refl, arith, ap}
 use Rattle.loft_lex.specs.Front.{front_of}
+use Rattle.loft_lex.specs.Scan.{kind_seen}
 use Rattle.loft_lex.proofs.Steps.{at_start, at_gap, at_piece, at_fault, at_end}
 use Rattle.loft_lex.proofs.Spans.{first_fault, all_fit, all_rise}
 use Rattle.loft_lex.proofs.Readable.{all_readable}
@@ -16,8 +17,8 @@ loop-at-preserved-in-Gap c = (
 
 pub loop-at-preserved : goal.loop-at-preserved
 loop-at-preserved c = (
-  omega (arith, c.in-Piece.ensures.fits, c.split_at.ensures.back_len),
-  rw c.in_ok-push-in-Piece.ensures.items (at_piece c.loop-at.items.items c.args.text.now c.loop-at.at _ c.loop-at-test.true c.loop-at.invariant.1 c.in-Piece.kind c.in-Piece.more _ (c.in-Piece.ensures.front ∙ ap front_of c.split_at.ensures.back) refl),
+  omega (arith, c.in-Token.ensures.fits, c.split_at.ensures.back_len),
+  rw (c.in_ok-push-in-Token.ensures.items, c.kind.ensures) (at_piece c.loop-at.items.items c.args.text.now c.loop-at.at _ c.loop-at-test.true c.loop-at.invariant.1 (kind_seen c.in-Token.piece) c.in-Token.more _ (c.in-Token.ensures.front ∙ ap front_of c.split_at.ensures.back) refl),
 )
 
 pub returns-in-Fault-clause-fault : goal.returns-in-Fault-clause-fault

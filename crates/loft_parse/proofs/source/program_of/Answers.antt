@@ -1,7 +1,6 @@
-use Rattle.std.proofs.Common.{arith, sym, ◌∙◌, ap, Ok, ◌≡◌, map}
+use Rattle.std.proofs.Common.{arith, ◌∙◌, ap, sym, Ok, ◌≡◌}
 use Rattle.std.proofs.lemmas.List.{length-map}
 use Rattle.loft_lex.specs.Symbol.{symbols}
-use Rattle.loft_lex.specs.Seen.{symbol_seen}
 use Rattle.loft_form.specs.Reading.{read}
 use Rattle.loft_parse.specs.Grammar.{program, rules}
 use Rattle.loft_parse.specs.Source.{limits, nesting, beginning}
@@ -12,6 +11,6 @@ use Rattle.loft_parse.proofs.source.program_of.Goals as goal
 pub new-requires : goal.new-requires
 new-requires c =
     let whole = rw (c.after-start.ensures, c.none.ensures) at c.in-Ok.ensures in
-    let same : symbols c.args.text.now c.args.found.now ≡ map symbol_seen c.as_slice.result.now = sym c.in_ok-symbols.ensures ∙ ap (map symbol_seen) (sym c.as_slice.ensures.value) in
-    let h : read rules limits nesting program (symbols c.args.text.now c.args.found.now) beginning ≡ Ok (declarations_of c.in-Ok.declarations, place_of c.in-Ok.at) = ap (λ ss. read rules limits nesting program ss beginning) same ∙ whole in
-    whole_fits c.args.text.now c.args.found.now c.requires.lexed (declarations_of c.in-Ok.declarations) (place_of c.in-Ok.at) h (simp length-map (omega (arith, c.in-empty.len_below)))
+    let ts = c.requires.symbols.0 in
+    let h : read rules limits nesting program (symbols c.args.text.now ts) beginning ≡ Ok (declarations_of c.in-Ok.declarations, place_of c.in-Ok.at) = ap (λ ss. read rules limits nesting program ss beginning) (sym c.requires.symbols.2) ∙ whole in
+    whole_fits c.args.text.now ts c.requires.symbols.1 (declarations_of c.in-Ok.declarations) (place_of c.in-Ok.at) h (simp length-map (omega (arith, c.in-empty.len_below)))
