@@ -11,3 +11,4 @@ pub mod Offsets
 pub mod TextLaws
 pub mod LocalLaws
 pub mod LimitLaws
+pub mod Alone

@@ -2,6 +2,7 @@ pub mod Counts
 pub mod Language
 pub mod Grammar
 pub mod Levels
+pub mod Alone
 pub mod Source
 pub mod View
 pub mod Parsing

@@ -135,7 +135,7 @@ fn statement<'a>(alloc: Global, deeper: u32, at: Cursor<'a>) -> Result<(Stmt, Cu
 pub fn body<'a>(alloc: Global, deeper: u32, at: Cursor<'a>) -> Result<(Vec<Stmt>, Cursor<'a>), Stop>
     ensures { Gives (viewed statement_list_of) result (reads deeper body at.entry) }
 {
-    let mut statements = Vec::new(alloc);
+    let mut statements = Vec::with_capacity(alloc, 1)?;
     let mut at = at;
     'all: while next_statement(&at) {
         let (one, next) = statement(alloc, deeper, at)?;

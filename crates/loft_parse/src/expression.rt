@@ -12,7 +12,7 @@ use crate::counts::Counted;
 use crate::cursor::Cursor;
 use crate::lookahead::{
     next_builtin, next_compared, next_is_name, next_is_number, next_is_sign, next_is_word,
-    next_operation,
+    next_operation, next_stands_alone,
 };
 use crate::operator::{Level, comparing, operator_at};
 use crate::token::{first_word, name, numeral, opening_sign, sign};
@@ -179,6 +179,9 @@ fn chain<'a>(
 ) -> Result<(Expr, Cursor<'a>), Stop>
     ensures { Gives (viewed expression_of) result (reads deeper (chain_at level) at.entry) }
 {
+    if next_stands_alone(level, &at) {
+        return unary(alloc, deeper, at);
+    }
     let (mut left, mut at) = operand(alloc, deeper, level, at)?;
     'chain: while next_operation(level, &at) {
         let ((operator, right), next) = operation(alloc, deeper, level, at)?;

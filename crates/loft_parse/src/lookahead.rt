@@ -3,13 +3,14 @@
 ghost use Rattle.std.specs.Prelude.{◌≡◌};
 ghost use Rattle.loft_form.specs.Form.{next_begins};
 ghost use Rattle.loft_parse.specs.Grammar.{word, sign, name, text, numeral, builtin, atom, whole, equality, ordering, compared, statement, value_statement, event_statement, thread_statement, moving_statement, control_word, signed, parameter, outer_argument, local, order, item};
+ghost use Rattle.loft_parse.specs.Alone.{stands_alone};
 ghost use Rattle.loft_parse.specs.Levels.{operation_at};
 ghost use Rattle.loft_parse.specs.View.{symbols_at};
 
 use crate::counts::Counted;
 use crate::cursor::Cursor;
 use crate::operator::Level;
-use crate::symbol::{is_sign, is_word};
+use crate::symbol::{goes_on, is_plain, is_sign, is_word};
 use loft_lex::{Sign, What, Word};
 
 /// Whether the next symbol is the word.
@@ -126,6 +127,16 @@ pub fn next_operation<'a>(level: Level, at: &Cursor<'a>) -> bool
         Level::Sum => next_is_sign(Sign::Plus, at) || next_is_sign(Sign::Minus, at),
         Level::Conjunction => next_is_sign(Sign::And, at),
         Level::Disjunction => next_is_sign(Sign::Or, at),
+    }
+}
+
+/// Whether a number or a name comes next, and behind it no operator of the level or of one that binds more.
+pub fn next_stands_alone<'a>(level: Level, at: &Cursor<'a>) -> bool
+    ensures { result ≡ stands_alone level (symbols_at at.now) }
+{
+    match at.symbols {
+        [first, second, ..] => is_plain(first.what) && !goes_on(level, second.what),
+        _ => false,
     }
 }
 

@@ -7,6 +7,7 @@ use Rattle.loft_parse.specs.Grammar.{rules}
 use Rattle.loft_parse.specs.Levels.{operation_at}
 use Rattle.loft_parse.specs.Source.{limits}
 use Rattle.loft_parse.specs.View.{symbols_at, state_at, place_of}
+use Rattle.loft_parse.proofs.Alone.{alone}
 use Rattle.loft_parse.proofs.Chains.{chain_more, chain_fails, chain_done, least_operation}
 use Rattle.loft_parse.proofs.expression.+expression.Goals as goal
 
@@ -26,3 +27,6 @@ pub chain-returns-in_err-operator : goal.chain-returns-in_err-operator
 chain-returns-in_err-operator t c =
     let p = err_from_is_err_and c.from_residual-in_err-operator.result c.from_residual-in_err-operator.ensures.1 in
     rw (p.1, p.2) (chain_fails c.args.deeper (operation_at c.args.level) (expression_of c.chain.left) (symbols_at c.chain.at) (state_at c.chain.at) _ c.chain.invariant c.in_err-operator.field-0.0 (least_operation c.args.level) (sym c.chain-test.ensures) c.in_err-operator.ensures)
+
+pub chain-returns-then-next_stands_alone : goal.chain-returns-then-next_stands_alone
+chain-returns-then-next_stands_alone t c = rw (alone c.args.deeper c.args.level (symbols_at c.args.at) (state_at c.args.at) (sym c.if-next_stands_alone.ensures)) c.unary.ensures
