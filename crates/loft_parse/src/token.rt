@@ -1,6 +1,6 @@
 //! Reading single tokens.
 
-ghost use Rattle.std.specs.Prelude.{◌≡◌, ◌<◌, ◌==◌, None, Some, IfOk, OnOk, false};
+ghost use Rattle.std.specs.Prelude.{◌≡◌, ◌<◌, ◌==◌, [], ◌∷◌, None, Some, IfOk, OnOk, false};
 ghost use Rattle.loft_form.specs.Reading.{Gives, tally, leaf_at};
 ghost use Rattle.loft_parse.specs.Language.{is_word, is_sign};
 ghost use Rattle.loft_parse.specs.Source.{limits};
@@ -15,24 +15,28 @@ use loft_lex::{Sign, What, Word};
 use loft_tree::{Ident, Text};
 use std::alloc::Global;
 
-/// The counts with one more of these, if of any, at a token from which on so many are left.
+/// The counts with one more of these, at a token from which on so many are left.
+fn one_more(left: usize, what: Counted, counts: Counts) -> Result<Counts, Stop>
+    ensures { Gives (λ after. after) result (tally limits left (what ∷ []) counts) }
+{
+    let number = counts.number(what);
+    let limit = what.most();
+    if limit <= number {
+        return Err(Stop::Fault(Fault::TooMany {
+            left,
+            limit: u32::from(limit),
+        }));
+    }
+    Ok(counts.with(what, number + 1))
+}
+
+/// The same, if there is one of any.
 fn more(left: usize, what: Option<Counted>, counts: Counts) -> Result<Counts, Stop>
     ensures { Gives (λ after. after) result (tally limits left (due_of what) counts) }
 {
     match what {
         None => Ok(counts),
-        Some(what) => {
-            let number = counts.number(what);
-            let limit = what.most();
-            if limit <= number {
-                Err(Stop::Fault(Fault::TooMany {
-                    left,
-                    limit: u32::from(limit),
-                }))
-            } else {
-                Ok(counts.with(what, number + 1))
-            }
-        }
+        Some(what) => one_more(left, what, counts),
     }
 }
 

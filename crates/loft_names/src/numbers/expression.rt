@@ -72,7 +72,7 @@ pub fn terms(
     ensures { IfOk result (λ ts. map view.term_of ts.items
         ≡ terms_of table.now scope (map expression_of es.now)) }
 {
-    let mut all = Vec::new(alloc);
+    let mut all = Vec::with_capacity(alloc, es.len())?;
     for e in es {
         all.push(term(alloc, table, scope, e)?)?;
     }

@@ -213,7 +213,7 @@ pub fn body(
     ensures counted { OnOk result (stops.new
         ≡ stops.old + body_stops (statements_of statements.now)) }
 {
-    let mut all = Vec::new(alloc);
+    let mut all = Vec::with_capacity(alloc, statements.len())?;
     for s in statements {
         let numbered = statement(alloc, table, scope, s, stops)?;
         all.push(numbered)?;

@@ -27,5 +27,5 @@ body-returns t c = list_done rules limits c.args.deeper statement (statement_lis
 pub body-returns-in_err-one : goal.body-returns-in_err-one
 unfolding statement value_statement event_statement thread_statement moving_statement assignment print create generate await_event select choices choice get broadcast cooperate join control run halt link unlink conditional while_loop repeat body
 body-returns-in_err-one t c =
-    let p = err_from_is_err_and c.from_residual.result c.from_residual.ensures.1 in
+    let p = err_from_is_err_and c.from_residual-in_err-one.result c.from_residual-in_err-one.ensures.1 in
     rw (p.1, p.2) (list_fails rules limits c.args.deeper statement (statement_list_of c.all.statements) (symbols_at c.all.at) (state_at c.all.at) _ c.all.invariant c.in_err-one.field-0.0 (omega arith) (sym c.all-test.ensures) c.in_err-one.ensures)
