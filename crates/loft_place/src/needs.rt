@@ -1,6 +1,6 @@
 //! What statements name, and whether a thread is linked where that is.
 
-ghost use Rattle.std.specs.Prelude.{◌≡◌, [], ◌∷◌, map, false, slice_get};
+ghost use Rattle.std.specs.Prelude.{◌≡◌, [], ◌∷◌, ◌++◌, map, false, slice_get};
 ghost use Rattle.loft_tree.specs.NamedView.{term_of, value_of, event_use_of, creation_of, statement_of};
 ghost use Rattle.loft_place.specs.Links.{event_home, shared_home, begin_of, end_of, IsAnswer, shared_need, event_need, run_need, creation_need, term_needs, value_needs, terms_needs, target_needs, events_needs, creation_needs, needs_of};
 
@@ -162,68 +162,149 @@ fn check_creation(heads: &Heads, here: Place, creation: &NamedCreation) -> Resul
     check_terms(heads, here, creation.arguments.as_slice())
 }
 
+/// `x = E;`
+#[tactic(auto, using(crate::proofs::NeedLemmas::needs))]
+fn check_assign(
+    heads: &Heads,
+    here: Place,
+    target: Target,
+    value: &NamedExpr,
+) -> Result<(), PlaceError>
+    ensures { IsAnswer (target_needs heads.now here target ++ term_needs heads.now here (term_of value.now)) result }
+{
+    check_target(heads, here, target)?;
+    check_term(heads, here, value)
+}
+
+/// `t = create S.m(E, F);`
+#[tactic(auto, using(crate::proofs::NeedLemmas::needs))]
+fn check_assign_create(
+    heads: &Heads,
+    here: Place,
+    target: Target,
+    creation: &NamedCreation,
+) -> Result<(), PlaceError>
+    ensures { IsAnswer (target_needs heads.now here target ++ creation_needs heads.now here (creation_of creation.now)) result }
+{
+    check_target(heads, here, target)?;
+    check_creation(heads, here, creation)
+}
+
+/// `generate e, E;` and `await e for E;`, where the expression may be left out.
+#[tactic(auto, using(crate::proofs::NeedLemmas::needs))]
+fn check_event_value(
+    heads: &Heads,
+    here: Place,
+    event: EventUse,
+    value: &Option<NamedExpr>,
+) -> Result<(), PlaceError>
+    ensures { IsAnswer (event_need heads.now here (event_use_of event) ∷ value_needs heads.now here (value_of value.now)) result }
+{
+    check_event(heads, here, event)?;
+    check_value(heads, here, value)
+}
+
+/// `select e, g for E;`, where the limit may be left out.
+#[tactic(auto, using(crate::proofs::NeedLemmas::needs))]
+fn check_select(
+    heads: &Heads,
+    here: Place,
+    events: &[EventUse],
+    limit: &Option<NamedExpr>,
+) -> Result<(), PlaceError>
+    ensures { IsAnswer (events_needs heads.now here (map event_use_of events.now) ++ value_needs heads.now here (value_of limit.now)) result }
+{
+    check_events(heads, here, events)?;
+    check_value(heads, here, limit)
+}
+
+/// `get e at E into x;`
+#[tactic(auto, using(crate::proofs::NeedLemmas::needs))]
+fn check_get(
+    heads: &Heads,
+    here: Place,
+    event: EventUse,
+    index: &NamedExpr,
+    target: Target,
+) -> Result<(), PlaceError>
+    ensures { IsAnswer (event_need heads.now here (event_use_of event) ∷ (term_needs heads.now here (term_of index.now) ++ target_needs heads.now here target)) result }
+{
+    check_event(heads, here, event)?;
+    check_term(heads, here, index)?;
+    check_target(heads, here, target)
+}
+
+/// `join E for F;`, where the limit may be left out.
+#[tactic(auto, using(crate::proofs::NeedLemmas::needs))]
+fn check_join(
+    heads: &Heads,
+    here: Place,
+    thread: &NamedExpr,
+    limit: &Option<NamedExpr>,
+) -> Result<(), PlaceError>
+    ensures { IsAnswer (term_needs heads.now here (term_of thread.now) ++ value_needs heads.now here (value_of limit.now)) result }
+{
+    check_term(heads, here, thread)?;
+    check_value(heads, here, limit)
+}
+
+/// `run m(E, F);`
+#[tactic(auto, using(crate::proofs::NeedLemmas::needs))]
+fn check_call(
+    heads: &Heads,
+    here: Place,
+    called: u32,
+    module: ModuleId,
+    arguments: &[NamedExpr],
+) -> Result<(), PlaceError>
+    ensures { IsAnswer (run_need heads.now here called «module» ∷ terms_needs heads.now here (map term_of arguments.now)) result }
+{
+    check_run(heads, here, called, module)?;
+    check_terms(heads, here, arguments)
+}
+
 /// Whether all that a statement names, but in its bodies, is where the thread is.
 #[tactic(auto, using(crate::proofs::NeedLemmas::needs, loft_tree::proofs::NamedTrees::named_statements))]
 pub fn check_names(heads: &Heads, here: Place, statement: &NamedStmt) -> Result<(), PlaceError>
     ensures { IsAnswer (needs_of heads.now here (statement_of statement.now)) result }
 {
     match statement {
-        NamedStmt::Assign { target, value } => {
-            check_target(heads, here, *target)?;
-            check_term(heads, here, value)
-        }
+        NamedStmt::Assign { target, value } => check_assign(heads, here, *target, value),
         NamedStmt::AssignCreate {
             target,
             creation,
             ..
-        } => {
-            check_target(heads, here, *target)?;
-            check_creation(heads, here, creation)
-        }
+        } => check_assign_create(heads, here, *target, creation),
         NamedStmt::Create { creation, .. } => check_creation(heads, here, creation),
-        NamedStmt::PrintText { value, .. } => check_value(heads, here, value),
+        NamedStmt::PrintText { value, .. } | NamedStmt::Broadcast { value, .. } => check_value(
+            heads, here, value,
+        ),
         NamedStmt::PrintValue { value, .. } => check_term(heads, here, value),
         NamedStmt::Cooperate { instants, .. } => check_value(heads, here, instants),
-        NamedStmt::Generate { event, value, .. } => {
-            check_event(heads, here, *event)?;
-            check_value(heads, here, value)
-        }
-        NamedStmt::Await { event, limit, .. } => {
-            check_event(heads, here, *event)?;
-            check_value(heads, here, limit)
-        }
-        NamedStmt::Select { events, limit, .. } => {
-            check_events(heads, here, events.as_slice())?;
-            check_value(heads, here, limit)
-        }
+        NamedStmt::Generate { event, value, .. } => check_event_value(heads, here, *event, value),
+        NamedStmt::Await { event, limit, .. } => check_event_value(heads, here, *event, limit),
+        NamedStmt::Select { events, limit, .. } => check_select(
+            heads,
+            here,
+            events.as_slice(),
+            limit,
+        ),
         NamedStmt::Get {
             event,
             index,
             target,
             ..
-        } => {
-            check_event(heads, here, *event)?;
-            check_term(heads, here, index)?;
-            check_target(heads, here, *target)
-        }
-        NamedStmt::Join { thread, limit, .. } => {
-            check_term(heads, here, thread)?;
-            check_value(heads, here, limit)
-        }
+        } => check_get(heads, here, *event, index, *target),
+        NamedStmt::Join { thread, limit, .. } => check_join(heads, here, thread, limit),
         NamedStmt::Control { thread, .. } => check_term(heads, here, thread),
-        NamedStmt::Broadcast { value, .. } => check_value(heads, here, value),
         NamedStmt::Link { .. } | NamedStmt::Unlink { .. } | NamedStmt::Halt { .. } => Ok(()),
         NamedStmt::Run {
             called,
             module,
             arguments,
             ..
-        } => {
-            check_run(heads, here, *called, *module)?;
-            check_terms(heads, here, arguments.as_slice())
-        }
-        NamedStmt::If { test, .. } => check_term(heads, here, test),
-        NamedStmt::While { test, .. } => check_term(heads, here, test),
+        } => check_call(heads, here, *called, *module, arguments.as_slice()),
+        NamedStmt::If { test, .. } | NamedStmt::While { test, .. } => check_term(heads, here, test),
         NamedStmt::Repeat { count, .. } => check_term(heads, here, count),
     }
 }
