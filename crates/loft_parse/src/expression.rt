@@ -22,6 +22,7 @@ use loft_tree::{BinaryOperator, Builtin, Expr, UnaryOperator};
 use std::alloc::{AllocError, Global};
 
 /// An operator between its operands.
+#[inline(always)]
 fn binary(
     alloc: Global,
     operator: BinaryOperator,
@@ -70,6 +71,7 @@ fn bracketed<'a>(alloc: Global, deeper: u32, at: Cursor<'a>) -> Result<(Expr, Cu
 
 #[cycle(expression)]
 #[tactic(auto, unfolding(crate::specs::Grammar::atom, crate::specs::Grammar::builtin))]
+#[inline(always)]
 fn atom<'a>(alloc: Global, deeper: u32, at: Cursor<'a>) -> Result<(Expr, Cursor<'a>), Stop>
     ensures { Gives (viewed expression_of) result (reads deeper atom at.entry) }
 {
@@ -122,6 +124,7 @@ fn inverted<'a>(alloc: Global, deeper: u32, at: Cursor<'a>) -> Result<(Expr, Cur
 
 #[cycle(expression)]
 #[tactic(auto, unfolding(crate::specs::Grammar::unary, crate::specs::Grammar::negated, crate::specs::Grammar::inverted))]
+#[inline(always)]
 fn unary<'a>(alloc: Global, deeper: u32, at: Cursor<'a>) -> Result<(Expr, Cursor<'a>), Stop>
     ensures { Gives (viewed expression_of) result (reads deeper unary at.entry) }
 {
@@ -137,6 +140,7 @@ fn unary<'a>(alloc: Global, deeper: u32, at: Cursor<'a>) -> Result<(Expr, Cursor
 /// Reads an operand of the level.
 #[cycle(expression)]
 #[tactic(auto, unfolding(crate::specs::Grammar::term, crate::specs::Grammar::factor, crate::specs::Grammar::conjunction, crate::specs::Grammar::conjunct))]
+#[inline(always)]
 fn operand<'a>(
     alloc: Global,
     deeper: u32,
@@ -156,6 +160,7 @@ fn operand<'a>(
 /// Reads an operator of the level, and the operand after it.
 #[cycle(expression)]
 #[tactic(auto, using(crate::proofs::Chains::flat_operator))]
+#[inline(always)]
 fn operation<'a>(
     alloc: Global,
     deeper: u32,
@@ -193,6 +198,7 @@ fn chain<'a>(
 
 #[cycle(expression)]
 #[tactic(auto, unfolding(crate::specs::Grammar::compared, crate::specs::Grammar::equality, crate::specs::Grammar::ordering, crate::specs::Grammar::sum, crate::specs::Grammar::summand))]
+#[inline(always)]
 fn compared<'a>(
     alloc: Global,
     deeper: u32,
@@ -207,6 +213,7 @@ fn compared<'a>(
 
 #[cycle(expression)]
 #[tactic(auto, unfolding(crate::specs::Grammar::comparison, crate::specs::Grammar::sum, crate::specs::Grammar::summand))]
+#[inline(always)]
 fn comparison<'a>(alloc: Global, deeper: u32, at: Cursor<'a>) -> Result<(Expr, Cursor<'a>), Stop>
     ensures { Gives (viewed expression_of) result (reads deeper comparison at.entry) }
 {

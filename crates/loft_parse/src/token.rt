@@ -16,6 +16,7 @@ use loft_tree::{Ident, Text};
 use std::alloc::Global;
 
 /// The counts with one more of these, at a token from which on so many are left.
+#[inline(never)]
 fn one_more(left: usize, what: Counted, counts: Counts) -> Result<Counts, Stop>
     ensures { Gives (λ after. after) result (tally limits left (what ∷ []) counts) }
 {
@@ -31,6 +32,7 @@ fn one_more(left: usize, what: Counted, counts: Counts) -> Result<Counts, Stop>
 }
 
 /// The same, if there is one of any.
+#[inline(always)]
 fn more(left: usize, what: Option<Counted>, counts: Counts) -> Result<Counts, Stop>
     ensures { Gives (λ after. after) result (tally limits left (due_of what) counts) }
 {
@@ -42,6 +44,7 @@ fn more(left: usize, what: Option<Counted>, counts: Counts) -> Result<Counts, St
 
 /// The counts behind the next token, from which on so many are left. It counts as what is due, and then as `what`.
 #[tactic(auto, using(crate::proofs::Leaves::tally_append))]
+#[inline(always)]
 fn counted<'a>(left: usize, what: Option<Counted>, at: Cursor<'a>) -> Result<Counts, Stop>
     ensures { Gives (λ after. after) result (tally limits left (owed what (state_at at.entry)).due at.entry.counts) }
 {
@@ -51,6 +54,7 @@ fn counted<'a>(left: usize, what: Option<Counted>, at: Cursor<'a>) -> Result<Cou
 
 /// Reads the word, with its place.
 #[tactic(auto, unfolding(loft_form::specs::Reading::leaf_at))]
+#[inline(always)]
 fn word_at<'a>(
     wanted: Word,
     too_deep: bool,
@@ -78,6 +82,7 @@ fn word_at<'a>(
 
 /// Reads the sign, with its place.
 #[tactic(auto, unfolding(loft_form::specs::Reading::leaf_at))]
+#[inline(always)]
 fn sign_at<'a>(wanted: Sign, too_deep: bool, at: Cursor<'a>) -> Result<(u32, Cursor<'a>), Stop>
     ensures within { OnOk result (too_deep ≡ false) }
     ensures settled { IfOk result (λ x. x.1.due ≡ None) }
@@ -183,6 +188,7 @@ pub fn opening_sign<'a>(
 
 /// Reads a name.
 #[tactic(auto, unfolding(loft_form::specs::Reading::leaf_at), using(crate::proofs::Leaves::counting_is))]
+#[inline(always)]
 pub fn name<'a>(
     alloc: Global,
     what: Option<Counted>,
@@ -205,6 +211,7 @@ pub fn name<'a>(
 
 /// Reads a number, with its place.
 #[tactic(auto, unfolding(loft_form::specs::Reading::leaf_at), using(crate::proofs::Leaves::counting_is))]
+#[inline(always)]
 pub fn numeral<'a>(what: Option<Counted>, at: Cursor<'a>) -> Result<((u32, i64), Cursor<'a>), Stop>
     ensures { Gives itself result (reads_flat (counting what numeral) at.entry) }
 {
