@@ -1,5 +1,5 @@
 -- The symbols of the tokens so far.
-use Rattle.std.proofs.Common.{◌≡◌, ℕ, ◌+◌, ◌-◌, List, [], ◌∷◌, ◌++◌, take, drop, map, slice_range, refl, sym, ap, ◌∙◌, arith}
+use Rattle.std.proofs.Common.{◌≡◌, ℕ, ◌+◌, ◌-◌, List, [], ◌∷◌, ◌++◌, take, drop, slice_range, refl, sym, ◌∙◌, arith}
 use Rattle.std.proofs.lemmas.List.{map-append}
 use Rattle.loft_lex.specs.declared.token.TokenKind.{TokenKind}
 use Rattle.loft_lex.specs.declared.token.Token.{Token}
@@ -23,5 +23,5 @@ pub one_more : (text : List ℕ) (found : List SymbolInMemory) (ts : List Token)
     → symbols_seen (found ++ record { what = what; at = at } ∷ []) ≡ symbols text (ts ++ token kind at (at + (more + 1)) ∷ [])
 one_more text found ts what kind at more so_far says =
     let last : symbol_seen (record { what = what; at = at }) ≡ symbol_of text (token kind at (at + (more + 1))) =
-        rw (token_bytes text at more, says) refl in
+    rw (token_bytes text at more, says) refl in
     map-append symbol_seen found _ ∙ (rw (so_far, last) refl ∙ sym (map-append (symbol_of text) ts _))

@@ -5,6 +5,7 @@ mod expression;
 mod item;
 mod name;
 mod order;
+mod simple;
 mod statement;
 
 pub use item::items;

@@ -10,6 +10,7 @@ use loft_lex::{Sign, Word};
 use loft_tree::{Ident, Text};
 
 /// Appends blanks and bytes.
+#[inline(always)]
 fn put(out: &mut Vec<u8>, gap: &[u8], bytes: &[u8]) -> Result<(), NoMemory>
     ensures { OnOk result (out.new.items ≡ out.old.items ++ (gap.now ++ bytes.now)) }
 {
@@ -19,6 +20,7 @@ fn put(out: &mut Vec<u8>, gap: &[u8], bytes: &[u8]) -> Result<(), NoMemory>
 }
 
 /// Appends blanks and a word.
+#[inline(always)]
 pub fn put_word(out: &mut Vec<u8>, gap: &[u8], word: Word) -> Result<(), NoMemory>
     ensures { OnOk result (out.new.items ≡ out.old.items ++ (gap.now ++ word_spelling word)) }
 {
@@ -26,6 +28,7 @@ pub fn put_word(out: &mut Vec<u8>, gap: &[u8], word: Word) -> Result<(), NoMemor
 }
 
 /// Appends blanks and a sign.
+#[inline(always)]
 pub fn put_sign(out: &mut Vec<u8>, gap: &[u8], sign: Sign) -> Result<(), NoMemory>
     ensures { OnOk result (out.new.items ≡ out.old.items ++ (gap.now ++ sign_spelling sign)) }
 {
@@ -33,6 +36,7 @@ pub fn put_sign(out: &mut Vec<u8>, gap: &[u8], sign: Sign) -> Result<(), NoMemor
 }
 
 /// Appends blanks and a name.
+#[inline(always)]
 pub fn put_name(out: &mut Vec<u8>, gap: &[u8], name: &Ident) -> Result<(), NoMemory>
     ensures { OnOk result (out.new.items ≡ out.old.items ++ (gap.now ++ name.now.text)) }
 {

@@ -1,29 +1,20 @@
 //! Statements, with the bodies in them.
 
 ghost use Rattle.std.specs.Prelude.{◌≡◌};
-ghost use Rattle.loft_tree.specs.Source.{Assign};
-ghost use Rattle.loft_tree.specs.View.{expression_of, statement_of, statements_of};
+ghost use Rattle.loft_tree.specs.View.{statement_of, statements_of};
 ghost use Rattle.loft_names.specs.Faults.{body_faults, statement_faults};
 ghost use Rattle.loft_names.specs.Least.{least_of};
 
 use crate::error::NameError;
 use crate::faults::call::{call, creation};
-use crate::faults::expression::{begin_of, expression, wants, wants_if};
-use crate::faults::name::{event, events, scheduler, target, unlike, value};
+use crate::faults::expression::{expression, wants, wants_if};
+use crate::faults::name::scheduler;
+use crate::faults::simple::{
+    assign, assign_create, control, event_value, get, join, print_text, select,
+};
 use crate::scope::Scope;
 use crate::table::Table;
-use loft_tree::{Expr, Ident, Kind, Stmt};
-
-/// `x = E;`
-#[tactic(auto, using(crate::proofs::First::first_fault))]
-fn assign(table: &Table, scope: Scope, name: &Ident, e: &Expr, least: &mut Option<NameError>)
-    ensures { least.new ≡ least_of least.old
-        (statement_faults table.now scope (Assign name.now (expression_of e.now))) }
-{
-    let wanted = value(table, scope, name, least);
-    let found = expression(table, scope, e, least);
-    unlike(wanted, found, begin_of(e), least);
-}
+use loft_tree::{Kind, Stmt};
 
 /// A statement.
 #[cycle(statement)]
@@ -35,74 +26,34 @@ fn statement(table: &Table, scope: Scope, s: &Stmt, least: &mut Option<NameError
     match s {
         Stmt::Assign { target, value } => assign(table, scope, target, value, least),
         Stmt::AssignCreate {
-            target: name,
-            creation: made,
+            target,
+            creation,
             ..
-        } => {
-            target(table, scope, Kind::Thread, name, least);
-            creation(table, scope, made, least);
-        }
+        } => assign_create(table, scope, target, creation, least),
         Stmt::Create { creation: made, .. } => creation(table, scope, made, least),
-        Stmt::PrintText {
-            value: Some(value),
-            ..
-        }
-        | Stmt::PrintValue { value, .. } => {
+        Stmt::PrintText { value, .. } => print_text(table, scope, value, least),
+        Stmt::PrintValue { value, .. } => {
             expression(table, scope, value, least);
         }
-        Stmt::PrintText { value: None, .. } | Stmt::Unlink { .. } | Stmt::Halt { .. } => {}
+        Stmt::Unlink { .. } | Stmt::Halt { .. } => {}
         Stmt::Cooperate { instants, .. } => wants_if(table, scope, Kind::Int, instants, least),
-        Stmt::Generate {
-            event: name,
-            value,
-            ..
-        }
-        | Stmt::Broadcast {
-            event: name,
-            value,
-            ..
-        } => {
-            event(table, scope, name, least);
-            wants_if(table, scope, Kind::Int, value, least);
-        }
-        Stmt::Await {
-            event: name,
-            limit,
-            ..
-        } => {
-            event(table, scope, name, least);
-            wants_if(table, scope, Kind::Int, limit, least);
-        }
-        Stmt::Select {
-            events: names,
-            limit,
-            ..
-        } => {
-            events(table, scope, names.as_slice(), least);
-            wants_if(table, scope, Kind::Int, limit, least);
-        }
+        Stmt::Generate { event, value, .. } | Stmt::Broadcast { event, value, .. } => event_value(
+            table, scope, event, value, least,
+        ),
+        Stmt::Await { event, limit, .. } => event_value(table, scope, event, limit, least),
+        Stmt::Select { events, limit, .. } => select(table, scope, events.as_slice(), limit, least),
         Stmt::Get {
-            event: name,
+            event,
             index,
-            target: into,
+            target,
             ..
-        } => {
-            event(table, scope, name, least);
-            wants(table, scope, Kind::Int, index, least);
-            target(table, scope, Kind::Int, into, least);
-        }
-        Stmt::Join { thread, limit, .. } => {
-            wants(table, scope, Kind::Thread, thread, least);
-            wants_if(table, scope, Kind::Int, limit, least);
-        }
+        } => get(table, scope, event, index, target, least),
+        Stmt::Join { thread, limit, .. } => join(table, scope, thread, limit, least),
         Stmt::Control {
             thread,
-            scheduler: name,
+            scheduler,
             ..
-        } => {
-            wants(table, scope, Kind::Thread, thread, least);
-            scheduler(table, scope, name, least);
-        }
+        } => control(table, scope, thread, scheduler, least),
         Stmt::Link {
             scheduler: name,
             ..
@@ -126,16 +77,13 @@ fn statement(table: &Table, scope: Scope, s: &Stmt, least: &mut Option<NameError
             test,
             body: inner,
             ..
-        } => {
-            wants(table, scope, Kind::Int, test, least);
-            body(table, scope, inner.as_slice(), least);
         }
-        Stmt::Repeat {
-            count,
+        | Stmt::Repeat {
+            count: test,
             body: inner,
             ..
         } => {
-            wants(table, scope, Kind::Int, count, least);
+            wants(table, scope, Kind::Int, test, least);
             body(table, scope, inner.as_slice(), least);
         }
     }

@@ -1,4 +1,4 @@
-use Rattle.std.proofs.Common.{◌∙◌, [], ◌∷◌, ◌++◌, refl, sym, arith, ap}
+use Rattle.std.proofs.Common.{◌∙◌, [], ◌∷◌, ◌++◌, refl, arith, ap}
 use Rattle.loft_lex.specs.Front.{front_of}
 use Rattle.loft_lex.specs.Scan.{kind_seen}
 use Rattle.loft_lex.proofs.SymbolsRead.{one_more}
@@ -11,19 +11,23 @@ loop-at-init c = (omega arith, ([], at_start c.args.text.now, rw c.new-found.ens
 
 pub loop-at-preserved-in-Gap : goal.loop-at-preserved-in-Gap
 loop-at-preserved-in-Gap c =
-    let ts = c.loop-at.invariant.1.0 in
-    (omega (arith, c.in-Gap.ensures.fits, c.split_at.ensures.back_len),
-    (ts, at_gap ts c.args.text.now c.loop-at.at _ c.loop-at-test.true c.loop-at.invariant.1.1 c.in-Gap.more _ (c.in-Gap.ensures.front ∙ ap front_of c.split_at.ensures.back) refl, c.loop-at.invariant.1.2))
+    let ts = c.loop-at.invariant.1.0 in (
+      omega (arith, c.in-Gap.ensures.fits, c.split_at.ensures.back_len),
+      (ts, at_gap ts c.args.text.now c.loop-at.at _ c.loop-at-test.true c.loop-at.invariant.1.1 c.in-Gap.more _ (c.in-Gap.ensures.front ∙ ap front_of c.split_at.ensures.back) refl, c.loop-at.invariant.1.2),
+    )
 
 pub loop-at-preserved : goal.loop-at-preserved
 loop-at-preserved c =
     let ts = c.loop-at.invariant.1.0 in
     let kind = kind_seen c.in-Token.piece in
-    let more = c.in-Token.more in
-    (omega (arith, c.in-Token.ensures.fits, c.split_at.ensures.back_len),
-    (ts ++ token kind c.loop-at.at _ ∷ [],
-    at_piece ts c.args.text.now c.loop-at.at _ c.loop-at-test.true c.loop-at.invariant.1.1 kind more _ (c.in-Token.ensures.front ∙ ap front_of c.split_at.ensures.back) refl,
-    rw c.in_ok-push-in-Token.ensures.items (one_more c.args.text.now c.loop-at.found.items ts c.what.result kind c.loop-at.at more c.loop-at.invariant.1.2 (rw (c.what.ensures, c.split_at-in-Token.ensures.front, ← c.split_at.ensures.back) c.in-Token.ensures.readable))))
+    let more = c.in-Token.more in (
+      omega (arith, c.in-Token.ensures.fits, c.split_at.ensures.back_len),
+      (
+        ts ++ token kind c.loop-at.at _ ∷ [],
+        at_piece ts c.args.text.now c.loop-at.at _ c.loop-at-test.true c.loop-at.invariant.1.1 kind more _ (c.in-Token.ensures.front ∙ ap front_of c.split_at.ensures.back) refl,
+        rw c.in_ok-push-in-Token.ensures.items (one_more c.args.text.now c.loop-at.found.items ts c.what.result kind c.loop-at.at more c.loop-at.invariant.1.2 (rw (c.what.ensures, c.split_at-in-Token.ensures.front, ← c.split_at.ensures.back) c.in-Token.ensures.readable)),
+      ),
+    )
 
 pub returns-in-Fault-clause-fault : goal.returns-in-Fault-clause-fault
 returns-in-Fault-clause-fault c =
