@@ -1,5 +1,5 @@
 -- An operand that stands alone is an expression of every level.
-use Rattle.std.proofs.Common.{◌≡◌, ℕ, ◌+◌, ◌<◌, Bool, true, false, not, ◌&&◌, ◌||◌, List, [], ◌∷◌, length, Result, Ok, Err, Option, Some, None, refl, sym, ap, ◌∙◌, arith}
+use Rattle.std.proofs.Common.{◌≡◌, ℕ, ◌+◌, ◌<◌, Bool, true, false, not, ◌&&◌, ◌||◌, List, [], ◌∷◌, length, Result, Ok, Err, Option, refl, sym, ap, ◌∙◌}
 use Rattle.loft_lex.specs.Symbol.{Symbol, What, Named, Keyword, Numeral, Quoted, Mark, Unreadable}
 use Rattle.loft_tree.specs.declared.kinds.BinaryOperator.{BinaryOperator}
 use Rattle.loft_tree.specs.Source.{Expression, Number, Variable}
@@ -10,10 +10,10 @@ use Rattle.loft_form.specs.Spells.{owing}
 use Rattle.loft_form.proofs.Progress.{least, many_done}
 use Rattle.loft_parse.specs.declared.counts.Counts.{Counts}
 use Rattle.loft_parse.specs.declared.counts.Counted.TheVariants as counts
-use Rattle.loft_parse.specs.Alone.{in_sum, in_conjunction, goes_on, stands_alone}
-use Rattle.loft_parse.specs.Language.{Language, Kind, kind_of, is_sign, is_number, is_name}
-use Rattle.loft_parse.specs.Grammar.{Form, rules, chain, comparison_of, unary, negated, inverted, atom, factor, term, summand, sum, compared, equality, ordering, comparison, conjunct, conjunction}
-use Rattle.loft_parse.specs.Levels.{operand_at, operation_at, chain_at}
+use Rattle.loft_parse.specs.Alone.{goes_on, stands_alone}
+use Rattle.loft_parse.specs.Language.{Language, kind_of, is_number, is_name}
+use Rattle.loft_parse.specs.Grammar.{Form, rules, chain, comparison_of, unary, negated, inverted, atom, factor, term, summand, sum, compared, comparison, conjunct, conjunction}
+use Rattle.loft_parse.specs.Levels.{operation_at, chain_at}
 use Rattle.loft_parse.specs.Source.{limits}
 use Rattle.loft_parse.specs.declared.operator.Level.{Level}
 use Rattle.loft_parse.specs.declared.operator.Level.TheVariants.{Product, Sum, Conjunction, Disjunction}
