@@ -1,7 +1,6 @@
 -- From what a command did to what it promises of its answer.
 use Rattle.std.proofs.Common.{◌≡◌, ℕ, ◌⊎◌, inl, inr, List, [], ◌∷◌, ◌++◌, refl, sym, ◌∙◌, subst, Option, Some, Ok, Err, codes}
 use Rattle.loft_base.specs.Outside.{appended, GrowsByPrefix, Rose}
-use Rattle.loft_tree.specs.Source.{Source}
 use Rattle.loft_app.specs.declared.status.Status.{Status}
 use Rattle.loft_app.specs.declared.status.Status.TheVariants as status
 use Rattle.loft_app.specs.declared.refusal.Refusal.{Refusal}

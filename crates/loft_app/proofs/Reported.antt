@@ -23,25 +23,24 @@ text_of-append (x ∷ xs) ys = ap (λ (t : List ℕ). (x ++ 10 ∷ []) ++ t) (te
 
 -- the report of a whole run keeps the promise
 promised : (x : Prog) (o : RunOptions) (s : SchedId) (run : Finished) → length (heads x).schedulers ≡ 1 → s.0 ≡ 0
-    → IsWholeRun x o.limits s run.turns.items run.last → IsReport x o (run_report (heads x) o s run)
+    → IsWholeRun x o s run.turns.items run.last → IsReport x o (run_report (heads x) o s run)
 promised x o s run one zero whole = record {
   choices = choices_of s run.turns.items;
   history = entries_of s run.turns.items;
   named = (_, text_of-append (head_lines (heads x) o (choices_of s run.turns.items)) _);
   made = whole.history;
-  legal = made_is_legal x o.limits (choices_of s run.turns.items) (entries_of s run.turns.items) whole.history;
-  whole = sym (report-run x o s run one zero whole.notes whole.linked whole.nothing);
+  legal = made_is_legal x o (choices_of s run.turns.items) (entries_of s run.turns.items) whole.history;
+  whole = sym (report-run x o s run one zero whole.notes whole.linked whole.shared whole.nothing);
   ended = whole.ended;
 }
 
 -- the report of a whole run of a program that is built, with the options for which none is given
 pub whole_report : (n : NamedProgram) (x : Prog) (limits : Limits) (o : RunOptions) (run : Finished) → IsBuilt n
-    → o ≡ default_options → x ≡ Tree (resolved_of n) → limits ≡ o.limits → IsWholeRun x limits only run.turns.items run.last
+    → o ≡ default_options → x ≡ Tree (resolved_of n) → limits ≡ o.limits → ((q : RunOptions) → q.limits ≡ limits → IsWholeRun x q only run.turns.items run.last)
     → IsReport (Tree (resolved_of n)) default_options (run_report n.heads o only run)
 whole_report n x limits o run built options program bounds made =
     let same : limits ≡ default_limits = bounds ∙ ap (λ (q : RunOptions). q.limits) options in
-    let whole : IsWholeRun (Tree (resolved_of n)) default_limits only run.turns.items run.last =
-    subst (λ (l : Limits). IsWholeRun (Tree (resolved_of n)) l only run.turns.items run.last) same
-    (subst (λ (q : Prog). IsWholeRun q limits only run.turns.items run.last) program made) in
+    let whole : IsWholeRun (Tree (resolved_of n)) default_options only run.turns.items run.last =
+    subst (λ (q : Prog). IsWholeRun q default_options only run.turns.items run.last) program (made default_options (sym same)) in
     subst (λ (q : RunOptions). IsReport (Tree (resolved_of n)) default_options (run_report n.heads q only run)) (sym options)
     (promised (Tree (resolved_of n)) default_options only run built.heads.one_scheduler refl whole)

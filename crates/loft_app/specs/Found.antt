@@ -1,7 +1,6 @@
 -- What stops the reading and the placing of a program.
 use Rattle.std.specs.Prelude.{ℕ, List}
 use Rattle.loft_tree.specs.Source.{Source}
-use Rattle.loft_app.specs.declared.refusal.Refusal.{Refusal}
 use Rattle.loft_app.specs.declared.refusal.Refusal.TheVariants as refusal
 use Rattle.loft_app.specs.declared.refusal.Stopped.{Stopped}
 use Rattle.loft_app.specs.declared.refusal.Stopped.TheVariants.{Refused, FileFault, SinkFault, NoMemory}

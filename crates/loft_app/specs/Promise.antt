@@ -8,7 +8,8 @@ use Rattle.loft_show.specs.Canon.{Canon}
 use Rattle.loft_sense.specs.declared.limits.Limits.{Limits}
 use Rattle.loft_sense.specs.declared.limits.RunOptions.{RunOptions}
 use Rattle.loft_sense.specs.Machine.{Prog, Tree, heads}
-use Rattle.loft_sense.specs.History.{Entry, Choice, hist, HasEnded}
+use Rattle.loft_sense.specs.declared.entry.Entry.{Entry}
+use Rattle.loft_sense.specs.History.{Choice, hist, HasEnded}
 use Rattle.loft_sense.specs.Legal.{IsLegal}
 use Rattle.loft_sense.specs.Lines.{text_of}
 use Rattle.loft_sense.specs.Report.{head_lines, report}
@@ -33,10 +34,10 @@ pub record IsReport (x : Prog) (o : RunOptions) (text : List ℕ) : Type 0 where
   pub choices : List Choice
   pub history : List Entry
   pub named : BeginsWith (heads x) o choices text
-  pub made : hist x o.limits choices ≡ Ok history
-  pub legal : IsLegal x o.limits history
+  pub made : hist x o choices ≡ Ok history
+  pub legal : IsLegal x o history
   pub whole : text ≡ report x o history
-  pub ended : HasEnded x o.limits history
+  pub ended : HasEnded x o history
 
 -- what a command answers: the report of a run, the canonical text, or `ok`
 abbrev pub IsAnswerText : Command → Source → List ℕ → Type 0

@@ -17,9 +17,10 @@ use crate::source::placed;
 use loft_base::{Gate, SchedId, Sink, WriteError, write_lines};
 use loft_log::write_report;
 use loft_place::Placed;
-use loft_plain::{PlainEngine, is_built, starts_fit};
+use loft_plain::{PlainEngine, built_programs_are_quiet, is_built};
 use loft_sense::{Limits, RunOptions};
 use loft_show::show;
+use loft_stand::instants_keep_standing;
 use loft_tree::Program;
 use loft_turns::run_alone;
 use std::alloc::Global;
@@ -56,11 +57,12 @@ fn run_program<R: Threads + Wait + Sync, S: Sink, G: Gate>(
     ensures sink { IsErrOf result WriteError.Sink → Rose (S.faults sink.old) (S.faults sink.new) }
     ensures never_falls { S.faults sink.old ≤ S.faults sink.new }
 {
-    starts_fit();
+    built_programs_are_quiet();
+    instants_keep_standing();
     let heads = &placed.program().heads;
     let options = defaults();
     let scheduler = SchedId(0);
-    let engine = PlainEngine::new(alloc, placed, scheduler, options.limits);
+    let engine = PlainEngine::new(alloc, placed, scheduler, options.limits)?;
     let run = run_alone(rt, alloc, heads, engine, scheduler, gate)?;
     write_report(alloc, heads, &options, scheduler, &run, sink)
 }

@@ -1,5 +1,6 @@
 //! What the program answers to words and programs.
 
+mod engine;
 mod outside;
 
 use crate::app::loft_main;

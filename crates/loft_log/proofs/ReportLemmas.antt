@@ -1,16 +1,24 @@
 -- The parts of a report, one behind the other.
-use Rattle.std.proofs.Common.{◌≡◌, ℕ, ◌+◌, ◌==◌, ◌<◌, Bool, true, false, List, [], ◌∷◌, ◌++◌, length, drop, get_or, min, ◌≤◌, ◌*◌, map, refl, ap, ◌∙◌, if◌then◌else◌, codes, arith, length-drop}
+use Rattle.std.proofs.Common.{◌≡◌, ℕ, ◌+◌, ◌==◌, ◌<◌, Bool, true, false, List, [], ◌∷◌, ◌++◌, length, drop, get_or, min, ◌≤◌, ◌*◌, map, refl, ap, ◌∙◌, if◌then◌else◌, codes, arith, length-drop, ℤ, FitsSigned, w64, to_z, of_z, eq-eqb}
+use Rattle.std.specs.Fmt.{signed_decimal}
 use Rattle.std.proofs.lemmas.Grind.{common_steps}
+use Rattle.std.proofs.lemmas.Bool.{ne_eqb}
+use Rattle.std.proofs.lemmas.Int.{to_z-of_z}
+use Rattle.std.proofs.lemmas.List.{drop_all}
+use Rattle.std.proofs.lemmas.Option.{slice_get_read}
 use Rattle.loft_base.specs.declared.ids.SchedId.{SchedId}
+use Rattle.loft_base.specs.declared.ids.SharedId.{SharedId}
+use Rattle.loft_tree.specs.declared.heads.SharedHead.{SharedHead}
 use Rattle.loft_tree.specs.declared.heads.Heads.{Heads}
 use Rattle.loft_sense.specs.declared.order.Order.{Order}
 use Rattle.loft_sense.specs.declared.order.Mark.{Mark}
 use Rattle.loft_sense.specs.declared.order.Sent.{Sent}
 use Rattle.loft_sense.specs.declared.note.Ended.{Ended}
+use Rattle.loft_sense.specs.Heads.{shared_from}
 use Rattle.loft_sense.specs.History.{choice_of}
-use Rattle.loft_sense.specs.Text.{scheduler_name, order_text}
+use Rattle.loft_sense.specs.Text.{space, scheduler_name, name_of_shared, order_text}
 use Rattle.loft_sense.specs.Lines.{text_of, end_line, mark_word, ends_at, batch_lines, leave_line, leave_lines, instant_lines}
-use Rattle.loft_sense.specs.Report.{choice_line, instants_lines}
+use Rattle.loft_sense.specs.Report.{choice_line, instants_lines, shared_lines}
 use Rattle.loft_sense.specs.declared.turn.SchedulerTurn.{SchedulerTurn}
 use Rattle.loft_sense.specs.Turns.{entries_of, batches_of, notes_of}
 use Rattle.loft_log.proofs.LineLemmas.{text_of-append, drop-at}
@@ -66,3 +74,42 @@ batch-end h stopped os ms k past = ap text_of (batch-none h stopped k (drop k os
 pub choices-count : (s : SchedId) (ts : List SchedulerTurn) → 2 * length ts ≡ length (map choice_of (entries_of s ts))
 choices-count s [] = refl
 choices-count s (t ∷ ts) = omega (arith, choices-count s ts)
+
+-- the lines of these values, for the scheduler's variables from number k on
+abbrev pub shared_behind : Heads → SchedId → ℕ → List ℤ → List (List ℕ)
+shared_behind h s k values = shared_lines h (shared_from k s (drop k h.shared)) values
+
+abbrev pub value_text : List ℕ → ℤ → List ℕ
+value_text name v = codes "shared " ++ (name ++ (space ++ signed_decimal v))
+
+-- a line is that of a value, where its name is read from a list and its number from its bits
+pub value_line-read : {line name read : List ℕ} (v : ℤ) → FitsSigned w64 v → line ≡ value_text read (to_z w64 (of_z w64 v)) → read ≡ name → line ≡ value_text name v
+value_line-read {name = name} v fits is same = is ∙ (ap (λ n. value_text n (to_z w64 (of_z w64 v))) same ∙ ap (value_text name) (to_z-of_z w64 v fits))
+
+-- another scheduler's variable has no line
+pub shared-skipped : (h : Heads) (s : SchedId) (k : ℕ) (x : SharedHead) (values : List ℤ) → k < length h.shared → x ≡ get_or h.shared k x → (s.0 ≡ x.scheduler.0 → ⊥)
+    → text_of (shared_behind h s k values) ≡ text_of (shared_behind h s (k + 1) values)
+shared-skipped h s k x values below is elsewhere =
+    ap (λ xs. text_of (shared_lines h (shared_from k s xs) values)) (drop-at h.shared k x below is)
+    ∙ ap (λ b. text_of (shared_lines h (if b then record { 0 = k } ∷ shared_from (k + 1) s (drop (k + 1) h.shared) else shared_from (k + 1) s (drop (k + 1) h.shared)) values)) (ne_eqb s.0 x.scheduler.0 elsewhere)
+
+-- the scheduler's variable at this index has the first value that is left
+pub shared-written : (h : Heads) (s : SchedId) (k : ℕ) (x : SharedHead) (v : ℤ) (left rest : List ℤ) → k < length h.shared → x ≡ get_or h.shared k x → s.0 ≡ x.scheduler.0 → left ≡ v ∷ rest
+    → text_of (shared_behind h s k left) ≡ (value_text x.name v ++ 10 ∷ []) ++ text_of (shared_behind h s (k + 1) rest)
+shared-written h s k x v left rest below is here first =
+    ap (λ values. text_of (shared_behind h s k values)) first
+    ∙ ap (λ xs. text_of (shared_lines h (shared_from k s xs) (v ∷ rest))) (drop-at h.shared k x below is)
+    ∙ ap (λ b. text_of (shared_lines h (if b then record { 0 = k } ∷ shared_from (k + 1) s (drop (k + 1) h.shared) else shared_from (k + 1) s (drop (k + 1) h.shared)) (v ∷ rest))) (eq-eqb s.0 x.scheduler.0 here)
+    ∙ ap (λ o. (value_text (name_of_shared o) v ++ 10 ∷ []) ++ text_of (shared_behind h s (k + 1) rest)) (slice_get_read h.shared (length h.shared) k x refl below is)
+
+no-values : (h : Heads) (xs : List SharedId) → shared_lines h xs [] ≡ []
+no-values h [] = refl
+no-values h (x ∷ xs) = refl
+
+-- without a further value nothing is left
+pub shared-spent : (h : Heads) (s : SchedId) (k : ℕ) → text_of (shared_behind h s k []) ≡ []
+shared-spent h s k = ap text_of (no-values h (shared_from k s (drop k h.shared)))
+
+-- behind the last variable nothing is left
+pub shared-end : (h : Heads) (s : SchedId) (k : ℕ) (values : List ℤ) → length h.shared ≤ k → text_of (shared_behind h s k values) ≡ []
+shared-end h s k values past = ap (λ xs. text_of (shared_lines h (shared_from k s xs) values)) (drop_all k h.shared past)

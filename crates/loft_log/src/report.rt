@@ -1,30 +1,30 @@
 //! Writes the report of a run.
 
-mod line;
 mod lines;
 mod order_text;
 #[cfg(test)]
 mod tests;
-mod text;
 mod thread_text;
 
 ghost use Rattle.std.specs.Prelude.{◌≡◌, ◌≤◌, ◌++◌, [], ◌∷◌, map, codes, OnOk, OnErr, IsErrOf};
 ghost use Rattle.std.specs.Fmt.{decimal};
 ghost use Rattle.loft_base.specs.Outside.{Rose, appended, GrowsByPrefix};
+ghost use Rattle.loft_sense.specs.Heads.{shared_of};
 ghost use Rattle.loft_sense.specs.History.{choice_of};
 ghost use Rattle.loft_sense.specs.Text.{scheduler_name, order_text};
 ghost use Rattle.loft_sense.specs.Lines.{text_of, mark_word, ends_at, batch_lines, leave_line, leave_lines, instant_lines};
-ghost use Rattle.loft_sense.specs.Report.{choice_line, head_lines, instants_lines, final_lines};
+ghost use Rattle.loft_sense.specs.Report.{choice_line, head_lines, instants_lines, shared_lines, final_lines};
 ghost use Rattle.loft_sense.specs.Turns.{entries_of, batches_of, notes_of};
 ghost use Rattle.loft_log.specs.RunReport.{turns_lines, run_report};
 ghost use Rattle.loft_base.specs.Writing.{WritesTo};
 
-use self::line::LineBuffer;
 use self::lines::{
     InOneLine, leaver_line, make_end_line, number_line, order_line, scheduler_line, text_line,
+    value_line,
 };
 use loft_base::{SchedId, Sink, WriteError};
-use loft_sense::{Ended, Finished, Mark, Order, RunOptions, SchedulerTurn, Sent, Standing};
+use loft_sense::{Ended, FinalState, Finished, Mark, Order, RunOptions, SchedulerTurn, Sent};
+use loft_text::LineBuffer;
 use loft_tree::Heads;
 use std::alloc::Global;
 
@@ -73,7 +73,7 @@ impl ReportWriter<'_> {
     {
         let turns = run.turns.as_slice();
         self.write_head(options, s, turns, sink)?;
-        self.write_block(s, turns, run.last.linked.as_slice(), sink)?;
+        self.write_block(s, turns, &run.last, sink)?;
         self.write_number("left ", 0, sink)?;
         self.write_text("end", sink)
     }
@@ -130,15 +130,15 @@ impl ReportWriter<'_> {
         &self,
         s: SchedId,
         turns: &[SchedulerTurn],
-        linked: &[Standing],
+        last: &FinalState,
         sink: &mut S,
     ) -> Result<(), WriteError>
         ensures { WritesTo S.written S.faults sink.old sink.new result
-            (text_of (turns_lines self.now.heads.now s turns.now linked.now)) }
+            (text_of (turns_lines self.now.heads.now s turns.now last.now)) }
     {
         self.write_scheduler("scheduler ", s, sink)?;
         self.write_instants(turns, sink)?;
-        self.write_final(linked, sink)
+        self.write_final(s, last, sink)
     }
 
     /// Writes the instants of turns.
@@ -171,7 +171,8 @@ impl ReportWriter<'_> {
         )?;
         self.write_lines(note.acts.as_slice(), sink)?;
         self.write_leavers(note.sent.as_slice(), sink)?;
-        self.write_lines(note.stands.as_slice(), sink)
+        self.write_lines(note.stands.as_slice(), sink)?;
+        self.write_lines(note.changed.as_slice(), sink)
     }
 
     /// Writes the orders of a batch, each with its mark and the ends that it made.
@@ -268,12 +269,43 @@ impl ReportWriter<'_> {
     }
 
     /// Writes the scheduler's last state.
-    fn write_final<S: Sink>(&self, linked: &[Standing], sink: &mut S) -> Result<(), WriteError>
+    fn write_final<S: Sink>(
+        &self,
+        s: SchedId,
+        last: &FinalState,
+        sink: &mut S,
+    ) -> Result<(), WriteError>
         ensures { WritesTo S.written S.faults sink.old sink.new result
-            (text_of (final_lines self.now.heads.now linked.now)) }
+            (text_of (final_lines self.now.heads.now s last.now.linked last.now.shared)) }
     {
+        let linked = last.linked.as_slice();
         self.write_number("state ", linked.len() as u64, sink)?;
-        self.write_lines(linked, sink)
+        self.write_lines(linked, sink)?;
+        self.write_shared(s, last.shared.as_slice(), sink)
+    }
+
+    /// Writes the scheduler's shared variables with their values.
+    fn write_shared<S: Sink>(
+        &self,
+        s: SchedId,
+        values: &[i64],
+        sink: &mut S,
+    ) -> Result<(), WriteError>
+        ensures { WritesTo S.written S.faults sink.old sink.new result
+            (text_of (shared_lines self.now.heads.now
+            (shared_of self.now.heads.now s) values.now)) }
+    {
+        let mut left = values;
+        for head in self.heads.shared.as_slice() {
+            if s.0 == head.scheduler.0 {
+                let Some((value, rest)) = left.split_first() else {
+                    return Ok(());
+                };
+                write_line(value_line(self.alloc, head.name.as_slice(), *value)?, sink)?;
+                left = rest;
+            }
+        }
+        Ok(())
     }
 
     /// Writes a line for each item.

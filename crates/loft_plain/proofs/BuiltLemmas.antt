@@ -8,17 +8,12 @@ use Rattle.loft_tree.specs.declared.named.Module.{Module}
 use Rattle.loft_tree.specs.ProgramView.{module_of}
 use Rattle.loft_tree.specs.Stops.{size_of, size}
 use Rattle.loft_plain.specs.declared.built.TheConstants.{MAX_BUILT_STATEMENTS}
-use Rattle.std.specs.Prelude.{ℕ, zero, suc, Option, Some, None, All, map, slice_get}
-use Rattle.std.specs.List.{AllByRecursion}
-use Rattle.std.proofs.lemmas.List.Elements.{All-from_recursion}
-use Rattle.loft_base.specs.declared.ids.ModuleId.{ModuleId}
+use Rattle.std.specs.Prelude.{Option, Some, None, map}
 use Rattle.loft_tree.specs.Fits.{Each}
 use Rattle.loft_tree.specs.NamedTree.{NamedExpression, NamedStatements, Done, Then, NamedModule, NamedProgram}
 use Rattle.loft_tree.specs.Resolved.{exp_if, step_of, body_of, resolved_of}
-use Rattle.loft_tree.specs.Resolved as resolved
-use Rattle.loft_sense.specs.Run.{Prints, Cooperates}
-use Rattle.loft_sense.specs.Tree.{Work, Begin, before, next_action, next_pause, body_or_empty, body_at}
-use Rattle.loft_plain.specs.Built.{HasMeaning, StatementIsBuilt, StatementsAreBuilt, ModuleIsBuilt, IsBuilt}
+use Rattle.loft_sense.specs.Quiet.{IsNone, IsQuietStep, IsQuietBody, IsQuiet}
+use Rattle.loft_plain.specs.Built.{StatementIsBuilt, StatementsAreBuilt, ModuleIsBuilt, IsBuilt}
 
 one_statement : (s : NamedStatement) → StatementIsBuilt s → size_of s ≡ 1
 one_statement (PrintText at line value) built = refl
@@ -39,28 +34,23 @@ pub too_many_statements : (m : Module) (b : Bool) → MAX_BUILT_STATEMENTS < len
 too_many_statements m b many none =
     (λ built. absurd cc, λ built. absurd (omega (arith, size_is_length m.body.items built.statements, built.few, many)))
 
-printed : (line : List ℕ) (value : Option NamedExpression) → value ≡ None → (rest : List Work) → next_action (resolved.PrintText line (exp_if value)) rest ≡ Prints line rest
-printed line None none rest = refl
-printed line (Some e) none rest = absurd cc
+no_value : (value : Option NamedExpression) → value ≡ None → IsNone (exp_if value)
+no_value None none = tt
+no_value (Some e) none = absurd cc
 
-cooperated : (stop : ℕ) (instants : Option NamedExpression) → instants ≡ None → (rest : List Work) → next_pause (resolved.Cooperate (exp_if instants)) stop rest ≡ Cooperates stop rest
-cooperated stop None none rest = refl
-cooperated stop (Some e) none rest = absurd cc
+quiet_step : (s : NamedStatement) → StatementIsBuilt s → IsQuietStep (step_of s)
+quiet_step (PrintText at line value) built = no_value value built
+quiet_step (Cooperate at stop instants) built = no_value instants built
+quiet_step s built = absurd built
 
-never_stuck : (s : NamedStatement) → StatementIsBuilt s → HasMeaning (Begin (step_of s))
-never_stuck (PrintText at line value) built rest stuck = let e = printed line value built rest in cc
-never_stuck (Cooperate at stop instants) built rest stuck = let e = cooperated stop instants built rest in cc
-never_stuck s built rest stuck = absurd built
+quiet_body : (b : NamedStatements) → StatementsAreBuilt b → IsQuietBody (body_of b)
+quiet_body Done built = tt
+quiet_body (Then s b) built = (quiet_step s built.0, quiet_body b built.1)
 
-body_has_meaning : (b : NamedStatements) → StatementsAreBuilt b → AllByRecursion HasMeaning (before (body_of b) [])
-body_has_meaning Done built = tt
-body_has_meaning (Then s b) built = (never_stuck s built.0, body_has_meaning b built.1)
+quiet_bodies : (ms : List NamedModule) → Each ModuleIsBuilt ms → Each IsQuietBody (map (λ (m : NamedModule). body_of m.body) ms)
+quiet_bodies [] built = tt
+quiet_bodies (m ∷ ms) built = (quiet_body m.body built.0.statements, quiet_bodies ms built.1)
 
-module_has_meaning : (ms : List NamedModule) (k : ℕ) → Each ModuleIsBuilt ms → AllByRecursion HasMeaning (before (body_or_empty (slice_get (map (λ (m : NamedModule). body_of m.body) ms) k)) [])
-module_has_meaning [] k built = tt
-module_has_meaning (m ∷ ms) zero built = body_has_meaning m.body built.0.statements
-module_has_meaning (m ∷ ms) (suc k) built = module_has_meaning ms k built.1
-
--- each statement of a program that can be run so far is given a meaning
-pub have_meaning : (n : NamedProgram) (m : ModuleId) → IsBuilt n → All HasMeaning (before (body_at (resolved_of n) m) [])
-have_meaning n m built = All-from_recursion HasMeaning (before (body_at (resolved_of n) m) []) (module_has_meaning n.modules m.0 built.modules)
+-- threads of a program that can be run so far do nothing but print a text and cooperate
+pub are_quiet : (n : NamedProgram) → IsBuilt n → IsQuiet (resolved_of n)
+are_quiet n built = quiet_bodies n.modules built.modules

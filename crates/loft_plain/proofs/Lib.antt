@@ -1,4 +1,6 @@
 pub mod BuiltLemmas
-pub mod StartLemmas
-pub mod ThreadLemmas
-pub mod RestLemmas
+pub mod PositionLemmas
+pub mod RunnerLemmas
+pub mod PassLemmas
+pub mod InstantLemmas
+pub mod EngineLemmas

@@ -1,5 +1,5 @@
 -- The programs that can be run so far (docs/LANGUAGE.md, "Programs that run").
-use Rattle.std.specs.Prelude.{◌≡◌, ◌≢◌, List, ℕ, ◌≤◌, [], length, None, Some, slice_get}
+use Rattle.std.specs.Prelude.{◌≡◌, ◌≤◌, [], length, None}
 use Rattle.loft_base.specs.declared.ids.SchedId.{SchedId}
 use Rattle.loft_tree.specs.declared.heads.Place.TheVariants.{Sched}
 use Rattle.loft_tree.specs.declared.heads.Signature.{Signature}
@@ -8,8 +8,6 @@ use Rattle.loft_tree.specs.declared.heads.Heads.{Heads}
 use Rattle.loft_tree.specs.NamedTree.{NamedStatement, PrintText, Cooperate, NamedStatements, Done, Then, NamedModule, NamedProgram}
 use Rattle.loft_tree.specs.Fits.{Each}
 use Rattle.loft_tree.specs.Stops.{size}
-use Rattle.loft_sense.specs.Run.{Stuck}
-use Rattle.loft_sense.specs.Tree.{Work, Begin, next_begin}
 use Rattle.loft_plain.specs.declared.built.TheConstants.{MAX_BUILT_MODULES, MAX_BUILT_STARTS, MAX_BUILT_STATEMENTS}
 
 -- `print "..";` or `cooperate;`
@@ -56,11 +54,3 @@ pub record HeadsAreBuilt (h : Heads) : Type 0 where
 pub record IsBuilt (n : NamedProgram) : Type 0 where
   pub heads : HeadsAreBuilt n.heads
   pub modules : Each ModuleIsBuilt n.modules
-
--- no module has a parameter
-abbrev pub HaveNoParameters : Heads → Type 0
-HaveNoParameters h = (k : ℕ) (m : Signature) → slice_get h.modules k ≡ Some m → length m.parameters ≡ 0
-
--- a statement that is given a meaning, whatever comes after it
-abbrev pub HasMeaning : Work → Type 0
-HasMeaning (Begin s) = (rest : List Work) → next_begin s rest ≢ Stuck

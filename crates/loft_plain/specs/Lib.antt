@@ -1,3 +1,5 @@
 pub mod Built
-pub mod EngineView
+pub mod View
+pub mod Positions
+pub mod States
 pub mod PlainEngine

@@ -1,19 +1,13 @@
 //! The programs that can be run so far (docs/LANGUAGE.md, "Programs that run").
 
-ghost use Rattle.std.specs.Prelude.{◌↔◌, IsTrue, All, [], map};
-ghost use Rattle.loft_base.specs.declared.ids.SchedId.{SchedId};
-ghost use Rattle.loft_base.specs.declared.ids.ModuleId.{ModuleId};
+ghost use Rattle.std.specs.Prelude.{◌↔◌, IsTrue, map};
 ghost use Rattle.loft_tree.specs.Fits.{Each};
 ghost use Rattle.loft_tree.specs.NamedTree.{NamedProgram as Program};
-ghost use Rattle.loft_tree.specs.NamedFits.{NamedFits};
 ghost use Rattle.loft_tree.specs.NamedView.{statement_of, statements_of};
 ghost use Rattle.loft_tree.specs.ProgramView.{module_of, program_of};
 ghost use Rattle.loft_tree.specs.Resolved.{resolved_of};
-ghost use Rattle.loft_sense.specs.Machine.{Tree};
-ghost use Rattle.loft_sense.specs.Tree.{body_at, before};
-ghost use Rattle.loft_sense.specs.Fits.{Fits};
-ghost use Rattle.loft_sense.specs.History.{starts_of};
-ghost use Rattle.loft_plain.specs.Built.{HasMeaning, StatementIsBuilt, StatementsAreBuilt, ModuleIsBuilt, SignatureIsBuilt, StartIsBuilt, HeadsAreBuilt, IsBuilt};
+ghost use Rattle.loft_sense.specs.Quiet.{IsQuiet};
+ghost use Rattle.loft_plain.specs.Built.{StatementIsBuilt, StatementsAreBuilt, ModuleIsBuilt, SignatureIsBuilt, StartIsBuilt, HeadsAreBuilt, IsBuilt};
 
 use loft_base::SchedId;
 use loft_tree::{Heads, Module, NamedProgram, NamedStmt, Place, Signature, Start};
@@ -125,16 +119,8 @@ pub fn is_built(program: &NamedProgram) -> bool
     heads_are_built(&program.heads) && modules_are_built(program.modules.as_slice())
 }
 
-/// Each statement of a program that can be run so far is given a meaning.
-#[tactic(auto, using(crate::proofs::BuiltLemmas::have_meaning))]
-pub fn built_programs_have_meaning()
-    ensures { (n : Program) (m : ModuleId) → IsBuilt n
-        → All HasMeaning (before (body_at (resolved_of n) m) []) }
-{}
-
-/// The starts of a program that can be run so far are orders that its schedulers may be given.
-#[tactic(auto, using(crate::proofs::StartLemmas::starts_fit))]
-pub fn starts_fit()
-    ensures { (n : Program) (s : SchedId) → NamedFits n → IsBuilt n
-        → All (Fits (Tree (resolved_of n)) s) (starts_of n.heads s) }
+/// Threads of a program that can be run so far do nothing but print a text and cooperate.
+#[tactic(auto, using(crate::proofs::BuiltLemmas::are_quiet))]
+pub fn built_programs_are_quiet()
+    ensures { (n : Program) → IsBuilt n → IsQuiet (resolved_of n) }
 {}

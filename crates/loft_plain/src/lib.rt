@@ -1,12 +1,13 @@
-//! Runs a program with numbers on one thread, by walking its statements.
+//! Runs the instants of one scheduler by walking the statements of the program.
 #![tactic(auto)]
 
 mod batch;
 mod built;
 mod close;
 mod engine;
+mod instant;
 mod pass;
-mod thread;
+mod rest;
 
-pub use built::{built_programs_have_meaning, is_built, starts_fit};
+pub use built::{built_programs_are_quiet, is_built};
 pub use engine::PlainEngine;

@@ -1,125 +1,151 @@
 //! The passes of an instant (docs/SEMANTICS.md, "Passes").
 
-ghost use Rattle.std.specs.Prelude.{◌≡◌, ◌++◌, [], List, false, map, IfOk, OnOk};
+ghost use Rattle.std.specs.Prelude.{◌≡◌, ◌≤◌, ◌+◌, ◌^◌, false, map, IfOk};
 ghost use Rattle.std.specs.Option.{option_to_list};
 ghost use Rattle.loft_tree.specs.ProgramView.{program_of};
 ghost use Rattle.loft_tree.specs.Resolved.{resolved_of};
 ghost use Rattle.loft_sense.specs.Machine.{Tree};
-ghost use Rattle.loft_sense.specs.CanGo.{is_over};
-ghost use Rattle.loft_sense.specs.Passes.{pass as pass_over, passes as passes_over, run_of, runners_after, around_after};
-ghost use Rattle.loft_plain.specs.EngineView.{wait_of, thread_of, around_of, runner_of, walk_of};
+ghost use Rattle.loft_sense.specs.Passes.{is_ready as is_ready_in, pass as pass_over, passes as passes_over, run_of, runners_after, around_after};
+ghost use Rattle.loft_walk.specs.View.{around_of};
 
-use crate::thread::{Around, Linked, Outcome, Pausing, run};
 use loft_base::NoMemory;
+use loft_sense::{Thread, To};
 use loft_tree::NamedProgram;
+use loft_walk::{Around, Gone, Outcome, go};
 use std::alloc::Global;
+use std::collections::VecDeque;
 
 /// A linked thread in an instant.
-#[derive(Clone, Copy, Debug)]
+#[derive(Debug, Drop)]
 pub struct Runner {
-    pub linked: Linked,
-    /// Whether it has run in this instant.
-    pub ran: bool,
+    pub thread: Thread,
+    pub suspended: bool,
+    /// How often it has run in this instant.
+    pub runs: u64,
     /// How many steps it may still make in this instant.
     pub left: u64,
+    /// Where it goes at the close, if it leaves.
+    pub leaving: Option<To>,
+    ghost few: { runs + left ≤ 2 ^ 63 },
 }
 
-/// The threads as a pass leaves them, and whether it ran anybody.
+/// The threads as passes leave them, what they leave around them, and whether the last pass ran anybody.
 #[derive(Debug, Drop)]
 pub struct Walk {
-    pub runners: Vec<Runner>,
+    pub runners: VecDeque<Runner>,
+    pub around: Around,
     pub ran: bool,
 }
 
-/// Whether a thread can go.
-fn can_go(linked: &Linked) -> bool
-    ensures { (known : List _) → result ≡ is_over (wait_of linked.now.wait) [] known }
-{
-    match linked.wait {
-        Pausing::New => true,
-        Pausing::Coop(left) => left == 0,
-    }
-}
+impl Runner {
+    ghost use Rattle.loft_plain.specs.View.{runner_of};
 
-/// A thread that can go runs; it is still linked where a stop holds it.
-fn go_on(
-    alloc: Global,
-    program: &NamedProgram,
-    runner: &Runner,
-    around: &mut Around,
-) -> Result<Option<Runner>, NoMemory>
-    ensures runners { IfOk result (λ next. map runner_of (option_to_list next)
-        ≡ runners_after false (run_of (Tree (resolved_of (program_of program.now))) (thread_of runner.now.linked) (around_of around.old) runner.now.left)) }
-    ensures around { OnOk result (around_of around.new
-        ≡ around_after (run_of (Tree (resolved_of (program_of program.now))) (thread_of runner.now.linked) (around_of around.old) runner.now.left)) }
-{
-    match run(alloc, program, &runner.linked, runner.left, around)? {
-        Outcome::Held { stop, left } => Ok(Some(Runner {
-            linked: Linked {
-                id: runner.linked.id,
-                module: runner.linked.module,
-                stop,
-                wait: Pausing::Coop(1),
-            },
-            ran: true,
+    /// Whether the thread hasn't left, and can go.
+    fn is_ready(&self, around: &Around) -> bool
+        ensures { result ≡ is_ready_in (runner_of self.now) (around_of around.now) }
+    {
+        self.leaving.is_none() && (!self.suspended && around.is_over(&self.thread.wait))
+    }
+
+    /// One run of the thread: it is still linked where a stop holds it, and where it leaves, until the close.
+    fn run(
+        self,
+        alloc: Global,
+        program: &NamedProgram,
+        around: Around,
+    ) -> Result<(Option<Runner>, Around), NoMemory>
+        ensures runners { IfOk result (λ r. map runner_of (option_to_list r.0)
+            ≡ runners_after (runner_of self) (run_of (Tree (resolved_of (program_of program.now))) self.thread (around_of around) self.left)) }
+        ensures around { IfOk result (λ r. around_of r.1
+            ≡ around_after (run_of (Tree (resolved_of (program_of program.now))) self.thread (around_of around) self.left)) }
+    {
+        let Runner {
+            thread,
+            suspended,
+            runs,
             left,
-        })),
-        Outcome::Ended(_) => Ok(None),
+            leaving,
+        } = self;
+        let Gone {
+            outcome,
+            around,
+            left,
+        } = go(alloc, program, thread, left, around)?;
+        let runs = runs + 1;
+        let after = match outcome {
+            Outcome::Held(thread) => Some(Runner {
+                thread,
+                suspended,
+                runs,
+                left,
+                leaving,
+            }),
+            Outcome::Left(thread, to) => Some(Runner {
+                thread,
+                suspended,
+                runs,
+                left,
+                leaving: Some(to),
+            }),
+            Outcome::Ended(_) => None,
+        };
+        Ok((after, around))
     }
 }
 
-/// Adds the thread, if there is one.
-fn push_some(after: &mut Vec<Runner>, next: Option<Runner>) -> Result<(), NoMemory>
-    ensures { OnOk result (after.new.items ≡ after.old.items ++ option_to_list next) }
-{
-    if let Some(runner) = next {
-        after.push(runner)?;
-    }
-    Ok(())
-}
+impl Walk {
+    ghost use Rattle.loft_plain.specs.View.{runner_of, walk_of};
 
-/// One pass: each thread that can go as it is reached runs.
-fn pass(
-    alloc: Global,
-    program: &NamedProgram,
-    runners: &[Runner],
-    around: &mut Around,
-) -> Result<Walk, NoMemory>
-    ensures { IfOk result (λ w. walk_of w.runners.items w.ran around.new
-        ≡ pass_over (Tree (resolved_of (program_of program.now))) (map runner_of runners.now) (around_of around.old)) }
-{
-    let mut after = Vec::new(alloc);
-    let mut ran = false;
-    for runner in runners {
-        if !can_go(&runner.linked) {
-            after.push(*runner)?;
-            continue;
+    /// One pass: each thread that can go as it is reached runs.
+    fn pass(
+        alloc: Global,
+        program: &NamedProgram,
+        mut runners: VecDeque<Runner>,
+        mut around: Around,
+    ) -> Result<Walk, NoMemory>
+        ensures { IfOk result (λ w. walk_of w
+            ≡ pass_over (Tree (resolved_of (program_of program.now))) (map runner_of runners.items) (around_of around)) }
+    {
+        let mut after = VecDeque::new(alloc);
+        let mut ran = false;
+        'walking: while let Some(runner) = runners.pop_front() {
+            if !runner.is_ready(&around) {
+                after.push_back(runner)?;
+                continue;
+            }
+            ran = true;
+            let (next, left_around) = runner.run(alloc, program, around)?;
+            around = left_around;
+            if let Some(runner) = next {
+                after.push_back(runner)?;
+            }
         }
-        ran = true;
-        let next = go_on(alloc, program, runner, around)?;
-        push_some(&mut after, next)?;
+        Ok(Walk {
+            runners: after,
+            around,
+            ran,
+        })
     }
-    Ok(Walk {
-        runners: after,
-        ran,
-    })
-}
 
-/// Passes until one runs nobody.
-pub fn passes(
-    alloc: Global,
-    program: &NamedProgram,
-    mut runners: Vec<Runner>,
-    around: &mut Around,
-) -> Result<Vec<Runner>, NoMemory>
-    ensures { IfOk result (λ rs. walk_of rs.items false around.new
-        ≡ passes_over (Tree (resolved_of (program_of program.now))) (map runner_of runners.items) (around_of around.old)) }
-{
-    'passes: loop {
-        let walk = pass(alloc, program, runners.as_slice(), around)?;
-        runners = walk.runners;
-        if !walk.ran {
-            return Ok(runners);
+    /// Passes until one runs nobody.
+    pub fn passes(
+        alloc: Global,
+        program: &NamedProgram,
+        runners: VecDeque<Runner>,
+        around: Around,
+    ) -> Result<Walk, NoMemory>
+        ensures { IfOk result (λ w. walk_of w
+            ≡ passes_over (Tree (resolved_of (program_of program.now))) (map runner_of runners.items) (around_of around)) }
+    {
+        let mut walk = Self::pass(alloc, program, runners, around)?;
+        'passes: while walk.ran {
+            let Walk {
+                runners,
+                around,
+                ..
+            } = walk;
+            walk = Self::pass(alloc, program, runners, around)?;
         }
+        Ok(walk)
     }
 }

@@ -5,11 +5,17 @@ use Rattle.std.specs.Prelude.{◌↔◌, if◌then◌else◌, not, ◌&&◌, ◌
 use Rattle.loft_base.specs.declared.ids.SchedId.{SchedId}
 use Rattle.loft_sense.specs.declared.order.Order.{Order}
 use Rattle.loft_sense.specs.declared.order.Sent.{Sent}
+use Rattle.loft_sense.specs.declared.entry.Actor.{Actor}
+use Rattle.loft_sense.specs.declared.entry.Actor.TheVariants as actor
+use Rattle.loft_sense.specs.declared.entry.Entry.{Entry}
+use Rattle.loft_sense.specs.declared.entry.Entry.TheVariants.{Take, Give, Pick, Post, Client}
 use Rattle.loft_sense.specs.declared.limits.Limits.{Limits}
+use Rattle.loft_sense.specs.declared.limits.RunOptions.{RunOptions}
+use Rattle.loft_sense.specs.Heads.{same_scheduler}
 use Rattle.loft_sense.specs.Machine.{Prog, heads}
 use Rattle.loft_sense.specs.Instant.{Replayed, replay}
-use Rattle.loft_sense.specs.History.{Entry, Take, Give, Pick, Post, Client, Choice, TakeBy, GiveBy, PickBy, PostBy, ClientBy, choice_of, same_scheduler, log, in_instant, is_open, waiting, replayed, has_turn, sent_last, entry_of, with_entry, hist_on, hist}
-use Rattle.loft_sense.specs.Legal.{Actor, Scheduler, actor_of, same_actor, of, AtEach, TakesAll, TakeTurns, IsDue, IsFaithful, IsDeclared, IsLegal}
+use Rattle.loft_sense.specs.History.{Choice, TakeBy, GiveBy, PickBy, PostBy, ClientBy, choice_of, log, in_instant, is_open, waiting, replayed, has_turn, sent_last, entry_of, with_entry, hist_on, hist}
+use Rattle.loft_sense.specs.Legal.{actor_of, same_actor, of, AtEach, TakesAll, TakeTurns, IsDue, IsFaithful, IsDeclared, IsLegal}
 use Rattle.loft_sense.proofs.HistoryLemmas.{is_same, same_self, take_allowed, give_allowed, from_first, same_history}
 
 same_head : {a b : Entry} {xs ys : List Entry} → a ∷ xs ≡ b ∷ ys → a ≡ b
@@ -44,24 +50,24 @@ of-append a (e ∷ xs) ys = one (same_actor a (actor_of e)) e (of a (xs ++ ys)) 
     one false e zs xs ys q = q
 
 -- a scheduler's log is that of its own entries
-log_own : (s : SchedId) (h : List Entry) → log s (of (Scheduler s) h) ≡ log s h
+log_own : (s : SchedId) (h : List Entry) → log s (of (actor.Sched s) h) ≡ log s h
 log_own s [] = refl
 log_own s (Take q batch ∷ es) = taken (same_scheduler s q) refl (log_own s es)
   where
-    taken : (b : Bool) → same_scheduler s q ≡ b → log s (of (Scheduler s) es) ≡ log s es
-        → log s (if b then Take q batch ∷ of (Scheduler s) es else of (Scheduler s) es) ≡ (if b then batch ∷ log s es else log s es)
-    taken true is e = ap (λ (c : Bool). if c then batch ∷ log s (of (Scheduler s) es) else log s (of (Scheduler s) es)) is ∙ ap (λ (l : List (List Order)). batch ∷ l) e
+    taken : (b : Bool) → same_scheduler s q ≡ b → log s (of (actor.Sched s) es) ≡ log s es
+        → log s (if b then Take q batch ∷ of (actor.Sched s) es else of (actor.Sched s) es) ≡ (if b then batch ∷ log s es else log s es)
+    taken true is e = ap (λ (c : Bool). if c then batch ∷ log s (of (actor.Sched s) es) else log s (of (actor.Sched s) es)) is ∙ ap (λ (l : List (List Order)). batch ∷ l) e
     taken false is e = e
 log_own s (Give q sent ∷ es) = given (same_scheduler s q) (log_own s es)
   where
-    given : (b : Bool) → log s (of (Scheduler s) es) ≡ log s es → log s (if b then Give q sent ∷ of (Scheduler s) es else of (Scheduler s) es) ≡ log s es
+    given : (b : Bool) → log s (of (actor.Sched s) es) ≡ log s es → log s (if b then Give q sent ∷ of (actor.Sched s) es else of (actor.Sched s) es) ≡ log s es
     given true e = e
     given false e = e
 log_own s (Pick w job ∷ es) = log_own s es
 log_own s (Post w sent ∷ es) = log_own s es
 log_own s (Client c sent ∷ es) = log_own s es
 
-replayed_own : (x : Prog) (limits : Limits) (s : SchedId) (h : List Entry) → replayed x limits s (of (Scheduler s) h) ≡ replayed x limits s h
+replayed_own : (x : Prog) (limits : Limits) (s : SchedId) (h : List Entry) → replayed x limits s (of (actor.Sched s) h) ≡ replayed x limits s h
 replayed_own x limits s h = ap (replay x limits s) (log_own s h)
 
 -- an entry of these turns comes next
@@ -79,58 +85,58 @@ turns_given true s q sent es l k true on turns next = on false turns next
 turns_given true s q sent es l k false on turns next = absurd turns
 turns_given false s q sent es l k was on turns next = on was turns next
 
-turns-append : (s : SchedId) (h k : List Entry) (was : Bool) → TakeTurns was (of (Scheduler s) h) → TakeTurns (in_instant s was h) k → TakeTurns was (of (Scheduler s) h ++ k)
+turns-append : (s : SchedId) (h k : List Entry) (was : Bool) → TakeTurns was (of (actor.Sched s) h) → TakeTurns (in_instant s was h) k → TakeTurns was (of (actor.Sched s) h ++ k)
 turns-append s [] k was turns next = next
-turns-append s (Take q batch ∷ es) k was turns next = turns_taken (same_scheduler s q) s q batch es (of (Scheduler s) es) k was (turns-append s es k) turns next
-turns-append s (Give q sent ∷ es) k was turns next = turns_given (same_scheduler s q) s q sent es (of (Scheduler s) es) k was (turns-append s es k) turns next
+turns-append s (Take q batch ∷ es) k was turns next = turns_taken (same_scheduler s q) s q batch es (of (actor.Sched s) es) k was (turns-append s es k) turns next
+turns-append s (Give q sent ∷ es) k was turns next = turns_given (same_scheduler s q) s q sent es (of (actor.Sched s) es) k was (turns-append s es k) turns next
 turns-append s (Pick w job ∷ es) k was turns next = turns-append s es k was turns next
 turns-append s (Post w sent ∷ es) k was turns next = turns-append s es k was turns next
 turns-append s (Client c sent ∷ es) k was turns next = turns-append s es k was turns next
 
 -- what has to hold of an entry that comes next in a scheduler's own list
-record CanFollow (x : Prog) (limits : Limits) (s : SchedId) (h : List Entry) (e : Entry) : Type 0 where
+record CanFollow (x : Prog) (o : RunOptions) (s : SchedId) (h : List Entry) (e : Entry) : Type 0 where
   pub turn : TakeTurns (is_open s h) (e ∷ [])
-  pub due : IsDue x limits s (of (Scheduler s) h) e
+  pub due : IsDue x o s (of (actor.Sched s) h) e
 
-faithful_more : (x : Prog) (limits : Limits) (s : SchedId) (h : List Entry) (e : Entry) → IsFaithful x limits s (of (Scheduler s) h) → CanFollow x limits s h e → IsFaithful x limits s (of (Scheduler s) h ++ e ∷ [])
-faithful_more x limits s h e f next = record {
+faithful_more : (x : Prog) (o : RunOptions) (s : SchedId) (h : List Entry) (e : Entry) → IsFaithful x o s (of (actor.Sched s) h) → CanFollow x o s h e → IsFaithful x o s (of (actor.Sched s) h ++ e ∷ [])
+faithful_more x o s h e f next = record {
   turns = turns-append s h (e ∷ []) false f.turns next.turn;
-  due = at_each-append (IsDue x limits s) (of (Scheduler s) h) e f.due next.due;
+  due = at_each-append (IsDue x o s) (of (actor.Sched s) h) e f.due next.due;
 }
 
 -- another's entry leaves a scheduler's list as it was
-faithful_one : (x : Prog) (limits : Limits) (s : SchedId) (h : List Entry) (e : Entry) (own : Bool) → IsFaithful x limits s (of (Scheduler s) h) → (own ≡ true → CanFollow x limits s h e)
-    → IsFaithful x limits s (of (Scheduler s) h ++ (if own then e ∷ [] else []))
-faithful_one x limits s h e true f next = faithful_more x limits s h e f (next refl)
-faithful_one x limits s h e false f next = subst (IsFaithful x limits s) (sym (append-nil (of (Scheduler s) h))) f
+faithful_one : (x : Prog) (o : RunOptions) (s : SchedId) (h : List Entry) (e : Entry) (own : Bool) → IsFaithful x o s (of (actor.Sched s) h) → (own ≡ true → CanFollow x o s h e)
+    → IsFaithful x o s (of (actor.Sched s) h ++ (if own then e ∷ [] else []))
+faithful_one x o s h e true f next = faithful_more x o s h e f (next refl)
+faithful_one x o s h e false f next = subst (IsFaithful x o s) (sym (append-nil (of (actor.Sched s) h))) f
 
 -- a scheduler's entry, which can follow in its own list
-faithful_next : (x : Prog) (limits : Limits) (q s : SchedId) (h : List Entry) (e : Entry) → IsFaithful x limits q (of (Scheduler q) h) → actor_of e ≡ Scheduler s → CanFollow x limits s h e
-    → IsFaithful x limits q (of (Scheduler q) (h ++ e ∷ []))
-faithful_next x limits q s h e f mine next =
-    subst (IsFaithful x limits q) (sym (of-append (Scheduler q) h (e ∷ [])))
-    (faithful_one x limits q h e (same_actor (Scheduler q) (actor_of e)) f (λ own.
-    subst (λ (r : SchedId). CanFollow x limits r h e) (sym (is_same q s (ap (same_actor (Scheduler q)) (sym mine) ∙ own))) next))
+faithful_next : (x : Prog) (o : RunOptions) (q s : SchedId) (h : List Entry) (e : Entry) → IsFaithful x o q (of (actor.Sched q) h) → actor_of e ≡ actor.Sched s → CanFollow x o s h e
+    → IsFaithful x o q (of (actor.Sched q) (h ++ e ∷ []))
+faithful_next x o q s h e f mine next =
+    subst (IsFaithful x o q) (sym (of-append (actor.Sched q) h (e ∷ [])))
+    (faithful_one x o q h e (same_actor (actor.Sched q) (actor_of e)) f (λ own.
+    subst (λ (r : SchedId). CanFollow x o r h e) (sym (is_same q s (ap (same_actor (actor.Sched q)) (sym mine) ∙ own))) next))
 
 -- a legal history and one more entry of a scheduler
-legal_more : (x : Prog) (limits : Limits) (s : SchedId) (h : List Entry) (e : Entry) → IsLegal x limits h → actor_of e ≡ Scheduler s → s.0 < length (heads x).schedulers
-    → TakesAll (heads x) h e → CanFollow x limits s h e → IsLegal x limits (h ++ e ∷ [])
-legal_more x limits s h e legal mine declared takes next = record {
+legal_more : (x : Prog) (o : RunOptions) (s : SchedId) (h : List Entry) (e : Entry) → IsLegal x o h → actor_of e ≡ actor.Sched s → s.0 < length (heads x).schedulers
+    → TakesAll (heads x) h e → CanFollow x o s h e → IsLegal x o (h ++ e ∷ [])
+legal_more x o s h e legal mine declared takes next = record {
   declared = at_each-append (λ before f. IsDeclared (heads x) (actor_of f)) h e legal.declared (subst (IsDeclared (heads x)) (sym mine) declared);
   routed = at_each-append (TakesAll (heads x)) h e legal.routed takes;
-  faithful = λ q. faithful_next x limits q s h e (legal.faithful q) mine next;
+  faithful = λ q. faithful_next x o q s h e (legal.faithful q) mine next;
 }
 
-can_take : (x : Prog) (limits : Limits) (s : SchedId) (h : List Entry) → is_open s h ≡ false → has_turn limits (replayed x limits s h).machine (waiting (heads x) s h) ≡ true → CanFollow x limits s h (Take s (waiting (heads x) s h))
-can_take x limits s h shut turn = record {
+can_take : (x : Prog) (o : RunOptions) (s : SchedId) (h : List Entry) → is_open s h ≡ false → has_turn x o.limits (replayed x o.limits s h).machine (waiting (heads x) s h) ≡ true → CanFollow x o s h (Take s (waiting (heads x) s h))
+can_take x o s h shut turn = record {
   turn = subst (λ (b : Bool). TakeTurns b (Take s (waiting (heads x) s h) ∷ [])) (sym shut) tt;
-  due = ap (λ (r : Replayed). has_turn limits r.machine (waiting (heads x) s h)) (replayed_own x limits s h) ∙ turn;
+  due = ap (λ (r : Replayed). has_turn x o.limits r.machine (waiting (heads x) s h)) (replayed_own x o.limits s h) ∙ turn;
 }
 
-can_give : (x : Prog) (limits : Limits) (s : SchedId) (h : List Entry) → is_open s h ≡ true → CanFollow x limits s h (Give s (sent_last (replayed x limits s h).notes))
-can_give x limits s h opened = record {
-  turn = subst (λ (b : Bool). TakeTurns b (Give s (sent_last (replayed x limits s h).notes) ∷ [])) (sym opened) tt;
-  due = ap (λ (r : Replayed). sent_last r.notes) (sym (replayed_own x limits s h));
+can_give : (x : Prog) (o : RunOptions) (s : SchedId) (h : List Entry) → is_open s h ≡ true → CanFollow x o s h (Give s (sent_last (replayed x o.limits s h).notes))
+can_give x o s h opened = record {
+  turn = subst (λ (b : Bool). TakeTurns b (Give s (sent_last (replayed x o.limits s h).notes) ∷ [])) (sym opened) tt;
+  due = ap (λ (r : Replayed). sent_last r.notes) (sym (replayed_own x o.limits s h));
 }
 
 -- what an allowed choice says
@@ -146,34 +152,34 @@ on_give true false a e is on = absurd cc
 on_give false was a e is on = absurd cc
 
 -- the entry of an allowed choice keeps a history legal
-legal_step : (x : Prog) (limits : Limits) (h : List Entry) (c : Choice) (e : Entry) → IsLegal x limits h → entry_of x limits h c ≡ Some e → IsLegal x limits (h ++ e ∷ [])
-legal_step x limits h (TakeBy s) e legal is =
-    on_take (nat_lt s.0 (length (heads x).schedulers)) (is_open s h) (has_turn limits (replayed x limits s h).machine (waiting (heads x) s h)) (Take s (waiting (heads x) s h)) e is
-    (λ declared shut turn same. subst (λ (f : Entry). IsLegal x limits (h ++ f ∷ [])) same
-    (legal_more x limits s h (Take s (waiting (heads x) s h)) legal refl (ltb-true s.0 _ declared) refl (can_take x limits s h shut turn)))
-legal_step x limits h (GiveBy s) e legal is =
-    on_give (nat_lt s.0 (length (heads x).schedulers)) (is_open s h) (Give s (sent_last (replayed x limits s h).notes)) e is
-    (λ declared opened same. subst (λ (f : Entry). IsLegal x limits (h ++ f ∷ [])) same
-    (legal_more x limits s h (Give s (sent_last (replayed x limits s h).notes)) legal refl (ltb-true s.0 _ declared) tt (can_give x limits s h opened)))
-legal_step x limits h (PickBy w) e legal is = absurd cc
-legal_step x limits h (PostBy w) e legal is = absurd cc
-legal_step x limits h (ClientBy c) e legal is = absurd cc
+legal_step : (x : Prog) (o : RunOptions) (h : List Entry) (c : Choice) (e : Entry) → IsLegal x o h → entry_of x o h c ≡ Some e → IsLegal x o (h ++ e ∷ [])
+legal_step x o h (TakeBy s) e legal is =
+    on_take (nat_lt s.0 (length (heads x).schedulers)) (is_open s h) (has_turn x o.limits (replayed x o.limits s h).machine (waiting (heads x) s h)) (Take s (waiting (heads x) s h)) e is
+    (λ declared shut turn same. subst (λ (f : Entry). IsLegal x o (h ++ f ∷ [])) same
+    (legal_more x o s h (Take s (waiting (heads x) s h)) legal refl (ltb-true s.0 _ declared) refl (can_take x o s h shut turn)))
+legal_step x o h (GiveBy s) e legal is =
+    on_give (nat_lt s.0 (length (heads x).schedulers)) (is_open s h) (Give s (sent_last (replayed x o.limits s h).notes)) e is
+    (λ declared opened same. subst (λ (f : Entry). IsLegal x o (h ++ f ∷ [])) same
+    (legal_more x o s h (Give s (sent_last (replayed x o.limits s h).notes)) legal refl (ltb-true s.0 _ declared) tt (can_give x o s h opened)))
+legal_step x o h (PickBy w) e legal is = absurd cc
+legal_step x o h (PostBy w) e legal is = absurd cc
+legal_step x o h (ClientBy c) e legal is = absurd cc
 
-legal_on : (x : Prog) (limits : Limits) (cs : List Choice) (h g : List Entry) → IsLegal x limits h → hist_on x limits cs h ≡ Ok g → IsLegal x limits g
-legal_on x limits [] h g legal made = subst (IsLegal x limits) (same_history x limits h g made) legal
-legal_on x limits (c ∷ cs) h g legal made =
-    from_first x limits h (entry_of x limits h c) cs g made (λ e is on. legal_on x limits cs (h ++ e ∷ []) g (legal_step x limits h c e legal is) on)
+legal_on : (x : Prog) (o : RunOptions) (cs : List Choice) (h g : List Entry) → IsLegal x o h → hist_on x o cs h ≡ Ok g → IsLegal x o g
+legal_on x o [] h g legal made = subst (IsLegal x o) (same_history x o h g made) legal
+legal_on x o (c ∷ cs) h g legal made =
+    from_first x o h (entry_of x o h c) cs g made (λ e is on. legal_on x o cs (h ++ e ∷ []) g (legal_step x o h c e legal is) on)
 
-legal_none : (x : Prog) (limits : Limits) → IsLegal x limits []
-legal_none x limits = record {
+legal_none : (x : Prog) (o : RunOptions) → IsLegal x o []
+legal_none x o = record {
   declared = at_each_none _;
   routed = at_each_none _;
   faithful = λ s. record { turns = tt; due = at_each_none _ };
 }
 
 -- the history of a list of choices is legal
-pub made_is_legal : (x : Prog) (limits : Limits) (choices : List Choice) (h : List Entry) → hist x limits choices ≡ Ok h → IsLegal x limits h
-made_is_legal x limits choices h made = legal_on x limits choices [] h (legal_none x limits) made
+pub made_is_legal : (x : Prog) (o : RunOptions) (choices : List Choice) (h : List Entry) → hist x o choices ≡ Ok h → IsLegal x o h
+made_is_legal x o choices h made = legal_on x o choices [] h (legal_none x o) made
 
 -- what comes next in a scheduler's own list goes on in turns
 turns_left_taken : (b : Bool) (s q : SchedId) (batch : List Order) (es l k : List Entry) (was : Bool)
@@ -190,30 +196,30 @@ turns_left_given true s q sent es l k true on turns = on false turns
 turns_left_given true s q sent es l k false on turns = absurd turns
 turns_left_given false s q sent es l k was on turns = on was turns
 
-turns_left : (s : SchedId) (h k : List Entry) (was : Bool) → TakeTurns was (of (Scheduler s) h ++ k) → TakeTurns (in_instant s was h) k
+turns_left : (s : SchedId) (h k : List Entry) (was : Bool) → TakeTurns was (of (actor.Sched s) h ++ k) → TakeTurns (in_instant s was h) k
 turns_left s [] k was turns = turns
-turns_left s (Take q batch ∷ es) k was turns = turns_left_taken (same_scheduler s q) s q batch es (of (Scheduler s) es) k was (turns_left s es k) turns
-turns_left s (Give q sent ∷ es) k was turns = turns_left_given (same_scheduler s q) s q sent es (of (Scheduler s) es) k was (turns_left s es k) turns
+turns_left s (Take q batch ∷ es) k was turns = turns_left_taken (same_scheduler s q) s q batch es (of (actor.Sched s) es) k was (turns_left s es k) turns
+turns_left s (Give q sent ∷ es) k was turns = turns_left_given (same_scheduler s q) s q sent es (of (actor.Sched s) es) k was (turns_left s es k) turns
 turns_left s (Pick w job ∷ es) k was turns = turns_left s es k was turns
 turns_left s (Post w sent ∷ es) k was turns = turns_left s es k was turns
 turns_left s (Client c sent ∷ es) k was turns = turns_left s es k was turns
 
 -- a scheduler's own list, parted at one of its entries
-own_parts : (s : SchedId) (before : List Entry) (e : Entry) (after : List Entry) → actor_of e ≡ Scheduler s
-    → of (Scheduler s) (before ++ e ∷ after) ≡ of (Scheduler s) before ++ e ∷ of (Scheduler s) after
+own_parts : (s : SchedId) (before : List Entry) (e : Entry) (after : List Entry) → actor_of e ≡ actor.Sched s
+    → of (actor.Sched s) (before ++ e ∷ after) ≡ of (actor.Sched s) before ++ e ∷ of (actor.Sched s) after
 own_parts s before e after mine =
-    of-append (Scheduler s) before (e ∷ after)
-    ∙ ap (λ (b : Bool). of (Scheduler s) before ++ (if b then e ∷ of (Scheduler s) after else of (Scheduler s) after)) (ap (same_actor (Scheduler s)) mine ∙ same_self s)
+    of-append (actor.Sched s) before (e ∷ after)
+    ∙ ap (λ (b : Bool). of (actor.Sched s) before ++ (if b then e ∷ of (actor.Sched s) after else of (actor.Sched s) after)) (ap (same_actor (actor.Sched s)) mine ∙ same_self s)
 
-can_follow : (x : Prog) (limits : Limits) (s : SchedId) (before : List Entry) (e : Entry) (after : List Entry) → IsLegal x limits (before ++ e ∷ after) → actor_of e ≡ Scheduler s
-    → TakeTurns (is_open s before) (e ∷ of (Scheduler s) after)
-can_follow x limits s before e after legal mine =
-    turns_left s before (e ∷ of (Scheduler s) after) false
+can_follow : (x : Prog) (o : RunOptions) (s : SchedId) (before : List Entry) (e : Entry) (after : List Entry) → IsLegal x o (before ++ e ∷ after) → actor_of e ≡ actor.Sched s
+    → TakeTurns (is_open s before) (e ∷ of (actor.Sched s) after)
+can_follow x o s before e after legal mine =
+    turns_left s before (e ∷ of (actor.Sched s) after) false
     (subst (TakeTurns false) (own_parts s before e after mine) (legal.faithful s).turns)
 
-own_due : (x : Prog) (limits : Limits) (s : SchedId) (before : List Entry) (e : Entry) (after : List Entry) → IsLegal x limits (before ++ e ∷ after) → actor_of e ≡ Scheduler s
-    → IsDue x limits s (of (Scheduler s) before) e
-own_due x limits s before e after legal mine = (legal.faithful s).due (of (Scheduler s) before) e (of (Scheduler s) after) (own_parts s before e after mine)
+own_due : (x : Prog) (o : RunOptions) (s : SchedId) (before : List Entry) (e : Entry) (after : List Entry) → IsLegal x o (before ++ e ∷ after) → actor_of e ≡ actor.Sched s
+    → IsDue x o s (of (actor.Sched s) before) e
+own_due x o s before e after legal mine = (legal.faithful s).due (of (actor.Sched s) before) e (of (actor.Sched s) after) (own_parts s before e after mine)
 
 shut_before : (s : SchedId) (batch : List Order) (l : List Entry) (was : Bool) → TakeTurns was (Take s batch ∷ l) → was ≡ false
 shut_before s batch l true turns = absurd turns
@@ -224,35 +230,35 @@ open_before s sent l true turns = refl
 open_before s sent l false turns = absurd turns
 
 -- each entry of a legal history is that of its choice
-legal_entry : (x : Prog) (limits : Limits) (before : List Entry) (e : Entry) (after : List Entry) → IsLegal x limits (before ++ e ∷ after) → entry_of x limits before (choice_of e) ≡ Some e
-legal_entry x limits before (Take s batch) after legal =
+legal_entry : (x : Prog) (o : RunOptions) (before : List Entry) (e : Entry) (after : List Entry) → IsLegal x o (before ++ e ∷ after) → entry_of x o before (choice_of e) ≡ Some e
+legal_entry x o before (Take s batch) after legal =
     let e : Entry = Take s batch in
     let all : batch ≡ waiting (heads x) s before = legal.routed before e after refl in
-    let turn : has_turn limits (replayed x limits s before).machine (waiting (heads x) s before) ≡ true =
-    ap (has_turn limits (replayed x limits s before).machine) (sym all)
-    ∙ (ap (λ (r : Replayed). has_turn limits r.machine batch) (sym (replayed_own x limits s before)) ∙ own_due x limits s before e after legal refl) in
+    let turn : has_turn x o.limits (replayed x o.limits s before).machine (waiting (heads x) s before) ≡ true =
+    ap (has_turn x o.limits (replayed x o.limits s before).machine) (sym all)
+    ∙ (ap (λ (r : Replayed). has_turn x o.limits r.machine batch) (sym (replayed_own x o.limits s before)) ∙ own_due x o s before e after legal refl) in
     take_allowed _ _ _ (Take s (waiting (heads x) s before)) (lt-ltb s.0 _ (legal.declared before e after refl))
-    (shut_before s batch (of (Scheduler s) after) (is_open s before) (can_follow x limits s before e after legal refl)) turn
+    (shut_before s batch (of (actor.Sched s) after) (is_open s before) (can_follow x o s before e after legal refl)) turn
     ∙ ap (λ (b : List Order). Some (Take s b)) (sym all)
-legal_entry x limits before (Give s sent) after legal =
+legal_entry x o before (Give s sent) after legal =
     let e : Entry = Give s sent in
-    give_allowed _ _ (Give s (sent_last (replayed x limits s before).notes)) (lt-ltb s.0 _ (legal.declared before e after refl))
-    (open_before s sent (of (Scheduler s) after) (is_open s before) (can_follow x limits s before e after legal refl))
-    ∙ ap (λ (ms : List Sent). Some (Give s ms)) (ap (λ (r : Replayed). sent_last r.notes) (sym (replayed_own x limits s before)) ∙ sym (own_due x limits s before e after legal refl))
-legal_entry x limits before (Pick w job) after legal = absurd (legal.declared before (Pick w job) after refl)
-legal_entry x limits before (Post w sent) after legal = absurd (legal.declared before (Post w sent) after refl)
-legal_entry x limits before (Client c sent) after legal = absurd (legal.declared before (Client c sent) after refl)
+    give_allowed _ _ (Give s (sent_last (replayed x o.limits s before).notes)) (lt-ltb s.0 _ (legal.declared before e after refl))
+    (open_before s sent (of (actor.Sched s) after) (is_open s before) (can_follow x o s before e after legal refl))
+    ∙ ap (λ (ms : List Sent). Some (Give s ms)) (ap (λ (r : Replayed). sent_last r.notes) (sym (replayed_own x o.limits s before)) ∙ sym (own_due x o s before e after legal refl))
+legal_entry x o before (Pick w job) after legal = absurd (legal.declared before (Pick w job) after refl)
+legal_entry x o before (Post w sent) after legal = absurd (legal.declared before (Post w sent) after refl)
+legal_entry x o before (Client c sent) after legal = absurd (legal.declared before (Client c sent) after refl)
 
-made_on : (x : Prog) (limits : Limits) (before after : List Entry) → IsLegal x limits (before ++ after) → hist_on x limits (map choice_of after) before ≡ Ok (before ++ after)
-made_on x limits before [] legal = ap (λ (h : List Entry). Ok h) (sym (append-nil before))
-made_on x limits before (e ∷ after) legal =
-    ap (λ (o : Option Entry). with_entry before o (hist_on x limits (map choice_of after))) (legal_entry x limits before e after legal)
-    ∙ (made_on x limits (before ++ e ∷ []) after (subst (IsLegal x limits) (sym (append_assoc before (e ∷ []) after)) legal)
+made_on : (x : Prog) (o : RunOptions) (before after : List Entry) → IsLegal x o (before ++ after) → hist_on x o (map choice_of after) before ≡ Ok (before ++ after)
+made_on x o before [] legal = ap (λ (h : List Entry). Ok h) (sym (append-nil before))
+made_on x o before (e ∷ after) legal =
+    ap (λ (entry : Option Entry). with_entry before entry (hist_on x o (map choice_of after))) (legal_entry x o before e after legal)
+    ∙ (made_on x o (before ++ e ∷ []) after (subst (IsLegal x o) (sym (append_assoc before (e ∷ []) after)) legal)
     ∙ ap (λ (h : List Entry). Ok h) (append_assoc before (e ∷ []) after))
 
 -- a legal history is that of its choices
-pub legal_is_made : (x : Prog) (limits : Limits) (h : List Entry) → IsLegal x limits h → hist x limits (map choice_of h) ≡ Ok h
-legal_is_made x limits h legal = made_on x limits [] h legal
+pub legal_is_made : (x : Prog) (o : RunOptions) (h : List Entry) → IsLegal x o h → hist x o (map choice_of h) ≡ Ok h
+legal_is_made x o h legal = made_on x o [] h legal
 
-pub made_exactly : (x : Prog) (limits : Limits) (h : List Entry) → IsLegal x limits h ↔ (hist x limits (map choice_of h) ≡ Ok h)
-made_exactly x limits h = (legal_is_made x limits h, made_is_legal x limits (map choice_of h) h)
+pub made_exactly : (x : Prog) (o : RunOptions) (h : List Entry) → IsLegal x o h ↔ (hist x o (map choice_of h) ≡ Ok h)
+made_exactly x o h = (legal_is_made x o h, made_is_legal x o (map choice_of h) h)

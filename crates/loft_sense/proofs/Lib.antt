@@ -1,5 +1,9 @@
 pub mod StepLemmas
+pub mod AroundLemmas
 pub mod PassLemmas
+pub mod RunnerLemmas
+pub mod EventLemmas
+pub mod CodeLemmas
 pub mod QuietLemmas
 pub mod HistoryLemmas
 pub mod LegalLemmas

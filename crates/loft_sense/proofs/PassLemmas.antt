@@ -4,14 +4,15 @@ use Rattle.std.specs.Prelude.{if◌then◌else◌, All}
 use Rattle.std.specs.List.{AllByRecursion}
 use Rattle.std.proofs.lemmas.List.Elements.{All-from_recursion}
 use Rattle.loft_sense.specs.Machine.{Prog}
-use Rattle.loft_sense.specs.Run.{Around, Outcome, Held, Ended}
-use Rattle.loft_sense.specs.CanGo.{can_go}
-use Rattle.loft_sense.specs.Passes.{Runner, Walk, run_of, runners_after, around_after, walked, pass, passes_within, steps_left, passes}
+use Rattle.loft_sense.specs.Around.{Around}
+use Rattle.loft_sense.specs.Run.{Outcome, Held, Left, Ended}
+use Rattle.loft_sense.specs.Passes.{Runner, Walk, is_ready, run_of, runners_after, around_after, walked, pass, passes_within, steps_left, passes}
 use Rattle.loft_sense.proofs.StepLemmas.{IsBelow, run_takes_step}
 
-fewer_after : (suspended : Bool) (o : Outcome) (n : ℕ) (rest : List Runner) → IsBelow o n → steps_left (runners_after suspended o ++ rest) < n + 1 + steps_left rest
-fewer_after suspended (Held t around left) n rest h = omega arith
-fewer_after suspended (Ended end around) n rest h = omega arith
+fewer_after : (r : Runner) (o : Outcome) (n : ℕ) (rest : List Runner) → IsBelow o n → steps_left (runners_after r o ++ rest) < n + 1 + steps_left rest
+fewer_after r (Held t around left) n rest h = omega arith
+fewer_after r (Left t to around left) n rest h = omega arith
+fewer_after r (Ended end around left) n rest h = omega arith
 
 -- a pass leaves fewer steps where it ran somebody, and no more in any case
 pub record Lessens (w : Walk) (n : ℕ) : Type 0 where
@@ -20,9 +21,9 @@ pub record Lessens (w : Walk) (n : ℕ) : Type 0 where
 
 lessens_one : (x : Prog) (r : Runner) (rs : List Runner) (around : Around) (goes : Bool) (o : Outcome) → IsBelow o r.left
     → ((a : Around) → Lessens (pass x rs a) (steps_left rs))
-    → Lessens (if goes then walked (runners_after r.suspended o) true (pass x rs (around_after o)) else walked (r ∷ []) false (pass x rs around)) (r.left + 1 + steps_left rs)
+    → Lessens (if goes then walked (runners_after r o) true (pass x rs (around_after o)) else walked (r ∷ []) false (pass x rs around)) (r.left + 1 + steps_left rs)
 lessens_one x r rs around true o below h =
-    let e = fewer_after r.suspended o r.left (pass x rs (around_after o)).runners below in
+    let e = fewer_after r o r.left (pass x rs (around_after o)).runners below in
     let f = (h (around_after o)).no_more in
     record { fewer = λ _. omega (arith, e, f); no_more = omega (arith, e, f) }
 lessens_one x r rs around false o below h =
@@ -32,7 +33,7 @@ lessens_one x r rs around false o below h =
 pub pass_lessens : (x : Prog) (rs : List Runner) (around : Around) → Lessens (pass x rs around) (steps_left rs)
 pass_lessens x [] around = record { fewer = λ ran. cc; no_more = omega arith }
 pass_lessens x (r ∷ rs) around =
-    lessens_one x r rs around (can_go r.thread.wait r.suspended around.board around.known) (run_of x r.thread around r.left)
+    lessens_one x r rs around (is_ready r around) (run_of x r.thread around r.left)
     (run_takes_step x r.thread around r.left) (pass_lessens x rs)
 
 no_steps : (rs : List Runner) → steps_left rs ≤ 0 → rs ≡ []
@@ -85,8 +86,8 @@ record Unmoved (w : Walk) (rs : List Runner) (around : Around) : Type 0 where
 
 unmoved_one : (x : Prog) (r : Runner) (rs : List Runner) (around : Around) (goes : Bool) (o : Outcome)
     → ((pass x rs around).ran ≡ false → Unmoved (pass x rs around) rs around)
-    → (if goes then walked (runners_after r.suspended o) true (pass x rs (around_after o)) else walked (r ∷ []) false (pass x rs around)).ran ≡ false
-    → Unmoved (if goes then walked (runners_after r.suspended o) true (pass x rs (around_after o)) else walked (r ∷ []) false (pass x rs around)) (r ∷ rs) around
+    → (if goes then walked (runners_after r o) true (pass x rs (around_after o)) else walked (r ∷ []) false (pass x rs around)).ran ≡ false
+    → Unmoved (if goes then walked (runners_after r o) true (pass x rs (around_after o)) else walked (r ∷ []) false (pass x rs around)) (r ∷ rs) around
 unmoved_one x r rs around true o h ran = absurd cc
 unmoved_one x r rs around false o h ran = record { same_runners = ap (λ (l : List Runner). r ∷ l) (h ran).same_runners; same_around = (h ran).same_around }
 
@@ -94,7 +95,7 @@ unmoved_one x r rs around false o h ran = record { same_runners = ap (λ (l : Li
 pass_unmoved : (x : Prog) (rs : List Runner) (around : Around) → (pass x rs around).ran ≡ false → Unmoved (pass x rs around) rs around
 pass_unmoved x [] around ran = record { same_runners = refl; same_around = refl }
 pass_unmoved x (r ∷ rs) around ran =
-    unmoved_one x r rs around (can_go r.thread.wait r.suspended around.board around.known) (run_of x r.thread around r.left) (pass_unmoved x rs around) ran
+    unmoved_one x r rs around (is_ready r around) (run_of x r.thread around r.left) (pass_unmoved x rs around) ran
 
 -- one more pass runs nobody
 abbrev HasEnded : Prog → Walk → Type 0
@@ -121,24 +122,23 @@ pub passes_end : (x : Prog) (rs : List Runner) (around : Around) → (pass x (pa
 unfolding passes
 passes_end x rs around = ended_within (steps_left rs) x rs around (omega arith)
 
--- it can't go with this around it
+-- it isn't ready with this around it
 abbrev Stays : Around → Runner → Type 0
-Stays around r = can_go r.thread.wait r.suspended around.board around.known ≡ false
+Stays around r = is_ready r around ≡ false
 
 stays_one : (x : Prog) (r : Runner) (rs : List Runner) (around : Around) (goes : Bool) (o : Outcome)
     → ((pass x rs around).ran ≡ false → AllByRecursion (Stays around) rs)
-    → (if goes then walked (runners_after r.suspended o) true (pass x rs (around_after o)) else walked (r ∷ []) false (pass x rs around)).ran ≡ false
+    → (if goes then walked (runners_after r o) true (pass x rs (around_after o)) else walked (r ∷ []) false (pass x rs around)).ran ≡ false
     → (goes ≡ false) × AllByRecursion (Stays around) rs
 stays_one x r rs around true o h ran = absurd cc
 stays_one x r rs around false o h ran = (refl, h ran)
 
--- where a pass runs nobody, nobody can go
+-- where a pass runs nobody, nobody is ready
 all_stay : (x : Prog) (rs : List Runner) (around : Around) → (pass x rs around).ran ≡ false → AllByRecursion (Stays around) rs
 all_stay x [] around ran = tt
 all_stay x (r ∷ rs) around ran =
-    stays_one x r rs around (can_go r.thread.wait r.suspended around.board around.known) (run_of x r.thread around r.left) (all_stay x rs around) ran
+    stays_one x r rs around (is_ready r around) (run_of x r.thread around r.left) (all_stay x rs around) ran
 
--- after the passes of an instant nobody can go
-pub nobody_can_go : (x : Prog) (rs : List Runner) (around : Around)
-    → All (λ r. can_go r.thread.wait r.suspended (passes x rs around).around.board (passes x rs around).around.known ≡ false) (passes x rs around).runners
-nobody_can_go x rs around = All-from_recursion (Stays (passes x rs around).around) (passes x rs around).runners (all_stay x (passes x rs around).runners (passes x rs around).around (passes_end x rs around))
+-- after the passes of an instant nobody is ready
+pub nobody_is_ready : (x : Prog) (rs : List Runner) (around : Around) → All (λ r. is_ready r (passes x rs around).around ≡ false) (passes x rs around).runners
+nobody_is_ready x rs around = All-from_recursion (Stays (passes x rs around).around) (passes x rs around).runners (all_stay x (passes x rs around).runners (passes x rs around).around (passes_end x rs around))

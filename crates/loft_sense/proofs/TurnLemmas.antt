@@ -5,10 +5,13 @@ use Rattle.loft_base.specs.declared.ids.SchedId.{SchedId}
 use Rattle.loft_tree.specs.declared.heads.Heads.{Heads}
 use Rattle.loft_sense.specs.declared.order.Order.{Order}
 use Rattle.loft_sense.specs.declared.turn.SchedulerTurn.{SchedulerTurn}
+use Rattle.loft_sense.specs.declared.entry.Entry.{Entry}
+use Rattle.loft_sense.specs.declared.entry.Entry.TheVariants.{Take, Give}
 use Rattle.loft_sense.specs.declared.limits.Limits.{Limits}
+use Rattle.loft_sense.specs.Heads.{same_scheduler}
 use Rattle.loft_sense.specs.Machine.{Prog}
 use Rattle.loft_sense.specs.Instant.{replay}
-use Rattle.loft_sense.specs.History.{Entry, Take, Give, same_scheduler, log, in_instant, is_open, orders_to, starts_of, waiting_after, waiting, replayed}
+use Rattle.loft_sense.specs.History.{log, in_instant, is_open, orders_to, starts_of, waiting_after, waiting, replayed}
 use Rattle.loft_sense.specs.Turns.{entries_of, batches_of, notes_of}
 use Rattle.loft_sense.proofs.HistoryLemmas.{same_self}
 

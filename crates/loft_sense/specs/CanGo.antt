@@ -6,7 +6,7 @@ use Rattle.loft_base.specs.declared.ids.Maker.TheVariants.{Source, Sched, Client
 use Rattle.loft_base.specs.declared.ids.ThreadId.{ThreadId}
 use Rattle.loft_sense.specs.declared.thread.Wait.{Wait}
 use Rattle.loft_sense.specs.declared.thread.Wait.TheVariants.{New, Coop, Events, Index, Next, Join, Halt}
-use Rattle.loft_sense.specs.Board.{Board, has, values}
+use Rattle.loft_board.specs.Board.{Board, has, values}
 
 abbrev pub same_maker : Maker → Maker → Bool
 same_maker Source Source = true

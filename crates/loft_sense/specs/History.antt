@@ -4,30 +4,20 @@ use Rattle.loft_base.specs.declared.ids.SchedId.{SchedId}
 use Rattle.loft_base.specs.declared.ids.Maker.TheVariants.{Source}
 use Rattle.loft_tree.specs.declared.heads.Start.{Start}
 use Rattle.loft_tree.specs.declared.heads.Heads.{Heads}
-use Rattle.loft_sense.specs.declared.thread.Thread.{Thread}
 use Rattle.loft_sense.specs.declared.order.Order.{Order}
 use Rattle.loft_sense.specs.declared.order.Order.TheVariants.{Create}
 use Rattle.loft_sense.specs.declared.order.To.{To}
 use Rattle.loft_sense.specs.declared.order.To.TheVariants.{Sched, Others, All, Workers}
 use Rattle.loft_sense.specs.declared.order.Sent.{Sent}
 use Rattle.loft_sense.specs.declared.note.InstantNote.{InstantNote}
+use Rattle.loft_sense.specs.declared.entry.Entry.{Entry}
+use Rattle.loft_sense.specs.declared.entry.Entry.TheVariants.{Take, Give, Pick, Post, Client}
 use Rattle.loft_sense.specs.declared.limits.Limits.{Limits}
+use Rattle.loft_sense.specs.declared.limits.RunOptions.{RunOptions}
+use Rattle.loft_sense.specs.Heads.{same_scheduler}
 use Rattle.loft_sense.specs.Machine.{Prog, heads, Mach}
 use Rattle.loft_sense.specs.Instant.{Replayed, replay}
 use Rattle.loft_sense.specs.Rest.{is_resting, is_spent}
-
--- one event of a run
-pub data Entry : Type 0 where
-  -- a scheduler takes all the orders that wait for it
-  Take : (s : SchedId) (batch : List Order) → Entry
-  -- all that a scheduler's instant sent is accepted
-  Give : (s : SchedId) (sent : List Sent) → Entry
-  -- a worker takes the unlinked thread that has waited longest
-  Pick : (w : ℕ) (job : Thread) → Entry
-  -- one order of a worker is accepted
-  Post : (w : ℕ) (sent : Sent) → Entry
-  -- one order of a client is accepted
-  Client : (c : ℕ) (sent : Sent) → Entry
 
 -- who makes the next entry, and of which kind
 pub data Choice : Type 0 where
@@ -43,9 +33,6 @@ choice_of (Give s sent) = GiveBy s
 choice_of (Pick w job) = PickBy w
 choice_of (Post w sent) = PostBy w
 choice_of (Client c sent) = ClientBy c
-
-abbrev pub same_scheduler : SchedId → SchedId → Bool
-same_scheduler a b = a.0 == b.0
 
 -- the batches that a scheduler took, in order
 abbrev pub log : SchedId → List Entry → List (List Order)
@@ -112,8 +99,8 @@ abbrev pub is_empty : {A : Type 0} → List A → Bool
 is_empty xs = length xs == 0
 
 -- a scheduler makes no turn where its bounds are used up, nor where it rests and nothing waits for it
-abbrev pub has_turn : Limits → Mach → List Order → Bool
-has_turn limits m orders = not (is_spent limits m) && not (is_resting m && is_empty orders)
+abbrev pub has_turn : Prog → Limits → Mach → List Order → Bool
+has_turn x limits m orders = not (is_spent x limits m) && not (is_resting m && is_empty orders)
 
 abbrev pub sent_last : List InstantNote → List Sent
 sent_last [] = []
@@ -121,18 +108,18 @@ sent_last (n ∷ []) = n.sent
 sent_last (n ∷ m ∷ ns) = sent_last (m ∷ ns)
 
 -- the entry that a choice makes after a history, where it is allowed. A program of schedulers, modules and starts has no worker's and no client's entries.
-abbrev pub entry_of : Prog → Limits → List Entry → Choice → Option Entry
-entry_of x limits h (TakeBy s) =
-    if nat_lt s.0 (length (heads x).schedulers) && not (is_open s h) && has_turn limits (replayed x limits s h).machine (waiting (heads x) s h)
+abbrev pub entry_of : Prog → RunOptions → List Entry → Choice → Option Entry
+entry_of x o h (TakeBy s) =
+    if nat_lt s.0 (length (heads x).schedulers) && not (is_open s h) && has_turn x o.limits (replayed x o.limits s h).machine (waiting (heads x) s h)
     then Some (Take s (waiting (heads x) s h))
     else None
-entry_of x limits h (GiveBy s) =
+entry_of x o h (GiveBy s) =
     if nat_lt s.0 (length (heads x).schedulers) && is_open s h
-    then Some (Give s (sent_last (replayed x limits s h).notes))
+    then Some (Give s (sent_last (replayed x o.limits s h).notes))
     else None
-entry_of x limits h (PickBy w) = None
-entry_of x limits h (PostBy w) = None
-entry_of x limits h (ClientBy c) = None
+entry_of x o h (PickBy w) = None
+entry_of x o h (PostBy w) = None
+entry_of x o h (ClientBy c) = None
 
 -- the history goes on by this entry, or the next choice isn't allowed: the answer is its number, from 1
 abbrev pub with_entry : List Entry → Option Entry → (List Entry → Result (List Entry) ℕ) → Result (List Entry) ℕ
@@ -140,18 +127,18 @@ with_entry h None go_on = Err (length h + 1)
 with_entry h (Some e) go_on = go_on (h ++ e ∷ [])
 
 -- the history that these choices make after h
-abbrev pub hist_on : Prog → Limits → List Choice → List Entry → Result (List Entry) ℕ
-hist_on x limits [] h = Ok h
-hist_on x limits (c ∷ cs) h = with_entry h (entry_of x limits h c) (hist_on x limits cs)
+abbrev pub hist_on : Prog → RunOptions → List Choice → List Entry → Result (List Entry) ℕ
+hist_on x o [] h = Ok h
+hist_on x o (c ∷ cs) h = with_entry h (entry_of x o h c) (hist_on x o cs)
 
 -- the history of a list of choices, or the number of the first that isn't allowed
-abbrev pub hist : Prog → Limits → List Choice → Result (List Entry) ℕ
-hist x limits choices = hist_on x limits choices []
+abbrev pub hist : Prog → RunOptions → List Choice → Result (List Entry) ℕ
+hist x o choices = hist_on x o choices []
 
 -- a scheduler has no turn to make
-abbrev pub has_finished : Prog → Limits → List Entry → SchedId → Bool
-has_finished x limits h s = not (is_open s h) && not (has_turn limits (replayed x limits s h).machine (waiting (heads x) s h))
+abbrev pub has_finished : Prog → RunOptions → List Entry → SchedId → Bool
+has_finished x o h s = not (is_open s h) && not (has_turn x o.limits (replayed x o.limits s h).machine (waiting (heads x) s h))
 
 -- nothing is left to do, or the bounds are used up
-abbrev pub HasEnded : Prog → Limits → List Entry → Type 0
-HasEnded x limits h = (s : SchedId) → s.0 < length (heads x).schedulers → IsTrue (has_finished x limits h s)
+abbrev pub HasEnded : Prog → RunOptions → List Entry → Type 0
+HasEnded x o h = (s : SchedId) → s.0 < length (heads x).schedulers → IsTrue (has_finished x o h s)

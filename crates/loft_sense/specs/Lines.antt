@@ -1,7 +1,8 @@
 -- The lines of an instant, by its batch and by what it did (docs/REPORT.md, "An instant").
-use Rattle.std.specs.Prelude.{ℕ, ◌+◌, ◌==◌, List, [], ◌∷◌, ◌++◌, map, codes, if◌then◌else◌}
+use Rattle.std.specs.Prelude.{ℕ, ◌+◌, ◌==◌, ℤ, List, [], ◌∷◌, ◌++◌, map, codes, if◌then◌else◌}
 use Rattle.std.specs.List.{flat_map}
-use Rattle.std.specs.Fmt.{decimal}
+use Rattle.std.specs.Fmt.{decimal, signed_decimal}
+use Rattle.loft_base.specs.declared.ids.SharedId.{SharedId}
 use Rattle.loft_base.specs.declared.ids.ThreadId.{ThreadId}
 use Rattle.loft_tree.specs.declared.heads.Heads.{Heads}
 use Rattle.loft_sense.specs.declared.thread.Thread.{Thread}
@@ -17,7 +18,7 @@ use Rattle.loft_sense.specs.declared.note.Act.{Act}
 use Rattle.loft_sense.specs.declared.note.Act.TheVariants as act
 use Rattle.loft_sense.specs.declared.note.Ended.{Ended}
 use Rattle.loft_sense.specs.declared.note.InstantNote.{InstantNote}
-use Rattle.loft_sense.specs.Text.{space, scheduler_name, event_name, id_text, end_text, thread_text, order_text, sent_value}
+use Rattle.loft_sense.specs.Text.{space, scheduler_name, event_name, shared_name, id_text, end_text, thread_text, order_text, sent_value}
 
 -- lines, each with its line feed
 abbrev pub text_of : List (List ℕ) → List ℕ
@@ -71,11 +72,15 @@ leave_lines h sents = flat_map (λ m. leave_line h m.to m.order) sents
 abbrev pub at_line : Heads → Thread → List ℕ
 at_line h t = codes "at " ++ thread_text h t
 
--- an instant: its number, its batch, its acts, who left, who stands how
+abbrev pub shared_line : Heads → SharedId → ℤ → List ℕ
+shared_line h x value = codes "shared " ++ (shared_name h x ++ (space ++ signed_decimal value))
+
+-- an instant: its number, its batch, its acts, who left, who stands how, which shared variables changed
 abbrev pub instant_lines : Heads → List Order → InstantNote → List (List ℕ)
 instant_lines h batch note =
     (codes "instant " ++ decimal note.number)
     ∷ (batch_lines h note.stopped 0 batch note.marks
     ++ (map (act_line h) note.acts
     ++ (leave_lines h note.sent
-    ++ map (at_line h) note.stands)))
+    ++ (map (at_line h) note.stands
+    ++ map (λ c. shared_line h c.shared c.value) note.changed))))

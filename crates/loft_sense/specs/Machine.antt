@@ -5,6 +5,7 @@ use Rattle.loft_base.specs.declared.ids.ThreadId.{ThreadId}
 use Rattle.loft_tree.specs.declared.heads.Heads.{Heads}
 use Rattle.loft_tree.specs.Resolved.{Resolved}
 use Rattle.loft_sense.specs.declared.note.Standing.{Standing}
+use Rattle.loft_sense.specs.Heads.{shared_values}
 
 -- a program: a source tree
 pub data Prog : Type 0 where
@@ -18,8 +19,9 @@ pub record Mach : Type 0 where
   pub s : SchedId
   -- in the order in which they were linked
   pub linked : List Standing
+  -- the values of its shared variables, in the order of their declarations
   pub shared : List ℤ
-  -- the threads that it knows as ended
+  -- the threads that it knows as ended; the order means nothing
   pub known : List ThreadId
   -- the creates that it has sent
   pub made : ℕ
@@ -27,5 +29,5 @@ pub record Mach : Type 0 where
   pub number : ℕ
 
 -- a scheduler that has made no instant
-abbrev pub empty : SchedId → Mach
-empty s = record { s = s; linked = []; shared = []; known = []; made = 0; number = 0 }
+abbrev pub empty : Prog → SchedId → Mach
+empty x s = record { s = s; linked = []; shared = shared_values (heads x) s; known = []; made = 0; number = 0 }

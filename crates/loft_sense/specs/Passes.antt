@@ -1,17 +1,21 @@
 -- The passes of an instant: all linked threads in order, again and again, until nobody runs (docs/SEMANTICS.md, "Passes").
-use Rattle.std.specs.Prelude.{ℕ, zero, suc, ◌+◌, Bool, true, false, ◌||◌, List, [], ◌∷◌, ◌++◌, if◌then◌else◌}
+use Rattle.std.specs.Prelude.{ℕ, zero, suc, ◌+◌, Bool, true, false, not, ◌||◌, ◌&&◌, List, [], ◌∷◌, ◌++◌, Option, Some, is_some, if◌then◌else◌}
 use Rattle.loft_sense.specs.declared.thread.Thread.{Thread}
 use Rattle.loft_sense.specs.Machine.{Prog, Tree}
-use Rattle.loft_sense.specs.Run.{Around, Outcome, Held, Ended, go}
+use Rattle.loft_sense.specs.declared.order.To.{To}
+use Rattle.loft_sense.specs.Around.{Around}
+use Rattle.loft_sense.specs.Run.{Outcome, Held, Left, Ended, go}
 use Rattle.loft_sense.specs.Tree.{tree}
 use Rattle.loft_sense.specs.CanGo.{can_go}
 
--- a linked thread in an instant: whether it is suspended, whether it has run in this instant, and how many steps it may still make in it
+-- a linked thread in an instant: whether it is suspended, how often it has run in this instant and how many steps it may still
+-- make in it, and where it goes at the close, if it leaves
 pub record Runner : Type 0 where
   pub thread : Thread
   pub suspended : Bool
-  pub ran : Bool
+  pub runs : ℕ
   pub left : ℕ
+  pub leaving : Option To
 
 -- the threads as a walk over them leaves them, what it leaves around them, and whether it ran anybody
 pub record Walk : Type 0 where
@@ -23,14 +27,20 @@ pub record Walk : Type 0 where
 abbrev pub run_of : Prog → Thread → Around → ℕ → Outcome
 run_of (Tree p) t around left = go (tree p) t around left
 
--- a thread that ended isn't linked any more
-abbrev pub runners_after : Bool → Outcome → List Runner
-runners_after suspended (Held t around left) = record { thread = t; suspended = suspended; ran = true; left = left } ∷ []
-runners_after suspended (Ended end around) = []
+-- a thread after one more run. One that ended isn't linked any more; one that leaves is, until the close.
+abbrev pub runners_after : Runner → Outcome → List Runner
+runners_after r (Held t around left) = record r { thread = t; runs = r.runs + 1; left = left } ∷ []
+runners_after r (Left t to around left) = record r { thread = t; runs = r.runs + 1; left = left; leaving = Some to } ∷ []
+runners_after r (Ended end around left) = []
 
 abbrev pub around_after : Outcome → Around
 around_after (Held t around left) = around
-around_after (Ended end around) = around
+around_after (Left t to around left) = around
+around_after (Ended end around left) = around
+
+-- it hasn't left, and can go
+abbrev pub is_ready : Runner → Around → Bool
+is_ready r around = not (is_some r.leaving) && can_go r.thread.wait r.suspended around.board around.known
 
 -- a walk, with what its first step leaves
 abbrev pub walked : List Runner → Bool → Walk → Walk
@@ -41,8 +51,8 @@ abbrev pub pass : Prog → List Runner → Around → Walk
 pass x [] around = record { runners = []; around = around; ran = false }
 pass x (r ∷ rs) around =
     let outcome = run_of x r.thread around r.left in
-    if can_go r.thread.wait r.suspended around.board around.known
-    then walked (runners_after r.suspended outcome) true (pass x rs (around_after outcome))
+    if is_ready r around
+    then walked (runners_after r outcome) true (pass x rs (around_after outcome))
     else walked (r ∷ []) false (pass x rs around)
 
 -- passes until one runs nobody, and at most so many more than one

@@ -1,8 +1,9 @@
 -- The report of a history (docs/REPORT.md, "The report").
-use Rattle.std.specs.Prelude.{ℕ, ◌+◌, Bool, true, false, List, [], ◌∷◌, ◌++◌, length, map, codes}
+use Rattle.std.specs.Prelude.{ℕ, ◌+◌, ℤ, Bool, true, false, List, [], ◌∷◌, ◌++◌, length, map, codes}
 use Rattle.std.specs.List.{flat_map}
 use Rattle.std.specs.Fmt.{decimal}
 use Rattle.loft_base.specs.declared.ids.SchedId.{SchedId}
+use Rattle.loft_base.specs.declared.ids.SharedId.{SharedId}
 use Rattle.loft_tree.specs.declared.heads.Heads.{Heads}
 use Rattle.loft_sense.specs.declared.order.Order.{Order}
 use Rattle.loft_sense.specs.declared.note.Standing.{Standing}
@@ -11,9 +12,11 @@ use Rattle.loft_sense.specs.declared.limits.Limits.{Limits}
 use Rattle.loft_sense.specs.declared.limits.RunOptions.{RunOptions}
 use Rattle.loft_sense.specs.Machine.{Prog, heads}
 use Rattle.loft_sense.specs.Instant.{Replayed}
-use Rattle.loft_sense.specs.History.{Entry, Choice, TakeBy, GiveBy, PickBy, PostBy, ClientBy, choice_of, log, waiting, replayed}
+use Rattle.loft_sense.specs.declared.entry.Entry.{Entry}
+use Rattle.loft_sense.specs.Heads.{shared_of}
+use Rattle.loft_sense.specs.History.{Choice, TakeBy, GiveBy, PickBy, PostBy, ClientBy, choice_of, log, waiting, replayed}
 use Rattle.loft_sense.specs.Text.{client_name, space, scheduler_name, thread_text, order_text}
-use Rattle.loft_sense.specs.Lines.{text_of, instant_lines}
+use Rattle.loft_sense.specs.Lines.{text_of, shared_line, instant_lines}
 
 abbrev pub choice_line : Heads → Choice → List ℕ
 choice_line h (TakeBy s) = codes "take " ++ scheduler_name h s
@@ -46,13 +49,21 @@ standing_word false = codes "linked "
 abbrev pub standing_line : Heads → Standing → List ℕ
 standing_line h s = standing_word s.suspended ++ thread_text h s.thread
 
+-- a scheduler's shared variables with their values
+abbrev pub shared_lines : Heads → List SharedId → List ℤ → List (List ℕ)
+shared_lines h [] values = []
+shared_lines h (x ∷ xs) [] = []
+shared_lines h (x ∷ xs) (v ∷ values) = shared_line h x v ∷ shared_lines h xs values
+
 -- how a scheduler stands in the end
-abbrev pub final_lines : Heads → List Standing → List (List ℕ)
-final_lines h linked = (codes "state " ++ decimal (length linked)) ∷ map (standing_line h) linked
+abbrev pub final_lines : Heads → SchedId → List Standing → List ℤ → List (List ℕ)
+final_lines h s linked shared =
+    (codes "state " ++ decimal (length linked))
+    ∷ (map (standing_line h) linked ++ shared_lines h (shared_of h s) shared)
 
 -- a scheduler's block, of its batches alone
 abbrev pub block_lines : Heads → SchedId → List (List Order) → Replayed → List (List ℕ)
-block_lines h s batches r = (codes "scheduler " ++ scheduler_name h s) ∷ instants_lines h batches r.notes ++ final_lines h r.machine.linked
+block_lines h s batches r = (codes "scheduler " ++ scheduler_name h s) ∷ instants_lines h batches r.notes ++ final_lines h s r.machine.linked r.machine.shared
 
 abbrev pub scheduler_lines : Prog → Limits → List Entry → SchedId → List (List ℕ)
 scheduler_lines x limits es s = block_lines (heads x) s (log s es) (replayed x limits s es)

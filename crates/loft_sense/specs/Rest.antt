@@ -1,11 +1,11 @@
 -- Schedulers that rest, and that have used their bounds up (docs/SEMANTICS.md, "Rest").
-use Rattle.std.specs.Prelude.{nat_le, ℤ, Bool, true, false, ◌||◌, ◌&&◌, not, List, [], ◌∷◌, Option, Some, None}
+use Rattle.std.specs.Prelude.{◌≤◌, nat_le, ℤ, Bool, true, false, ◌||◌, ◌&&◌, not, List, [], ◌∷◌, Option, Some, None}
 use Rattle.loft_base.specs.declared.ids.ThreadId.{ThreadId}
 use Rattle.loft_sense.specs.declared.thread.Wait.{Wait}
 use Rattle.loft_sense.specs.declared.thread.Wait.TheVariants.{New, Coop, Events, Index, Next, Join, Halt}
 use Rattle.loft_sense.specs.declared.note.Standing.{Standing}
 use Rattle.loft_sense.specs.declared.limits.Limits.{Limits}
-use Rattle.loft_sense.specs.Machine.{Mach}
+use Rattle.loft_sense.specs.Machine.{Prog, Mach}
 use Rattle.loft_sense.specs.CanGo.{is_known}
 
 abbrev pub is_none_left : Option ℤ → Bool
@@ -31,5 +31,11 @@ abbrev pub is_resting : Mach → Bool
 is_resting m = all_rest m.linked m.known
 
 -- it has made all its instants
-abbrev pub is_spent : Limits → Mach → Bool
-is_spent limits m = nat_le limits.instants m.number
+abbrev pub is_spent : Prog → Limits → Mach → Bool
+is_spent x limits m = nat_le limits.instants m.number
+
+-- the bounds of a run have their ranges (docs/LANGUAGE.md, "Limits")
+pub record IsInRange (limits : Limits) : Type 0 where
+  pub instants : (1 ≤ limits.instants) × (limits.instants ≤ 1000000)
+  pub budget : (1 ≤ limits.budget) × (limits.budget ≤ 1000000)
+  pub block : (1 ≤ limits.block) × (limits.block ≤ 100000000)

@@ -5,12 +5,14 @@ use Rattle.std.specs.Fmt.{decimal, signed_decimal}
 use Rattle.loft_base.specs.declared.ids.EventId.{EventId}
 use Rattle.loft_base.specs.declared.ids.ModuleId.{ModuleId}
 use Rattle.loft_base.specs.declared.ids.SchedId.{SchedId}
+use Rattle.loft_base.specs.declared.ids.SharedId.{SharedId}
 use Rattle.loft_base.specs.declared.ids.Maker.{Maker}
 use Rattle.loft_base.specs.declared.ids.Maker.TheVariants as maker
 use Rattle.loft_base.specs.declared.ids.ThreadId.{ThreadId}
 use Rattle.loft_base.specs.declared.ids.Value.{Value}
 use Rattle.loft_base.specs.declared.ids.Value.TheVariants.{Int, Thread as ThreadValue}
 use Rattle.loft_tree.specs.declared.heads.EventHead.{EventHead}
+use Rattle.loft_tree.specs.declared.heads.SharedHead.{SharedHead}
 use Rattle.loft_tree.specs.declared.heads.Signature.{Signature}
 use Rattle.loft_tree.specs.declared.heads.Client.{Client}
 use Rattle.loft_tree.specs.declared.heads.Heads.{Heads}
@@ -62,6 +64,13 @@ name_of_event (Some head) = head.name
 
 abbrev pub event_name : Heads → EventId → List ℕ
 event_name h e = name_of_event (slice_get h.events e.0)
+
+abbrev pub name_of_shared : Option SharedHead → List ℕ
+name_of_shared None = []
+name_of_shared (Some head) = head.name
+
+abbrev pub shared_name : Heads → SharedId → List ℕ
+shared_name h x = name_of_shared (slice_get h.shared x.0)
 
 abbrev pub name_of_client : Option Client → List ℕ
 name_of_client None = []

@@ -1,59 +1,110 @@
 -- Where a thread goes on in a source tree: by the list of the work that is left in a module (docs/SEMANTICS.md, "Tree").
-use Rattle.std.specs.Prelude.{ℕ, ℤ, List, [], ◌∷◌, Option, Some, None, if◌then◌else◌, ◌==◌, slice_get}
+use Rattle.std.specs.Prelude.{ℕ, zero, suc, ℤ, pos, negsuc, List, [], ◌∷◌, reverse, Option, Some, None, if◌then◌else◌, ◌==◌, slice_get}
 use Rattle.loft_base.specs.declared.ids.ModuleId.{ModuleId}
-use Rattle.loft_tree.specs.Resolved.{Action, PrintText, Pause, Cooperate, Step, Do, Hold, Call, Choose, Loop, Times, Body, Empty, Then, Resolved}
-use Rattle.loft_sense.specs.Run.{Next, Finish, Prints, Cooperates, Stuck, Control}
+use Rattle.loft_tree.specs.Resolved.{Exp, Pause, Step, Do, Hold, Call, Choose, Loop, Times, Body, Empty, Then, Resolved}
+use Rattle.loft_sense.specs.Run.{Next, Finish, Acts, Passes, Tests, Counts, Holds, Runs, Control}
 
--- one piece of work, which takes one step: a statement
+-- one piece of work, which takes one step
 pub data Work : Type 0 where
+  -- a statement
   Begin : (s : Step) → Work
+  -- the next test of a `while`
+  Again : (test : Exp) (body : Body) → Work
+  -- the next turn of a `repeat`, with so many turns still to come
+  Turns : (count : ℤ) (body : Body) → Work
 
 -- the statements of a body, and then the rest
 abbrev pub before : Body → List Work → List Work
 before Empty w = w
 before (Then s rest) w = Begin s ∷ before rest w
 
--- an action, and what is left after it
-abbrev pub next_action : Action → List Work → Next (List Work)
-next_action (PrintText line None) w = Prints line w
-next_action action w = Stuck
-
--- stop k, and what is left after it
-abbrev pub next_pause : Pause → ℕ → List Work → Next (List Work)
-next_pause (Cooperate None) k w = Cooperates k w
-next_pause pause k w = Stuck
-
 -- a statement, and what is left after it
 abbrev pub next_begin : Step → List Work → Next (List Work)
-next_begin (Do action) w = next_action action w
-next_begin (Hold stop pause) w = next_pause pause stop w
-next_begin (Call stop «module» arguments) w = Stuck
-next_begin (Choose test first second) w = Stuck
-next_begin (Loop test body) w = Stuck
-next_begin (Times count body) w = Stuck
+next_begin (Do action) w = Acts action w
+next_begin (Hold k pause) w = Holds k pause w
+next_begin (Call k m arguments) w = Runs k m arguments w
+next_begin (Choose test first second) w = Tests test (before first w) (before second w)
+next_begin (Loop test body) w = Passes (Again test body ∷ w)
+next_begin (Times count body) w = Counts count (λ n. Turns n body ∷ w)
+
+-- a turn of a `repeat`, while turns are to come
+abbrev pub next_turn : ℤ → Body → List Work → Next (List Work)
+next_turn (pos zero) body w = Passes w
+next_turn (pos (suc n)) body w = Passes (before body (Turns (pos n) body ∷ w))
+next_turn (negsuc n) body w = Passes w
 
 abbrev pub next_work : List Work → Next (List Work)
 next_work [] = Finish
 next_work (Begin s ∷ w) = next_begin s w
+next_work (Again test body ∷ w) = Tests test (before body (Again test body ∷ w)) w
+next_work (Turns n body ∷ w) = next_turn n body w
+
+-- the counts of the `repeat`s that are left, from the inside out
+abbrev pub counts_in : List Work → List ℤ
+counts_in [] = []
+counts_in (Begin s ∷ w) = counts_in w
+counts_in (Again test body ∷ w) = counts_in w
+counts_in (Turns n body ∷ w) = n ∷ counts_in w
+
+-- ---- stops
 
 -- the first that is there
 abbrev pub first_some : {A : Type 0} → Option A → Option A → Option A
 first_some None o = o
 first_some (Some x) o = Some x
 
--- What is left once stop k has ended, where w is left after the statement or the body: the rest of its own body. The
--- bodies of an `if` or a loop aren't given a meaning yet.
-abbrev pub after_step : Step → ℕ → List Work → Option (List Work)
-after_step (Do action) k w = None
-after_step (Hold stop pause) k w = if stop == k then Some w else None
-after_step (Call stop «module» arguments) k w = if stop == k then Some w else None
-after_step (Choose test first second) k w = None
-after_step (Loop test body) k w = None
-after_step (Times count body) k w = None
+abbrev pub at_stop : {A : Type 0} → ℕ → ℕ → A → Option A
+at_stop here k x = if here == k then Some x else None
 
-abbrev pub after_body : Body → ℕ → List Work → Option (List Work)
-after_body Empty k w = None
-after_body (Then s rest) k w = first_some (after_step s k (before rest w)) (after_body rest k w)
+abbrev pub first_count : List ℤ → ℤ
+first_count [] = pos 0
+first_count (n ∷ ns) = n
+
+abbrev pub rest_of : List ℤ → List ℤ
+rest_of [] = []
+rest_of (n ∷ ns) = ns
+
+-- What is left once stop k has ended, where w is left after the statement or the body and these are the counts in it, from
+-- the outside in: the rest of its own body, then outwards the rest after each `if`, the next test or turn of each loop and
+-- the rest after that.
+abbrev mutual
+  pub after_step : Step → ℕ → List ℤ → List Work → Option (List Work)
+  after_step (Do action) k counts w = None
+  after_step (Hold here pause) k counts w = at_stop here k w
+  after_step (Call here m arguments) k counts w = at_stop here k w
+  after_step (Choose test first second) k counts w = first_some (after_body first k counts w) (after_body second k counts w)
+  after_step (Loop test body) k counts w = after_body body k counts (Again test body ∷ w)
+  after_step (Times count body) k counts w = after_body body k (rest_of counts) (Turns (first_count counts) body ∷ w)
+
+  pub after_body : Body → ℕ → List ℤ → List Work → Option (List Work)
+  after_body Empty k counts w = None
+  after_body (Then s rest) k counts w = first_some (after_step s k counts (before rest w)) (after_body rest k counts w)
+
+-- the statement that is stop k
+abbrev mutual
+  pub stop_at_step : Step → ℕ → Option Step
+  stop_at_step (Do action) k = None
+  stop_at_step (Hold here pause) k = at_stop here k (Hold here pause)
+  stop_at_step (Call here m arguments) k = at_stop here k (Call here m arguments)
+  stop_at_step (Choose test first second) k = first_some (stop_at first k) (stop_at second k)
+  stop_at_step (Loop test body) k = stop_at body k
+  stop_at_step (Times count body) k = stop_at body k
+
+  pub stop_at : Body → ℕ → Option Step
+  stop_at Empty k = None
+  stop_at (Then s rest) k = first_some (stop_at_step s k) (stop_at rest k)
+
+-- what it waits for; nothing where it is a `run`
+abbrev pub pause_of : Option Step → Option Pause
+pause_of None = None
+pause_of (Some (Do action)) = None
+pause_of (Some (Hold k pause)) = Some pause
+pause_of (Some (Call k m arguments)) = None
+pause_of (Some (Choose test first second)) = None
+pause_of (Some (Loop test body)) = None
+pause_of (Some (Times count body)) = None
+
+-- ---- the control of trees
 
 -- the body of a module, and an empty one where there is none
 abbrev pub body_or_empty : Option Body → Body
@@ -69,12 +120,19 @@ work_or_none (Some w) = w
 
 -- the work that is left in a module once stop k has ended
 abbrev pub after : Resolved → ModuleId → ℕ → List ℤ → List Work
-after p m k counts = work_or_none (after_body (body_at p m) k [])
+after p m k counts = work_or_none (after_body (body_at p m) k counts [])
+
+-- what stop k of a module waits for; the begin, which counts as stop 0, waits for nothing
+abbrev pub pause_at : Resolved → ModuleId → ℕ → Option Pause
+pause_at p m zero = None
+pause_at p m (suc k) = pause_of (stop_at (body_at p m) (suc k))
 
 abbrev pub tree : Resolved → Control (List Work)
 tree p = record {
+  heads = p.heads;
   start = λ m. before (body_at p m) [];
   resume = after p;
-  counts = λ w. [];
-  next = next_work;
+  pause = pause_at p;
+  counts = λ w. reverse (counts_in w);
+  next = λ m w. next_work w;
 }

@@ -4,7 +4,8 @@ use Rattle.loft_base.specs.declared.ids.SchedId.{SchedId}
 use Rattle.loft_sense.specs.declared.order.Order.{Order}
 use Rattle.loft_sense.specs.declared.note.InstantNote.{InstantNote}
 use Rattle.loft_sense.specs.declared.turn.SchedulerTurn.{SchedulerTurn}
-use Rattle.loft_sense.specs.History.{Entry, Take, Give}
+use Rattle.loft_sense.specs.declared.entry.Entry.{Entry}
+use Rattle.loft_sense.specs.declared.entry.Entry.TheVariants.{Take, Give}
 
 -- each turn takes its batch, and gives what its instant sent
 abbrev pub entries_of : SchedId → List SchedulerTurn → List Entry

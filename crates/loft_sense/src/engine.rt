@@ -32,7 +32,7 @@ pub trait Engine: Drop {
 
     /// One instant on a batch of orders.
     fn take(&mut self, alloc: Global, batch: &Orders) -> Result<InstantNote, NoMemory>
-        requires unspent { has_failed self.old ≡ false → is_spent (limits self.old) (machine self.old) ≡ false }
+        requires unspent { has_failed self.old ≡ false → is_spent (program self.old) (limits self.old) (machine self.old) ≡ false }
         requires fits { All (Fits (program self.old) (scheduler self.old)) batch.now }
         ensures note { IfOk result (λ note. note ≡ (instant (program self.old) (limits self.old) (machine self.old) batch.now).note) }
         ensures machine { OnOk result (machine self.new ≡ (instant (program self.old) (limits self.old) (machine self.old) batch.now).machine) }
@@ -48,7 +48,7 @@ pub trait Engine: Drop {
 
     /// Whether its bounds are used up.
     fn spent(&self) -> bool
-        ensures { has_failed self.now ≡ false → result ≡ is_spent (limits self.now) (machine self.now) };
+        ensures { has_failed self.now ≡ false → result ≡ is_spent (program self.now) (limits self.now) (machine self.now) };
 
     /// How many instants it has made.
     fn instant(&self) -> u64

@@ -1,22 +1,37 @@
 //! What threads do: the values of a running program, and the meaning of instants, histories and reports.
 #![tactic(auto)]
 
+pub mod code_laws;
+pub mod copy;
 pub mod engine;
+pub mod entry;
 pub mod laws;
 pub mod limits;
 pub mod note;
 pub mod order;
+pub mod run_laws;
 pub mod thread;
 pub mod turn;
 
-pub use engine::Engine;
-pub use laws::{
-    legal_histories_are_made, made_histories_are_legal, nothing_for_itself, passes_end,
+pub use code_laws::{
+    stops_set_codes_as_they_begin, the_close_marks_and_lowers, waits_are_pending_until_the_close,
+    waits_set_codes_as_they_end,
 };
-pub use limits::{Limits, MAX_ENTRIES, MAX_LINKED, RunOptions};
+pub use engine::Engine;
+pub use entry::{Actor, Entry};
+pub use laws::{
+    ended_histories_go_no_further, legal_histories_are_made, made_histories_are_legal, passes_end,
+    quiet_programs_send_nothing_home,
+};
+pub use limits::{Limits, MAX_BLOCK_ENTRIES, MAX_ENTRIES, MAX_FRAMES, MAX_LINKED, RunOptions};
 pub use note::{
     Act, Acts, Change, Changes, Ended, Ends, FinalState, InstantNote, Numbers, Standing, Standings,
 };
-pub use order::{At, End, Mark, Marks, Order, Orders, Sent, Sents, To};
+pub use order::{At, End, Mark, Marks, Order, Orders, Sent, Sents, Stop, To};
+pub use run_laws::{
+    events_stay_present_in_an_instant, instants_keep_what_is_declared, instants_make_few_entries,
+    nobody_waits_for_a_present_event, passes_go_in_order, runs_keep_what_is_declared,
+    runs_make_few_entries, threads_run_within_the_budget,
+};
 pub use thread::{Counts, Events, Frame, Frames, Line, Thread, Threads, Wait};
 pub use turn::{Finished, SchedulerTurn};

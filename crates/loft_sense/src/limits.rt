@@ -3,6 +3,12 @@
 /// The most entries that an instant of one scheduler has.
 pub const MAX_ENTRIES: u64 = 65_536;
 
+/// The most entries that an unlinked block has.
+pub const MAX_BLOCK_ENTRIES: u64 = 32;
+
+/// The most frames of a thread.
+pub const MAX_FRAMES: usize = 32;
+
 /// The most threads that a scheduler links by creates.
 pub const MAX_LINKED: usize = 4096;
 

@@ -70,6 +70,16 @@ pub enum To {
     Workers,
 }
 
+/// How a run of a thread stops.
+#[derive(Clone, Copy, Debug, PartialEq, Eq)]
+pub enum Stop {
+    /// A stop holds it.
+    Holds,
+    /// It leaves.
+    Leaves(To),
+    Ends(End),
+}
+
 /// An order and its address.
 #[derive(Debug, Drop)]
 pub struct Sent {

@@ -47,7 +47,7 @@ pub struct Frame {
     pub values: Values,
 }
 
-/// A thread that waits.
+/// A thread that stands at a stop.
 #[derive(Debug, Drop)]
 pub struct Thread {
     pub id: ThreadId,

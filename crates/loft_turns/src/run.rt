@@ -1,10 +1,11 @@
 //! The run of a program with one scheduler, on one thread.
 
 ghost use Rattle.std.specs.Prelude.{◌≡◌, ◌≤◌, ◌<◌, IfOk, All, length, false};
+ghost use Rattle.loft_sense.specs.declared.limits.RunOptions.{RunOptions};
 ghost use Rattle.loft_sense.specs.Machine.{empty, heads as heads_of};
 ghost use Rattle.loft_sense.specs.Fits.{Fits};
 ghost use Rattle.loft_sense.specs.History.{starts_of, has_turn as has_turn_on};
-ghost use Rattle.loft_turns.specs.Running.{IsWholeRun};
+ghost use Rattle.loft_turns.specs.Running.{IsQuietProgram, IsWholeRun};
 
 use loft_base::{Gate, Maker, NoMemory, SchedId, Sequence, ThreadId, Turn};
 use loft_sense::{Engine, Finished, Order, Orders, SchedulerTurn};
@@ -37,15 +38,17 @@ fn starts(alloc: Global, heads: &Heads, scheduler: SchedId) -> Result<Orders, No
 /// Whether the scheduler has a turn to make on these orders.
 fn has_turn<E: Engine>(engine: &E, orders: &Orders) -> bool
     requires { E.has_failed engine.now ≡ false }
-    ensures { result ≡ has_turn_on (E.limits engine.now) (E.machine engine.now) orders.now }
+    ensures { result
+        ≡ has_turn_on (E.program engine.now) (E.limits engine.now) (E.machine engine.now) orders.now }
 {
     !engine.spent() && !(engine.resting() && orders.is_empty())
 }
 
 /// All turns of the only scheduler of a program (docs/SEMANTICS.md, "History"): each takes the
 /// orders that wait, passes the gate and makes an instant. None is made where the bounds are used
-/// up, nor where the scheduler rests and nothing waits. `NoMemory` comes where an allocation
-/// fails, of this call or of the engine.
+/// up, nor where the scheduler rests and nothing waits. The program only prints texts and
+/// cooperates, so no instant sends anything to this scheduler. Of a run's options the engine's
+/// limits alone count. `NoMemory` comes where an allocation fails, of this call or of the engine.
 pub fn run_alone<R: Threads + Wait + Sync, E: Engine, G: Gate>(
     rt: &R,
     alloc: Global,
@@ -54,15 +57,16 @@ pub fn run_alone<R: Threads + Wait + Sync, E: Engine, G: Gate>(
     scheduler: SchedId,
     gate: &G,
 ) -> Result<Finished, NoMemory>
-    requires fresh { E.machine engine ≡ empty scheduler }
+    requires fresh { E.machine engine ≡ empty (E.program engine) scheduler }
+    requires quiet { IsQuietProgram (E.program engine) }
     requires works { E.has_failed engine ≡ false }
     requires scheduler { E.scheduler engine ≡ scheduler }
     requires only { (scheduler.0 ≡ 0) × (length heads.now.schedulers ≡ 1) }
     requires heads { heads.now ≡ heads_of (E.program engine) }
     requires bound { 1 ≤ (E.limits engine).instants }
     requires starts { All (Fits (E.program engine) scheduler) (starts_of heads.now scheduler) }
-    ensures { IfOk result (λ run.
-        IsWholeRun (E.program engine) (E.limits engine) scheduler run.turns.items run.last) }
+    ensures { IfOk result (λ run. (o : RunOptions) → o.limits ≡ E.limits engine
+        → IsWholeRun (E.program engine) o scheduler run.turns.items run.last) }
 {
     let mut turns = Vec::new(alloc);
     let mut orders = starts(alloc, heads, scheduler)?;

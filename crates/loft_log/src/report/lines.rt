@@ -1,18 +1,19 @@
 //! The lines of a report, each made whole before any of it is written.
 
 ghost use Rattle.std.specs.Prelude.{◌≡◌, ◌++◌, ℕ, List, IfOk, OnOk, codes};
-ghost use Rattle.std.specs.Fmt.{decimal};
+ghost use Rattle.std.specs.Fmt.{decimal, signed_decimal};
 ghost use Rattle.loft_tree.specs.declared.heads.Heads.{Heads};
 ghost use Rattle.loft_sense.specs.Text.{space, scheduler_name, event_name, sent_value, id_text, order_text};
-ghost use Rattle.loft_sense.specs.Lines.{end_line, mark_word, to_text, act_line, at_line};
+ghost use Rattle.loft_sense.specs.Lines.{end_line, mark_word, to_text, act_line, at_line, shared_line};
 ghost use Rattle.loft_sense.specs.Report.{standing_line};
 
-use super::line::LineBuffer;
 use super::order_text::{push_order, push_sent_value};
-use super::text::{push_end, push_event_name, push_id, push_scheduler_name};
 use super::thread_text::push_thread;
 use loft_base::{EventId, NoMemory, SchedId, ThreadId};
-use loft_sense::{Act, End, Mark, Order, Sent, Standing, Thread, To};
+use loft_sense::{Act, Change, End, Mark, Order, Sent, Standing, Thread, To};
+use loft_text::{
+    LineBuffer, push_end, push_event_name, push_id, push_scheduler_name, push_shared_name,
+};
 use loft_tree::Heads;
 use std::alloc::Global;
 
@@ -192,6 +193,19 @@ pub fn leaver_line(
     Ok(line)
 }
 
+/// The line of a shared variable with this name.
+pub fn value_line(alloc: Global, name: &[u8], value: i64) -> Result<LineBuffer, NoMemory>
+    ensures { IfOk result (λ line.
+        line ≡ codes "shared " ++ (name.now ++ (space ++ signed_decimal value))) }
+{
+    let mut line = LineBuffer::new(alloc);
+    line.text("shared ")?;
+    line.bytes(name)?;
+    line.text(" ")?;
+    line.signed(value)?;
+    Ok(line)
+}
+
 impl InOneLine for Act {
     ghost line = { act_line };
 
@@ -232,6 +246,19 @@ impl InOneLine for Standing {
             "linked "
         })?;
         push_thread(&mut line, heads, &self.thread)?;
+        Ok(line)
+    }
+}
+
+impl InOneLine for Change {
+    ghost line = { λ h change. shared_line h change.shared change.value };
+
+    fn line(&self, alloc: Global, heads: &Heads) -> Result<LineBuffer, NoMemory> {
+        let mut line = LineBuffer::new(alloc);
+        line.text("shared ")?;
+        push_shared_name(&mut line, heads, self.shared)?;
+        line.text(" ")?;
+        line.signed(self.value)?;
         Ok(line)
     }
 }

@@ -3,11 +3,10 @@
 ghost use Rattle.std.specs.Prelude.{◌≡◌, ◌++◌, OnOk, codes};
 ghost use Rattle.loft_sense.specs.Text.{space, separated, module_name, event_name, id_text, value_text, end_text, sent_value, order_text};
 
-use super::line::LineBuffer;
-use super::text::{push_end, push_event_name, push_id, push_module_name, push_separated};
 use super::thread_text::push_thread;
 use loft_base::{EventId, ModuleId, NoMemory, ThreadId, Value};
 use loft_sense::{End, Order};
+use loft_text::{LineBuffer, push_end, push_event_name, push_id, push_module_name, push_separated};
 use loft_tree::Heads;
 
 /// A value after the name of an event, where there is one.

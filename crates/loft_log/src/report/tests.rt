@@ -6,7 +6,7 @@ mod two_prints;
 use super::write_report;
 use loft_base::{EventId, Maker, MemSink, ModuleId, NoMemory, SchedId, Sequence, ThreadId, Value};
 use loft_sense::{Act, Finished, Frame, Limits, RunOptions, Thread, Wait};
-use loft_tree::{Client, EventHead, Heads, Name, Place, Signature};
+use loft_tree::{Client, EventHead, Heads, Name, Place, SharedHead, Signature};
 use std::alloc::Global;
 use std::process::Abort;
 use std::test::Fail;
@@ -56,6 +56,14 @@ fn event(alloc: Global, text: &str) -> Result<EventHead, NoMemory> {
     })
 }
 
+fn shared(alloc: Global, text: &str, scheduler: SchedId) -> Result<SharedHead, NoMemory> {
+    Ok(SharedHead {
+        name: name(alloc, text)?,
+        scheduler,
+        value: 0,
+    })
+}
+
 fn client(alloc: Global, text: &str) -> Result<Client, NoMemory> {
     Ok(Client {
         name: name(alloc, text)?,
@@ -67,7 +75,7 @@ fn heads(alloc: Global) -> Result<Heads, NoMemory> {
     Ok(Heads {
         schedulers: list(alloc, [name(alloc, "A")?, name(alloc, "B")?])?,
         events: list(alloc, [event(alloc, "e")?, event(alloc, "g")?])?,
-        shared: Sequence::new(alloc),
+        shared: list(alloc, [shared(alloc, "y", B)?, shared(alloc, "x", A)?])?,
         modules: modules(alloc)?,
         starts: Sequence::new(alloc),
         clients: list(alloc, [client(alloc, "c")?])?,

@@ -1,15 +1,13 @@
-//! The texts of waits, frames and threads: each function appends one to a line.
+//! The texts of waits and threads: each function appends one to a line.
 
 ghost use Rattle.std.specs.Prelude.{◌≡◌, ◌++◌, OnOk, codes};
 ghost use Rattle.std.specs.Fmt.{signed_decimal};
-ghost use Rattle.loft_tree.specs.declared.heads.Heads.{Heads};
 ghost use Rattle.loft_sense.specs.declared.thread.Wait.TheVariants.{Events};
-ghost use Rattle.loft_sense.specs.Text.{space, colon, separated, id_text, value_text, left_text, events_word, wait_text, frame_text, thread_text};
+ghost use Rattle.loft_sense.specs.Text.{space, colon, id_text, left_text, events_word, wait_text, thread_text};
 
-use super::line::LineBuffer;
-use super::text::{Item, push_id, push_module_name, push_separated, push_separated_by};
-use loft_base::{EventId, NoMemory, ThreadId, Value};
-use loft_sense::{Frame, Thread, Wait};
+use loft_base::{EventId, NoMemory, ThreadId};
+use loft_sense::{Thread, Wait};
+use loft_text::{LineBuffer, push_id, push_separated, push_separated_by};
 use loft_tree::Heads;
 
 /// The instants that are left of a wait, or a sign that there is no number.
@@ -81,47 +79,6 @@ fn push_wait(line: &mut LineBuffer, heads: &Heads, wait: &Wait) -> Result<(), No
         Wait::Next => line.text("next"),
         Wait::Join { thread, left } => push_join(line, heads, *thread, *left),
         Wait::Halt => line.text("halt"),
-    }
-}
-
-/// A frame.
-fn push_frame(line: &mut LineBuffer, heads: &Heads, frame: &Frame) -> Result<(), NoMemory>
-    ensures { OnOk result (line.new ≡ line.old ++ frame_text heads.now frame.now) }
-{
-    push_module_name(line, heads, frame.module)?;
-    line.text(":")?;
-    line.number(u64::from(frame.stop))?;
-    push_kept(
-        line,
-        heads,
-        frame.counts.as_slice(),
-        frame.values.as_slice(),
-    )
-}
-
-/// What a frame keeps: its counts and its values.
-fn push_kept(
-    line: &mut LineBuffer,
-    heads: &Heads,
-    counts: &[i64],
-    values: &[Value],
-) -> Result<(), NoMemory>
-    ensures { OnOk result (line.new ≡ line.old
-        ++ (codes "[" ++ (separated signed_decimal counts.now
-        ++ (codes "](" ++ (separated (value_text heads.now) values.now ++ codes ")"))))) }
-{
-    line.text("[")?;
-    push_separated(line, heads, counts)?;
-    line.text("](")?;
-    push_separated(line, heads, values)?;
-    line.text(")")
-}
-
-impl Item for Frame {
-    ghost text = { frame_text };
-
-    fn push_to(&self, line: &mut LineBuffer, heads: &Heads) -> Result<(), NoMemory> {
-        push_frame(line, heads, self)
     }
 }
 

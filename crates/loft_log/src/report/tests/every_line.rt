@@ -1,10 +1,10 @@
 //! A run with every kind of line.
 
 use super::{A, B, E, G, H, J, K, M, R, compare, frame, list, print, start, thread};
-use loft_base::{Maker, NoMemory, Sequence, ThreadId, Value};
+use loft_base::{Maker, NoMemory, Sequence, SharedId, ThreadId, Value};
 use loft_sense::{
-    Act, At, End, Ended, FinalState, Finished, InstantNote, Mark, Order, SchedulerTurn, Sent,
-    Standing, Thread, To, Wait,
+    Act, At, Change, End, Ended, FinalState, Finished, InstantNote, Mark, Order, SchedulerTurn,
+    Sent, Standing, Thread, To, Wait,
 };
 use std::alloc::Global;
 use std::test::Fail;
@@ -179,6 +179,10 @@ fn stands(alloc: Global) -> Result<Sequence<Thread>, NoMemory> {
 }
 
 fn whole_turn(alloc: Global) -> Result<SchedulerTurn, NoMemory> {
+    let changed = Change {
+        shared: SharedId(1),
+        value: -2,
+    };
     Ok(SchedulerTurn {
         batch: orders(alloc)?,
         note: InstantNote {
@@ -191,7 +195,7 @@ fn whole_turn(alloc: Global) -> Result<SchedulerTurn, NoMemory> {
                 [leaver(alloc, To::Sched(B))?, leaver(alloc, To::Workers)?],
             )?,
             stands: stands(alloc)?,
-            changed: Sequence::new(alloc),
+            changed: list(alloc, [changed])?,
         },
     })
 }
@@ -221,7 +225,7 @@ fn every_kind_of_line(rt: HostRuntime) -> Result<(), Fail> {
                     standing(alloc, start(1), Wait::Coop(0), false)?,
                 ],
             )?,
-            shared: Sequence::new(alloc),
+            shared: list(alloc, [3])?,
         },
     };
     compare(
@@ -264,9 +268,11 @@ at start.1 0 0 select:0:e,g m:1[]()
 at start.1 0 0 join:1:start.0 j:1[](start.0)
 at start.0 0 0 next r:1[](0)
 at start.0 0 0 coop:0 m:1[2,1]()
+shared x -2
 state 2
 suspended start.0 0 0 halt h:1[]()
 linked start.1 0 0 coop:0 h:1[]()
+shared x 3
 left 0
 end
 ",

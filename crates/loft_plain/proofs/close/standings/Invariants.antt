@@ -1,7 +1,6 @@
-use Rattle.std.proofs.Common.{◌≡◌, map, take}
-use Rattle.loft_plain.specs.EngineView.{standing_of}
+use Rattle.std.proofs.Common.{◌≡◌, take}
 use Rattle.loft_plain.proofs.close.standings.Given as goal
 
 -- the first of them are there
-abbrev pub invariant-loop-one : goal.invariant-loop-one
-invariant-loop-one l = l.standings ≡ map standing_of (take l.one-index l.linked)
+abbrev pub invariant-loop-standing : goal.invariant-loop-standing
+invariant-loop-standing l = l.copy ≡ take l.standing-index l.linked

@@ -1,5 +1,6 @@
 use Rattle.std.proofs.Common.{◌≡◌, ◌-◌, [], ◌⊎◌, false, All}
 use Rattle.loft_sense.specs.Fits.{Fits}
+use Rattle.loft_sense.specs.declared.limits.RunOptions.{RunOptions}
 use Rattle.loft_turns.specs.Running.{HasRun}
 use Rattle.loft_turns.proofs.run.run_alone.Given as goal
 
@@ -8,7 +9,7 @@ abbrev pub invariant-turns : goal.invariant-turns
 invariant-turns g l =
     let e = g.E.Engine in
     record {
-      run : HasRun (e.program l.fn.engine) (e.limits l.fn.engine) l.scheduler l.turns.items (e.machine l.engine) l.orders;
+      run : (o : RunOptions) → o.limits ≡ e.limits l.fn.engine → HasRun (e.program l.fn.engine) o l.scheduler l.turns.items (e.machine l.engine) l.orders;
       works : e.has_failed l.engine ≡ false;
       same_program : e.program l.engine ≡ e.program l.fn.engine;
       same_limits : e.limits l.engine ≡ e.limits l.fn.engine;

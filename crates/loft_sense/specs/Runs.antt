@@ -1,0 +1,42 @@
+-- Words of the laws of runs, passes and instants (docs/SEMANTICS.md, "Run" and "Passes").
+use Rattle.std.specs.Prelude.{◌≡◌, ℤ, Bool, true, false, IsTrue, List, [], ◌++◌, map}
+use Rattle.loft_base.specs.declared.ids.EventId.{EventId}
+use Rattle.loft_board.specs.Board.{Board, has, values as event_values}
+use Rattle.loft_sense.specs.declared.thread.Wait.{Wait}
+use Rattle.loft_sense.specs.declared.thread.Wait.TheVariants as wait
+use Rattle.loft_sense.specs.declared.note.Act.{Act}
+use Rattle.loft_sense.specs.declared.note.Act.TheVariants.{Print, Gen, Out, End}
+use Rattle.loft_sense.specs.declared.limits.Limits.{Limits}
+use Rattle.loft_sense.specs.declared.order.Order.{Order}
+use Rattle.loft_sense.specs.Machine.{Prog, Mach}
+use Rattle.loft_sense.specs.Passes.{Walk, passes}
+use Rattle.loft_sense.specs.Apply.{apply}
+use Rattle.loft_sense.specs.Instant.{runner_of, around_of}
+
+-- an entry of the instant: every act but an end
+abbrev pub is_entry : Act → Bool
+is_entry (Print t line) = true
+is_entry (Gen t event value) = true
+is_entry (Out t sent) = true
+is_entry (End t end) = false
+
+-- each event of a board is present on a later one too, with its values as the first ones
+pub record KeepsEvents (board later : Board) : Type 0 where
+  pub present : (e : EventId) → IsTrue (has e board) → IsTrue (has e later)
+  pub values : (e : EventId) → (more : List ℤ) × (event_values e later ≡ event_values e board ++ more)
+
+-- the events that a wait names
+abbrev pub events_in : Wait → List EventId
+events_in wait.New = []
+events_in (wait.Coop left) = []
+events_in (wait.Events events left) = events
+events_in (wait.Index event at) = []
+events_in wait.Next = []
+events_in (wait.Join thread left) = []
+events_in wait.Halt = []
+
+-- what the passes of an instant leave
+abbrev pub instant_walk : Prog → Limits → Mach → List Order → Walk
+instant_walk x limits m batch =
+    let a = apply x m batch in
+    passes x (map (runner_of limits.budget) a.linked) (around_of m a)

@@ -1,0 +1,422 @@
+-- What a statement that fits does to values that fit, and to what stands beside them.
+use Rattle.std.proofs.Common.{◌&&◌, IsTrue, ◌≡◌, inr, ℕ, zero, suc, Bool, true, false, List, [], ◌∷◌, ◌++◌, map, length, Option, Some, None, slice_get, refl, sym, ap, ◌∙◌, subst, arith}
+use Rattle.std.specs.Prelude.{ℤ, pos, negsuc, ◌≤ℤ◌, if◌then◌else◌, nat_lt, slice_set, unwrap_or}
+use Rattle.std.specs.Option.{option_map, option_and_then}
+use Rattle.std.proofs.lemmas.List.{length-set}
+use Rattle.std.proofs.lemmas.Int.{ints}
+use Rattle.loft_base.specs.declared.ids.EventId.{EventId}
+use Rattle.loft_base.specs.declared.ids.ModuleId.{ModuleId}
+use Rattle.loft_base.specs.declared.ids.SchedId.{SchedId}
+use Rattle.loft_base.specs.declared.ids.ThreadId.{ThreadId}
+use Rattle.loft_base.specs.declared.ids.Value.{Value}
+use Rattle.loft_base.specs.declared.ids.Value.TheVariants as value
+use Rattle.loft_tree.specs.declared.kinds.Builtin.TheVariants.{Itself, Code, Mask}
+use Rattle.loft_tree.specs.declared.kinds.UnaryOperator.{UnaryOperator}
+use Rattle.loft_tree.specs.declared.kinds.UnaryOperator.TheVariants as unary
+use Rattle.loft_tree.specs.declared.kinds.BinaryOperator.{BinaryOperator}
+use Rattle.loft_tree.specs.declared.kinds.BinaryOperator.TheVariants as binary
+use Rattle.loft_tree.specs.declared.kinds.Kind.{Kind}
+use Rattle.loft_tree.specs.declared.kinds.Kind.TheVariants.{Int, Thread}
+use Rattle.loft_tree.specs.declared.heads.Place.{Place}
+use Rattle.loft_tree.specs.declared.heads.Place.TheVariants.{Sched, Unlinked}
+use Rattle.loft_tree.specs.declared.heads.SlotHead.{SlotHead}
+use Rattle.loft_tree.specs.declared.heads.Signature.{Signature}
+use Rattle.loft_tree.specs.declared.heads.Heads.{Heads}
+use Rattle.loft_tree.specs.Fits.{Each, IfThere}
+use Rattle.loft_tree.specs.HeadsFit.{is_of, agree, kinds_of, TakesIn}
+use Rattle.loft_tree.specs.NamedFits.{IsPlace, IsScheduler, slots_of}
+use Rattle.loft_tree.specs.Resolved.{Exp, Number, Slot, Shared, Special, Unary, Binary, Target, ToSlot, ToShared, Action, Assign, Make, PrintText, PrintValue, Generate, ControlThread, Broadcast, Pause, Cooperate, Await, Get, Join, Link, Unlink, Halt}
+use Rattle.loft_board.specs.Board.{values as event_values, value_list}
+use Rattle.loft_sense.specs.declared.thread.Wait.{Wait}
+use Rattle.loft_sense.specs.declared.thread.Wait.TheVariants as wait
+use Rattle.loft_sense.specs.declared.order.At.{At}
+use Rattle.loft_sense.specs.declared.order.End.TheVariants.{Flood}
+use Rattle.loft_sense.specs.declared.note.Act.{Act}
+use Rattle.loft_sense.specs.declared.note.Act.TheVariants as act
+use Rattle.loft_sense.specs.declared.order.Order.TheVariants as order
+use Rattle.loft_sense.specs.declared.order.To.{To}
+use Rattle.loft_tree.specs.declared.kinds.Control.{Control}
+use Rattle.loft_tree.specs.declared.kinds.Control.TheVariants as control
+use Rattle.loft_sense.specs.Text.{value_text}
+use Rattle.loft_sense.specs.declared.order.To.TheVariants as to
+use Rattle.loft_sense.specs.Heads.{home, rank, first_value, first_values, locals_or_none}
+use Rattle.loft_sense.specs.Around.{Around, Beside}
+use Rattle.loft_sense.specs.Eval.{number_of, thread_or, truth, unary_value, binary_value, eval, eval_all, eval_if, number_if}
+use Rattle.loft_sense.specs.CanGo.{has_any, is_index, is_known}
+use Rattle.loft_sense.specs.Statements.{Now, Effect, GoesOn, Waits, Leaves, Dies, goes_on, set, set_if, if_value, most_entries, if_room, maker_at, new_id, order_of, text_if, did, with_code, is_up, hold, gotten, begun, target_of, answered}
+use Rattle.loft_sense.specs.Stands.{begin_of, begin_or_unlinked, place_after, LeftAgrees, PauseAgrees}
+use Rattle.loft_sense.specs.Fits.{IsMaker, IsThread, IsValue, WaitNames, IsPoint, EndNames}
+use Rattle.loft_stand.specs.WorkFits.{HasKind, IsInt, TargetHasKind, ArgumentsFit, ActionFits, PauseFits}
+use Rattle.loft_stand.specs.Points.{OrderFits, ActFits, ValueFits, ValuesFit, SharedFit, BesideFits}
+
+-- ---- values
+
+both_true : (a b : Bool) → a ≡ true → b ≡ true → (a && b) ≡ true
+both_true true b e f = f
+both_true false b e f = e
+
+pub first_true : (a b : Bool) → (a && b) ≡ true → a ≡ true
+first_true true b e = refl
+first_true false b e = e
+
+pub second_true : (a b : Bool) → (a && b) ≡ true → b ≡ true
+second_true true b e = e
+second_true false b e = absurd cc
+
+pub values_agree : (h : Heads) (kinds : List Kind) (vs : List Value) → ValuesFit h kinds vs → IsTrue (agree kinds vs)
+values_agree h [] [] fit = refl
+values_agree h [] (v ∷ vs) fit = absurd fit
+values_agree h (k ∷ ks) [] fit = absurd fit
+values_agree h (k ∷ ks) (v ∷ vs) fit = both_true (is_of v k) (agree ks vs) fit.0.0 (values_agree h ks vs fit.1)
+
+pub values_name : (h : Heads) (kinds : List Kind) (vs : List Value) → ValuesFit h kinds vs → Each (IsValue h) vs
+values_name h [] [] fit = tt
+values_name h [] (v ∷ vs) fit = absurd fit
+values_name h (k ∷ ks) [] fit = absurd fit
+values_name h (k ∷ ks) (v ∷ vs) fit = (fit.0.1, values_name h ks vs fit.1)
+
+pub values_fit : (h : Heads) (kinds : List Kind) (vs : List Value) → IsTrue (agree kinds vs) → Each (IsValue h) vs → ValuesFit h kinds vs
+values_fit h [] [] e f = tt
+values_fit h [] (v ∷ vs) e f = absurd cc
+values_fit h (k ∷ ks) [] e f = absurd cc
+values_fit h (k ∷ ks) (v ∷ vs) e f = ((first_true (is_of v k) (agree ks vs) e, f.0), values_fit h ks vs (second_true (is_of v k) (agree ks vs) e) f.1)
+
+pub value_at : (h : Heads) (kinds : List Kind) (vs : List Value) (k : ℕ) (kind : Kind) → ValuesFit h kinds vs → slice_get kinds k ≡ Some kind
+    → (v : Value) × (slice_get vs k ≡ Some v) × ValueFits h kind v
+value_at h [] [] k kind fit at = absurd cc
+value_at h [] (v ∷ vs) k kind fit at = absurd fit
+value_at h (x ∷ xs) [] k kind fit at = absurd fit
+value_at h (x ∷ xs) (v ∷ vs) zero kind fit at = let same : x ≡ kind = cc in (v, refl, subst (λ y. ValueFits h y v) same fit.0)
+value_at h (x ∷ xs) (v ∷ vs) (suc k) kind fit at = value_at h xs vs k kind fit.1 at
+
+values_set : (h : Heads) (kinds : List Kind) (vs : List Value) (k : ℕ) (kind : Kind) (v : Value) → ValuesFit h kinds vs → slice_get kinds k ≡ Some kind → ValueFits h kind v
+    → ValuesFit h kinds (slice_set vs k v)
+values_set h [] [] k kind v fit at new = absurd cc
+values_set h [] (u ∷ vs) k kind v fit at new = absurd fit
+values_set h (x ∷ xs) [] k kind v fit at new = absurd fit
+values_set h (x ∷ xs) (u ∷ vs) zero kind v fit at new = let same : kind ≡ x = cc in (subst (λ y. ValueFits h y v) same new, fit.1)
+values_set h (x ∷ xs) (u ∷ vs) (suc k) kind v fit at new = (fit.0, values_set h xs vs k kind v fit.1 at new)
+
+values_append : (h : Heads) (ks ls : List Kind) (vs ws : List Value) → ValuesFit h ks vs → ValuesFit h ls ws → ValuesFit h (ks ++ ls) (vs ++ ws)
+values_append h [] ls [] ws fit others = others
+values_append h [] ls (v ∷ vs) ws fit others = absurd fit
+values_append h (k ∷ ks) ls [] ws fit others = absurd fit
+values_append h (k ∷ ks) ls (v ∷ vs) ws fit others = (fit.0, values_append h ks ls vs ws fit.1 others)
+
+first_fits : (h : Heads) (t : ThreadId) (kind : Kind) → IsThread h t → ValueFits h kind (first_value t kind)
+first_fits h t Int is = (refl, tt)
+first_fits h t Thread is = (refl, is)
+
+locals_fit : (h : Heads) (t : ThreadId) (xs : List SlotHead) → IsThread h t → ValuesFit h (kinds_of xs) (map (λ x. first_value t x.kind) xs)
+locals_fit h t [] is = tt
+locals_fit h t (x ∷ xs) is = (first_fits h t x.kind is, locals_fit h t xs is)
+
+-- the values of a module's new frame
+pub first_values_fit : (h : Heads) (t : ThreadId) (m : ModuleId) (head : Signature) (arguments : List Value) → IsThread h t → slice_get h.modules m.0 ≡ Some head → ValuesFit h (kinds_of head.parameters) arguments
+    → ValuesFit h (slots_of head) (first_values h t m arguments)
+first_values_fit h t m head arguments is at fit =
+    subst (λ o. ValuesFit h (slots_of head) (arguments ++ map (λ x. first_value t x.kind) (locals_or_none o))) (sym at)
+    (values_append h (kinds_of head.parameters) (kinds_of head.locals) arguments (map (λ x. first_value t x.kind) head.locals) fit (locals_fit h t head.locals is))
+
+-- ---- expressions
+
+truth_fits : (h : Heads) (b : Bool) → ValueFits h Int (truth b)
+truth_fits h true = (refl, tt)
+truth_fits h false = (refl, tt)
+
+unary_fits : (h : Heads) (operator : UnaryOperator) (n : ℤ) → ValueFits h Int (unary_value operator n)
+unary_fits h unary.Minus n = (refl, tt)
+unary_fits h unary.Not n = truth_fits h _
+
+divided_fits : (h : Heads) (b : Bool) (n : ℤ) → IfThere (ValueFits h Int) (if b then None else Some (value.Int n))
+divided_fits h true n = tt
+divided_fits h false n = (refl, tt)
+
+binary_fits : (h : Heads) (operator : BinaryOperator) (a b : Value) → IfThere (ValueFits h Int) (binary_value operator a b)
+binary_fits h binary.Or a b = truth_fits h _
+binary_fits h binary.And a b = truth_fits h _
+binary_fits h binary.Equal a b = truth_fits h _
+binary_fits h binary.Unequal a b = truth_fits h _
+binary_fits h binary.Less a b = truth_fits h _
+binary_fits h binary.LessOrEqual a b = truth_fits h _
+binary_fits h binary.Greater a b = truth_fits h _
+binary_fits h binary.GreaterOrEqual a b = truth_fits h _
+binary_fits h binary.Plus a b = (refl, tt)
+binary_fits h binary.Minus a b = (refl, tt)
+binary_fits h binary.Times a b = (refl, tt)
+binary_fits h binary.Divide a b = divided_fits h _ _
+binary_fits h binary.Remainder a b = divided_fits h _ _
+
+unary_there : (h : Heads) (operator : UnaryOperator) (o : Option Value) → IfThere (ValueFits h Int) (option_map (λ a. unary_value operator (number_of a)) o)
+unary_there h operator None = tt
+unary_there h operator (Some a) = unary_fits h operator (number_of a)
+
+binary_there : (h : Heads) (operator : BinaryOperator) (o p : Option Value) → IfThere (ValueFits h Int) (option_and_then (λ a. option_and_then (binary_value operator a) p) o)
+binary_there h operator None p = tt
+binary_there h operator (Some a) None = tt
+binary_there h operator (Some a) (Some b) = binary_fits h operator a b
+
+of_int : (h : Heads) (kind : Kind) (o : Option Value) → kind ≡ Int → IfThere (ValueFits h Int) o → IfThere (ValueFits h kind) o
+of_int h kind o e fit = subst (λ k. IfThere (ValueFits h k) o) (sym e) fit
+
+-- both there or both not, and the value a number
+abbrev pub LimitFits : Heads → Option Exp → Option Value → Type 0
+LimitFits h None None = Unit {0}
+LimitFits h None (Some v) = ⊥
+LimitFits h (Some e) None = ⊥
+LimitFits h (Some e) (Some v) = ValueFits h Int v
+
+module _ (h : Heads) (slots : List Kind) (here : Place) (values : List Value) (b : Beside) (fit : ValuesFit h slots values) (id : IsThread h b.id) where
+  -- an expression has a value of its kind, or a divisor is 0
+  pub eval_fits : (e : Exp) (kind : Kind) → HasKind h slots here e kind → IfThere (ValueFits h kind) (eval h values b e)
+  eval_fits (Number n) kind has = of_int h kind (Some (value.Int n)) has (refl, tt)
+  eval_fits (Slot k) kind has =
+      let v = value_at h slots values k kind fit has in
+      subst (λ o. ValueFits h kind (unwrap_or o (value.Int (pos 0)))) (sym v.1) v.2
+  eval_fits (Shared x) kind has = of_int h kind (eval h values b (Shared x)) has.1 (refl, tt)
+  eval_fits (Special Itself) kind has = subst (λ k. ValueFits h k (value.Thread b.id)) (sym has) (refl, id)
+  eval_fits (Special Code) kind has = of_int h kind (Some (value.Int b.code)) has (refl, tt)
+  eval_fits (Special Mask) kind has = of_int h kind (Some (value.Int b.mask)) has (refl, tt)
+  eval_fits (Unary operator e) kind has = of_int h kind _ has.1 (unary_there h operator (eval h values b e))
+  eval_fits (Binary operator l r) kind has = of_int h kind _ has.1 (binary_there h operator (eval h values b l) (eval h values b r))
+
+  all_one : (kind : Kind) (kinds : List Kind) (o : Option Value) (os : Option (List Value)) → IfThere (ValueFits h kind) o → IfThere (ValuesFit h kinds) os
+      → IfThere (ValuesFit h (kind ∷ kinds)) (option_and_then (λ v. option_map (λ vs. v ∷ vs) os) o)
+  all_one kind kinds None os f g = tt
+  all_one kind kinds (Some v) None f g = tt
+  all_one kind kinds (Some v) (Some vs) f g = (f, g)
+
+  pub eval_all_fits : (kinds : List Kind) (es : List Exp) → ArgumentsFit h slots here kinds es → IfThere (ValuesFit h kinds) (eval_all h values b es)
+  eval_all_fits [] [] has = tt
+  eval_all_fits [] (e ∷ es) has = absurd has
+  eval_all_fits (k ∷ ks) [] has = absurd has
+  eval_all_fits (k ∷ ks) (e ∷ es) has = all_one k ks (eval h values b e) (eval_all h values b es) (eval_fits e k has.0) (eval_all_fits ks es has.1)
+
+  limit_one : (e : Exp) (o : Option Value) → IfThere (ValueFits h Int) o → IfThere (LimitFits h (Some e)) (option_map (λ v. Some v) o)
+  limit_one e None f = tt
+  limit_one e (Some v) f = f
+
+  pub eval_if_fits : (e : Option Exp) → IfThere (IsInt h slots here) e → IfThere (LimitFits h e) (eval_if h values b e)
+  eval_if_fits None has = tt
+  eval_if_fits (Some e) has = limit_one e (eval h values b e) (eval_fits e Int has)
+
+-- ---- effects
+
+-- The effect of a statement that is begun at place, and after which the thread is at after. Waits and Leaves say what its waits
+-- and leaves are.
+module _ (h : Heads) (slots : List Kind) (place : Place) (after : Place) (IsWait : Wait → Type 0) (IsLeave : To → Type 0) where
+  abbrev pub EffectFits : Effect → Type 0
+  EffectFits (GoesOn n) = ValuesFit h slots n.values × BesideFits h place n.beside × (after ≡ place)
+  EffectFits (Waits w) = IsWait w × WaitNames h w × (after ≡ place)
+  EffectFits (Leaves t) = IsLeave t
+  EffectFits (Dies end) = EndNames h end
+
+  value_then : {A : Type 0} (P : A → Type 0) (o : Option A) (at : At) (f : A → Effect) → IsPoint h at → IfThere P o → ((v : A) → P v → EffectFits (f v)) → EffectFits (if_value o at f)
+  value_then P None at f point there on = point
+  value_then P (Some v) at f point there on = on v there
+
+  room_then : (b : Beside) (at : At) (effect : Effect) → IsPoint h at → EffectFits effect → EffectFits (if_room b at effect)
+  room_then b at effect point fit = by (nat_lt b.around.entries (most_entries b.around.place))
+    where
+      by : (room : Bool) → EffectFits (if room then effect else Dies (Flood at))
+      by true = fit
+      by false = point
+
+  hold_then : (is_there up : Bool) (there late waits : Effect) → EffectFits there → EffectFits late → (up ≡ false → EffectFits waits) → EffectFits (hold is_there up there late waits)
+  hold_then true up there late waits f g k = f
+  hold_then false true there late waits f g k = g
+  hold_then false false there late waits f g k = k refl
+
+shared_set : (h : Heads) (place : Place) (shared : List ℤ) (k : ℕ) (n : ℤ) → SharedFit h place shared → SharedFit h place (slice_set shared k n)
+shared_set h (Sched s) shared k n fit = length-set shared k n ∙ fit
+shared_set h Unlinked shared k n fit = tt
+
+-- what stands around has changed in what nothing asks of it
+beside_fits : (h : Heads) (place : Place) (a b : Beside) → BesideFits h place a → b.id ≡ a.id → b.around.place ≡ a.around.place → b.around.shared ≡ a.around.shared → length b.around.board ≡ length a.around.board → Each (ActFits h) b.around.acts → BesideFits h place b
+beside_fits h place a b fit id p s n acts = record {
+  id = subst (IsThread h) (sym id) fit.id;
+  around = record { acts = acts; declared = fit.around.declared; there = p ∙ fit.around.there; shared = subst (SharedFit h place) (sym s) fit.around.shared; board = n ∙ fit.around.board };
+}
+
+abbrev pub NowFits : Heads → List Kind → Place → Now → Type 0
+NowFits h slots place n = ValuesFit h slots n.values × BesideFits h place n.beside
+
+module _ (h : Heads) (slots : List Kind) (place : Place) where
+  set_fits : (kind : Kind) (t : Target) (v : Value) (values : List Value) (b : Beside) → TargetHasKind h slots place kind t → ValueFits h kind v → ValuesFit h slots values → BesideFits h place b
+      → NowFits h slots place (set h t v values b)
+  set_fits kind (ToSlot k) v values b has new fit beside = (values_set h slots values k kind v fit has new, beside)
+  set_fits kind (ToShared x) v values b has new fit beside = (
+    fit,
+    record {
+      id = beside.id;
+      around = record { acts = beside.around.acts; declared = beside.around.declared; there = beside.around.there; shared = shared_set h place b.around.shared (rank h x) (number_of v) beside.around.shared; board = beside.around.board };
+    },
+  )
+
+  set_if_fits : (kind : Kind) (t : Option Target) (v : Value) (values : List Value) (b : Beside) → IfThere (TargetHasKind h slots place kind) t → ValueFits h kind v → ValuesFit h slots values → BesideFits h place b
+      → NowFits h slots place (set_if h t v values b)
+  set_if_fits kind None v values b has new fit beside = (fit, beside)
+  set_if_fits kind (Some t) v values b has new fit beside = set_fits kind t v values b has new fit beside
+
+maker_is : (h : Heads) (p : Place) → IsPlace h p → IsMaker h (maker_at p)
+maker_is h (Sched s) is = is
+maker_is h Unlinked is = tt
+
+thread_is : (h : Heads) (t : ThreadId) (v : Value) → IsThread h t → IsValue h v → IsThread h (thread_or t v)
+thread_is h t (value.Int n) is fit = is
+thread_is h t (value.Thread u) is fit = fit
+
+control_fits : (h : Heads) (s : SchedId) (control : Control) (t : ThreadId) → IsThread h t → OrderFits h s (order_of control t)
+control_fits h s control.Stop t is = is
+control_fits h s control.Suspend t is = is
+control_fits h s control.Resume t is = is
+
+acts_append : {A : Type 0} (P : A → Type 0) (xs ys : List A) → Each P xs → Each P ys → Each P (xs ++ ys)
+acts_append P [] ys f g = g
+acts_append P (x ∷ xs) ys f g = (f.0, acts_append P xs ys f.1 g)
+
+module _ (h : Heads) (slots : List Kind) (place : Place) (at : At) (values : List Value) (b : Beside) (point : IsPoint h at) (fit : ValuesFit h slots values) (beside : BesideFits h place b) where
+  abbrev DidFit : Effect → Type 0
+  DidFit e = EffectFits h slots place place (λ w. ⊥) (λ t. ⊥) e
+
+  goes_then : (n : Now) → NowFits h slots place n → DidFit (GoesOn n)
+  goes_then n f = (f.0, f.1, refl)
+
+  entry_then : (d : Beside) → BesideFits h place d → DidFit (if_room b at (goes_on values d))
+  entry_then d f = room_then h slots place place (λ w. ⊥) (λ t. ⊥) b at (goes_on values d) point (fit, f, refl)
+
+  with_value : {A : Type 0} (P : A → Type 0) (o : Option A) (f : A → Effect) → IfThere P o → ((v : A) → P v → DidFit (f v)) → DidFit (if_value o at f)
+  with_value P o f there on = value_then h slots place place (λ w. ⊥) (λ t. ⊥) P o at f point there on
+
+  new_is : IsThread h (new_id b.around)
+  new_is = maker_is h b.around.place (subst (IsPlace h) (sym beside.around.there) beside.around.declared)
+
+  -- one more act, and nothing else is changed that is asked of it
+  one_act : (a : Act) → ActFits h a → Each (ActFits h) (b.around.acts ++ a ∷ [])
+  one_act a f = acts_append (ActFits h) b.around.acts (a ∷ []) beside.around.acts (f, tt)
+
+  same : (d : Beside) (a : Act) → ActFits h a → d.id ≡ b.id → d.around.place ≡ b.around.place → d.around.shared ≡ b.around.shared → length d.around.board ≡ length b.around.board → d.around.acts ≡ b.around.acts ++ a ∷ [] → BesideFits h place d
+  same d a f id p s n e = beside_fits h place b d beside id p s n (subst (Each (ActFits h)) (sym e) (one_act a f))
+
+  create_fits : (s : SchedId) (m : ModuleId) (head : Signature) (vs : List Value) → IsScheduler h s → begin_of h m ≡ Sched s → slice_get h.modules m.0 ≡ Some head → ValuesFit h (kinds_of head.parameters) vs
+      → OrderFits h s (order.Create (new_id b.around) m vs)
+  create_fits s m head vs declared begins at is =
+      let takes : TakesIn s (Some head) vs = (sym (ap begin_or_unlinked at) ∙ begins, values_agree h (kinds_of head.parameters) vs is) in
+      (new_is, (declared, subst (λ o. TakesIn s o vs) (sym at) takes), values_name h (kinds_of head.parameters) vs is)
+
+  any_there : {A : Type 0} (o : Option A) → IfThere (λ v. Unit {0}) o
+  any_there None = tt
+  any_there (Some v) = tt
+
+  -- whatever the value is, where there is one
+  any_value : {A : Type 0} (o : Option A) (f : A → Effect) → ((v : A) → DidFit (f v)) → DidFit (if_value o at f)
+  any_value o f on = with_value (λ v. Unit {0}) o f (any_there o) (λ v is. on v)
+
+  pub did_fits : (action : Action) → ActionFits h slots place action → DidFit (did h action at values b)
+  did_fits (Assign t e) f =
+      with_value (ValueFits h f.0) (eval h values b e) (λ v. GoesOn (set h t v values b)) (eval_fits h slots place values b fit beside.id e f.0 f.2)
+      (λ v is. goes_then (set h t v values b) (set_fits h slots place f.0 t v values b f.1 is fit beside))
+  did_fits (Make t s m arguments) f =
+      with_value (ValuesFit h (kinds_of f.4.0.parameters)) (eval_all h values b arguments) _ (eval_all_fits h slots place values b fit beside.id (kinds_of f.4.0.parameters) arguments f.4.2)
+      (λ vs is. room_then h slots place place (λ w. ⊥) (λ t. ⊥) b at _ point
+      (goes_then (set_if h t (value.Thread (new_id b.around)) values _) (set_if_fits h slots place Thread t (value.Thread (new_id b.around)) values _ f.1 (refl, new_is) fit
+      (same _ (act.Out b.id (record { to = to.Sched s; order = order.Create (new_id b.around) m vs })) (create_fits s m f.4.0 vs f.2 f.3 f.4.1 is) refl refl refl refl refl))))
+  did_fits (PrintText line e) f = any_value (eval_if h values b e) _ (λ v. entry_then _ (same _ (act.Print b.id (line ++ text_if h v)) tt refl refl refl refl refl))
+  did_fits (PrintValue e) f = any_value (eval h values b e) _ (λ v. entry_then _ (same _ (act.Print b.id (value_text h v)) tt refl refl refl refl refl))
+  did_fits (Generate event e) f =
+      any_value (eval_if h values b e) _
+      (λ v. entry_then _ (same _ (act.Gen b.id event (number_if v)) tt refl refl refl (length-set b.around.board event.0 (Some (event_values event b.around.board ++ value_list (number_if v)))) refl))
+  did_fits (ControlThread control e s) f =
+      with_value (ValueFits h Thread) (eval h values b e) _ (eval_fits h slots place values b fit beside.id e Thread f.0)
+      (λ v is. entry_then _ (same _ (act.Out b.id (record { to = to.Sched s; order = order_of control (thread_or b.id v) }))
+      (control_fits h s control (thread_or b.id v) (thread_is h b.id v beside.id is.1)) refl refl refl refl refl))
+  did_fits (Broadcast event e) f =
+      any_value (eval_if h values b e) _
+      (λ v. entry_then _ (same _ (act.Out b.id (record { to = to.Sched (home h event); order = order.Broadcast event (number_if v) })) (record { declared = f.0; there = refl }) refl refl refl refl refl))
+
+-- ---- stops
+
+-- where a thread that leaves is after its stop
+abbrev pub LeadsTo : To → Place → Type 0
+LeadsTo (to.Sched s) q = q ≡ Sched s
+LeadsTo (to.Others s) q = ⊥
+LeadsTo to.All q = ⊥
+LeadsTo to.Workers q = q ≡ Unlinked
+
+not_up : (n : ℤ) → is_up (Some n) ≡ false → pos 0 ≤ℤ n
+not_up (pos n) e = omega (arith, ints)
+not_up (negsuc n) e = absurd cc
+
+left_agrees : (h : Heads) (limit : Option Exp) (v : Option Value) → LimitFits h limit v → is_up (number_if v) ≡ false → LeftAgrees limit (number_if v)
+left_agrees h None None fit up = tt
+left_agrees h None (Some v) fit up = absurd fit
+left_agrees h (Some e) None fit up = absurd fit
+left_agrees h (Some e) (Some v) fit up = not_up (number_of v) up
+
+-- a wait that the stop gives
+abbrev pub IsWaitOf : Pause → Wait → Type 0
+IsWaitOf pause w = PauseAgrees pause w
+
+-- it leaves for where it is after the stop
+abbrev pub IsLeaveOf : Pause → Place → To → Type 0
+IsLeaveOf pause place t = LeadsTo t (place_after pause place) × PauseAgrees pause wait.New
+
+module _ (h : Heads) (slots : List Kind) (place : Place) (values : List Value) (b : Beside) (fit : ValuesFit h slots values) (beside : BesideFits h place b) where
+  -- only the code and the mask are others
+  ended : (d : Beside) → d.id ≡ b.id → d.around ≡ b.around → BesideFits h place d
+  ended d i e = beside_fits h place b d beside i (ap (λ (a : Around). a.place) e) (ap (λ (a : Around). a.shared) e) (ap (λ (a : Around). length a.board) e) (subst (λ (a : Around). Each (ActFits h) a.acts) (sym e) beside.around.acts)
+
+  gotten_fits : (t : Option Target) (event : EventId) (i : ℤ) → IfThere (TargetHasKind h slots place Int) t → NowFits h slots place (gotten h t event i values b)
+  gotten_fits t event i has = set_if_fits h slots place Int t _ values (with_code _ b) has (refl, tt) fit (ended (with_code _ b) refl refl)
+
+  -- a wait that ends
+  pub answered_fits : (pause : Option Pause) (w : Wait) → IfThere (TargetHasKind h slots place Int) (target_of pause) → NowFits h slots place (answered h pause w values b)
+  answered_fits pause wait.New has = (fit, beside)
+  answered_fits pause (wait.Coop left) has = (fit, beside)
+  answered_fits pause (wait.Events events left) has = (fit, ended _ refl refl)
+  answered_fits pause (wait.Index event i) has = gotten_fits (target_of pause) event i has
+  answered_fits pause wait.Next has = (fit, ended _ refl refl)
+  answered_fits pause (wait.Join t left) has = (fit, ended _ refl refl)
+  answered_fits pause wait.Halt has = (fit, beside)
+
+module _ (h : Heads) (slots : List Kind) (place : Place) (at : At) (values : List Value) (b : Beside) (point : IsPoint h at) (fit : ValuesFit h slots values) (beside : BesideFits h place b) where
+  abbrev pub BegunFit : Pause → Effect → Type 0
+  BegunFit pause e = EffectFits h slots place (place_after pause place) (IsWaitOf pause) (IsLeaveOf pause place) e
+
+  with_begun : {A : Type 0} (pause : Pause) (P : A → Type 0) (o : Option A) (f : A → Effect) → IfThere P o → ((v : A) → P v → BegunFit pause (f v)) → BegunFit pause (if_value o at f)
+  with_begun pause P o f there on = value_then h slots place (place_after pause place) (IsWaitOf pause) (IsLeaveOf pause place) P o at f point there on
+
+  hold_begun : (pause : Pause) (is_there up : Bool) (there late waits : Effect) → BegunFit pause there → BegunFit pause late → (up ≡ false → BegunFit pause waits) → BegunFit pause (hold is_there up there late waits)
+  hold_begun pause is_there up there late waits f g k =
+      hold_then h slots place (place_after pause place) (IsWaitOf pause) (IsLeaveOf pause place) is_there up there late waits f g k
+
+  cooperates : (instants : Option Exp) (n : ℤ) (up : Bool) → is_up (Some n) ≡ up → BegunFit (Cooperate instants) (if up then goes_on values b else Waits (wait.Coop n))
+  cooperates instants n true e = (fit, beside, refl)
+  cooperates instants n false e = ((n, refl, not_up n e), tt, refl)
+
+  gets : (event : EventId) (index : Exp) (t : Target) (i : ℤ) (is_there : Bool) → TargetHasKind h slots place Int t
+      → BegunFit (Get event index t) (if is_there then GoesOn (gotten h (Some t) event i values b) else Waits (wait.Index event i))
+  gets event index t i true has = let g = gotten_fits h slots place values b fit beside (Some t) event i has in (g.0, g.1, refl)
+  gets event index t i false has = (inr (i, refl), tt, refl)
+
+  pub begun_fits : (pause : Pause) → PauseFits h slots place pause → BegunFit pause (begun h pause at values b)
+  begun_fits (Cooperate None) f = ((pos 1, refl, not_up (pos 1) refl), tt, refl)
+  begun_fits (Cooperate (Some e)) f =
+      with_begun (Cooperate (Some e)) (ValueFits h Int) (eval h values b e) _ (eval_fits h slots place values b fit beside.id e Int f.1)
+      (λ v is. cooperates (Some e) (number_of v) (is_up (Some (number_of v))) refl)
+  begun_fits (Await events limit) f =
+      with_begun (Await events limit) (LimitFits h limit) (eval_if h values b limit) _ (eval_if_fits h slots place values b fit beside.id limit f.1)
+      (λ v is. hold_begun (Await events limit) (has_any events b.around.board) (is_up (number_if v)) _ _ (Waits (wait.Events events (number_if v)))
+      (fit, ended h slots place values b fit beside _ refl refl, refl) (fit, ended h slots place values b fit beside _ refl refl, refl) (λ up. ((number_if v, refl, left_agrees h limit v is up), tt, refl)))
+  begun_fits (Get event index t) f =
+      with_begun (Get event index t) (ValueFits h Int) (eval h values b index) _ (eval_fits h slots place values b fit beside.id index Int f.1)
+      (λ i is. gets event index t (number_of i) (is_index (number_of i) (length (event_values event b.around.board))) f.2)
+  begun_fits (Join thread limit) f =
+      with_begun (Join thread limit) (ValueFits h Thread) (eval h values b thread) _ (eval_fits h slots place values b fit beside.id thread Thread f.1)
+      (λ t is. with_begun (Join thread limit) (LimitFits h limit) (eval_if h values b limit) _ (eval_if_fits h slots place values b fit beside.id limit f.2)
+      (λ v lim. hold_begun (Join thread limit) (is_known (thread_or b.id t) b.around.known) (is_up (number_if v)) _ _ (Waits (wait.Join (thread_or b.id t) (number_if v)))
+      (fit, ended h slots place values b fit beside _ refl refl, refl) (fit, ended h slots place values b fit beside _ refl refl, refl)
+      (λ up. ((thread_or b.id t, number_if v, refl, left_agrees h limit v lim up), thread_is h b.id t beside.id is.1, refl))))
+  begun_fits (Link s) f = (refl, refl)
+  begun_fits Unlink f = (refl, refl)
+  begun_fits Halt f = (refl, tt, refl)

@@ -1,0 +1,10 @@
+pub mod NumberLemmas
+pub mod LeftLemmas
+pub mod FitLemmas
+pub mod EffectLemmas
+pub mod WorkLemmas
+pub mod PointLemmas
+pub mod StandLemmas
+pub mod ThereLemmas
+pub mod KeptLemmas
+pub mod InstantLemmas

@@ -1,0 +1,17 @@
+use Rattle.loft_stand.proofs.InstantLemmas.{empty_fits, starts_fit, machine_fits, sent_fits, unlinked_fits}
+use Rattle.loft_stand.proofs.laws.instants_keep_standing.Goals as goal
+
+pub returns-clause-begins : goal.returns-clause-begins
+returns-clause-begins c = empty_fits
+
+pub returns-clause-starts : goal.returns-clause-starts
+returns-clause-starts c = starts_fit
+
+pub returns-clause-machine : goal.returns-clause-machine
+returns-clause-machine c = machine_fits
+
+pub returns-clause-sent : goal.returns-clause-sent
+returns-clause-sent c = sent_fits
+
+pub returns-clause-unlinked : goal.returns-clause-unlinked
+returns-clause-unlinked c = unlinked_fits

@@ -1,0 +1,129 @@
+-- Points of a run at which all is there that the thread asks for (docs/SEMANTICS.md, "Stands").
+use Rattle.std.specs.Prelude.{◌≡◌, IsTrue, ℕ, ℤ, List, [], ◌∷◌, length, Some, slice_get}
+use Rattle.loft_base.specs.declared.ids.SchedId.{SchedId}
+use Rattle.loft_base.specs.declared.ids.Value.{Value}
+use Rattle.loft_tree.specs.declared.kinds.Kind.{Kind}
+use Rattle.loft_tree.specs.declared.heads.Place.{Place}
+use Rattle.loft_tree.specs.declared.heads.Place.TheVariants.{Sched, Unlinked}
+use Rattle.loft_tree.specs.declared.heads.Signature.{Signature}
+use Rattle.loft_tree.specs.declared.heads.Heads.{Heads}
+use Rattle.loft_tree.specs.Fits.{Each}
+use Rattle.loft_tree.specs.HeadsFit.{is_of, HeadsFit}
+use Rattle.loft_tree.specs.NamedFits.{IsPlace, slots_of}
+use Rattle.loft_sense.specs.declared.note.Act.{Act}
+use Rattle.loft_sense.specs.declared.note.Act.TheVariants as act
+use Rattle.loft_sense.specs.declared.order.Order.{Order}
+use Rattle.loft_sense.specs.declared.order.Order.TheVariants as order
+use Rattle.loft_sense.specs.declared.order.To.{To}
+use Rattle.loft_sense.specs.declared.order.To.TheVariants as to
+use Rattle.loft_sense.specs.declared.thread.Thread.{Thread}
+use Rattle.loft_sense.specs.declared.thread.Wait.TheVariants.{New}
+use Rattle.loft_sense.specs.Heads.{shared_values}
+use Rattle.loft_sense.specs.Around.{Around, Beside}
+use Rattle.loft_sense.specs.Machine.{Prog, heads}
+use Rattle.loft_sense.specs.Run.{Control, Active, Outcome, Held, Left, Ended, live, step_on}
+use Rattle.loft_sense.specs.Tree.{Work, next_work}
+use Rattle.loft_sense.specs.Stands.{end_of, Stands}
+use Rattle.loft_sense.specs.Fits.{IsThread, IsValue, ThreadNames, EndNames, IsEventOf}
+use Rattle.loft_stand.specs.WorkFits.{NextFits, WorkFits}
+
+-- a value of this kind, and a thread only if it is declared
+abbrev pub ValueFits : Heads → Kind → Value → Type 0
+ValueFits h kind v = IsTrue (is_of v kind) × IsValue h v
+
+-- a value for each of these kinds
+abbrev pub ValuesFit : Heads → List Kind → List Value → Type 0
+ValuesFit h [] [] = Unit {0}
+ValuesFit h [] (v ∷ vs) = ⊥
+ValuesFit h (kind ∷ kinds) [] = ⊥
+ValuesFit h (kind ∷ kinds) (v ∷ vs) = ValueFits h kind v × ValuesFit h kinds vs
+
+-- a value for each shared variable of the place
+abbrev pub SharedFit : Heads → Place → List ℤ → Type 0
+SharedFit h (Sched s) shared = length shared ≡ length (shared_values h s)
+SharedFit h Unlinked shared = Unit {0}
+
+-- an order that a statement may send to a scheduler
+abbrev pub OrderFits : Heads → SchedId → Order → Type 0
+OrderFits h s (order.Create t m args) = IsThread h t × HeadsFit h s m args × Each (IsValue h) args
+OrderFits h s (order.Arrive t) = ⊥
+OrderFits h s (order.Stop t) = IsThread h t
+OrderFits h s (order.Suspend t) = IsThread h t
+OrderFits h s (order.Resume t) = IsThread h t
+OrderFits h s (order.Broadcast e v) = IsEventOf h s e
+OrderFits h s (order.Ended t end) = ⊥
+
+-- statements send to one scheduler each
+abbrev pub OutFits : Heads → To → Order → Type 0
+OutFits h (to.Sched s) o = OrderFits h s o
+OutFits h (to.Others s) o = ⊥
+OutFits h to.All o = ⊥
+OutFits h to.Workers o = ⊥
+
+-- what was done: an order that is sent fits where it goes, and an end names what is declared
+abbrev pub ActFits : Heads → Act → Type 0
+ActFits h (act.Print t line) = Unit {0}
+ActFits h (act.Gen t event value) = Unit {0}
+ActFits h (act.Out t sent) = OutFits h sent.to sent.order
+ActFits h (act.End t end) = IsThread h t × EndNames h end
+
+-- What stands around a thread that is linked at this place: the place is declared, its shared variables have values, the
+-- board has room for each event, and what was done in this instant so far fits.
+pub record AroundFits (h : Heads) (place : Place) (around : Around) : Type 0 where
+  pub declared : IsPlace h place
+  pub there : around.place ≡ place
+  pub shared : SharedFit h place around.shared
+  pub board : length around.board ≡ length h.events
+  pub acts : Each (ActFits h) around.acts
+
+-- what stands beside the frames of such a thread
+pub record BesideFits (h : Heads) (place : Place) (b : Beside) : Type 0 where
+  pub id : IsThread h b.id
+  pub around : AroundFits h place b.around
+
+-- A frame that goes on at this place: its module is declared, its values have the kinds of the module's parameters and local
+-- variables, and the work that is left fits and ends where the module ends.
+pub record FrameFits (h : Heads) (place : Place) (r : Active (List Work)) : Type 0 where
+  pub head : Signature
+  pub declared : slice_get h.modules r.module.0 ≡ Some head
+  pub values : ValuesFit h (slots_of head) r.values
+  pub work : WorkFits h (slots_of head) r.at place head.end
+
+-- frames, innermost first: each goes on where the module of the one before it ends
+abbrev pub FramesFit : Heads → Place → List (Active (List Work)) → Type 0
+FramesFit h place [] = Unit {0}
+FramesFit h place (r ∷ rs) = FrameFits h place r × FramesFit h (end_of h r.module) rs
+
+-- a point of a run
+pub record PointFits (h : Heads) (place : Place) (b : Beside) (rs : List (Active (List Work))) : Type 0 where
+  pub beside : BesideFits h place b
+  pub frames : FramesFit h place rs
+
+-- What the innermost frame does next fits its values: each has the kind of its slot, and all that is named is there.
+abbrev pub FrontFits : Heads → Place → List (Active (List Work)) → Type 0
+FrontFits h place [] = Unit {0}
+FrontFits h place (r ∷ rs) =
+    (head : Signature) × (slice_get h.modules r.module.0 ≡ Some head) × ValuesFit h (slots_of head) r.values
+    × NextFits h (slots_of head) place (next_work r.at)
+
+-- A step from there goes on at none but these points: what a run would do at others makes no difference.
+abbrev pub GoesOnlyTo : Control (List Work) → (Beside → List (Active (List Work)) → Type 0) → Beside → List (Active (List Work)) → Type 0
+GoesOnlyTo c Point b rs =
+    (left : ℕ) (on other : Beside → List (Active (List Work)) → Outcome)
+    → ((d : Beside) (qs : List (Active (List Work))) → Point d qs → on d qs ≡ other d qs)
+    → step_on c left on b (live c rs) ≡ step_on c left other b (live c rs)
+
+-- ---- how a run leaves a thread
+
+-- the thread stands where it goes
+abbrev pub StandsThere : Prog → Thread → To → Type 0
+StandsThere x t (to.Sched s) = Stands x t (Sched s)
+StandsThere x t (to.Others s) = ⊥
+StandsThere x t to.All = ⊥
+StandsThere x t to.Workers = Stands x t Unlinked
+
+-- a run of a thread that was linked at this place
+abbrev pub LeavesStanding : Prog → Place → Outcome → Type 0
+LeavesStanding x place (Held t around left) = Stands x t place × ThreadNames (heads x) t × AroundFits (heads x) place around
+LeavesStanding x place (Left t to around left) = (t.wait ≡ New) × StandsThere x t to × ThreadNames (heads x) t × AroundFits (heads x) place around
+LeavesStanding x place (Ended end around left) = EndNames (heads x) end × AroundFits (heads x) place around

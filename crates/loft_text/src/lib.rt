@@ -1,0 +1,12 @@
+//! The texts of values, as threads print them and as reports give them.
+#![tactic(auto)]
+
+mod frame;
+mod line;
+mod text;
+
+pub use line::LineBuffer;
+pub use text::{
+    Item, push_end, push_event_name, push_id, push_module_name, push_name_at, push_scheduler_name,
+    push_separated, push_separated_by, push_shared_name,
+};

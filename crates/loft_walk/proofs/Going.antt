@@ -1,0 +1,175 @@
+-- One step of a thread whose frames are in memory.
+use Rattle.std.proofs.Common.{◌≡◌, ◌≢◌, ℕ, ℤ, zero, suc, ◌-◌, ◌<◌, ◌≤◌, List, [], ◌∷◌, ◌++◌, refl, sym, ap, subst, ◌∙◌, Bool, true, false, Option, Some, None, length, Result, Ok, Err, arith}
+use Rattle.std.proofs.lemmas.Bool.{le-ltb, lt-ltb}
+use Rattle.std.proofs.lemmas.List.{length-map, length-reverse}
+use Rattle.std.specs.Prelude.{reverse, map, nat_lt, IfOk, if◌then◌else◌}
+use Rattle.loft_base.specs.declared.errors.NoMemory.{NoMemory}
+use Rattle.loft_base.specs.declared.ids.ModuleId.{ModuleId}
+use Rattle.loft_base.specs.declared.ids.Value.{Value}
+use Rattle.loft_tree.specs.declared.heads.Heads.{Heads}
+use Rattle.std.specs.Option.{option_map}
+use Rattle.loft_tree.specs.declared.named.Target.{Target as TargetInMemory}
+use Rattle.loft_tree.specs.Resolved.{Pause, Body, Resolved, target_of as target_from}
+use Rattle.loft_sense.specs.declared.limits.TheConstants.{MAX_FRAMES}
+use Rattle.loft_sense.specs.declared.order.End.{End}
+use Rattle.loft_sense.specs.declared.order.End.TheVariants.{Done, Deep, Over}
+use Rattle.loft_sense.specs.declared.order.To.{To}
+use Rattle.loft_sense.specs.declared.thread.Frame.{Frame}
+use Rattle.loft_sense.specs.declared.thread.Thread.{Thread}
+use Rattle.loft_sense.specs.declared.thread.Wait.{Wait}
+use Rattle.loft_sense.specs.declared.thread.Wait.TheVariants.{New}
+use Rattle.loft_sense.specs.declared.order.At.{At}
+use Rattle.loft_sense.specs.Statements.{Now, now, target_of, answered}
+use Rattle.loft_sense.specs.Around.{Around, Beside}
+use Rattle.loft_sense.specs.Run.{Active, Control, Outcome, Held, Left, thread_of, begun_frame, run_on, live, ends, step_on, no_step, going, go_on, go, active_of}
+use Rattle.loft_sense.specs.Tree.{Work, tree, next_work, pause_at}
+use Rattle.loft_walk.specs.declared.gone.Gone.{Gone}
+use Rattle.loft_walk.specs.declared.running.Running.{Running}
+use Rattle.loft_walk.specs.declared.scope.Scope.{Scope}
+use Rattle.loft_walk.specs.declared.scope.Beside.{Beside as BesideInMemory}
+use Rattle.loft_walk.specs.declared.step.Move.{Move}
+use Rattle.loft_walk.specs.declared.step.Move.TheVariants as move
+use Rattle.loft_walk.specs.declared.work.Task.{Task}
+use Rattle.loft_walk.specs.View.{around_of, beside_of}
+use Rattle.loft_walk.specs.Pieces.{work_of, work_of_task}
+use Rattle.loft_walk.specs.Frames.{active, actives, live_of, advance, program_with, Steps, gone_of, top_target, Answers}
+use Rattle.loft_walk.proofs.Frames.{actives-push, actives_woken}
+
+-- an outcome that is another one
+pub gone_as : (r : Result Gone NoMemory) (x y : Outcome) → x ≡ y → IfOk r (λ g. gone_of g ≡ x) → IfOk r (λ g. gone_of g ≡ y)
+gone_as r x y e h = subst (λ (z : Outcome). IfOk r (λ g. gone_of g ≡ z)) e h
+
+-- the same of one that is the same in every program
+pub gone_as_all : (r : Result Gone NoMemory) (x : Resolved → Outcome) (y : Outcome) (p : Resolved) → x p ≡ y → IfOk r (λ g. (q : Resolved) → gone_of g ≡ x q) → IfOk r (λ g. gone_of g ≡ y)
+gone_as_all (Ok g) x y p e h = h p ∙ e
+gone_as_all (Err out) x y p e h = h
+
+length_actives : (rs : List Running) → length (actives rs) ≡ length rs
+length_actives rs = grind (arith, length-map, length-reverse)
+
+run_enters : (c : Control (List Work)) (left : ℕ) (on : Beside → List (Active (List Work)) → Outcome) (arguments : List Value) (m : ModuleId) (r : Active (List Work)) (rs : List (Active (List Work))) (b : Beside)
+    → nat_lt (length (r ∷ rs)) MAX_FRAMES ≡ true → run_on c left on (Some arguments) m r rs b ≡ on b (begun_frame c m arguments b ∷ r ∷ rs)
+run_enters c left on arguments m r rs b e = ap (λ (q : Bool). if q then on b (begun_frame c m arguments b ∷ r ∷ rs) else ends (Deep (record { «module» = r.module; stop = r.stop })) b left) e
+
+run_deep : (c : Control (List Work)) (left : ℕ) (on : Beside → List (Active (List Work)) → Outcome) (arguments : List Value) (m : ModuleId) (r : Active (List Work)) (rs : List (Active (List Work))) (b : Beside)
+    → nat_lt (length (r ∷ rs)) MAX_FRAMES ≡ false → run_on c left on (Some arguments) m r rs b ≡ ends (Deep (record { «module» = r.module; stop = r.stop })) b left
+run_deep c left on arguments m r rs b e = ap (λ (q : Bool). if q then on b (begun_frame c m arguments b ∷ r ∷ rs) else ends (Deep (record { «module» = r.module; stop = r.stop })) b left) e
+
+module _ (h : Heads) (bodies : List Body) where
+  abbrev code : Control (List Work)
+  code = tree (program_with h bodies)
+
+  one_step : (running rest : List Running) (top new : Running) (task : Task) (m : Move) (left : ℕ) (b b' : BesideInMemory) → left ≢ 0 → live code (actives running) ≡ live_of (Some (top, task)) rest
+      → Steps h (next_work (work_of_task task ∷ work_of top.work.items)) top b m new b'
+      → going code left (beside_of b) (actives running) ≡ advance m code (left - 1) (going code (left - 1)) (active new) (actives rest) (beside_of b')
+  one_step running rest top new task m zero b b' some l s = absurd (some refl)
+  one_step running rest top new task m (suc n) b b' some l s =
+      let same : n ≡ suc n - 1 = omega arith in
+      ap (step_on code n (going code n) (beside_of b)) l
+      ∙ (s bodies n (going code n) (work_of_task task ∷ work_of top.work.items) (actives rest)
+      ∙ ap (λ (k : ℕ). advance m code k (going code k) (active new) (actives rest) (beside_of b')) same)
+
+  -- no step is left
+  pub no_left : (running rest : List Running) (top : Running) (task : Task) (o : Option (Running × Task)) (left : ℕ) (b : BesideInMemory) → left ≡ 0 → o ≡ Some (top, task) → live code (actives running) ≡ live_of o rest
+      → ends (Over top.scope.at) (beside_of b) 0 ≡ going code left (beside_of b) (actives running)
+  no_left running rest top task o left b none some l =
+      sym (ap (λ (n : ℕ). going code n (beside_of b) (actives running)) none ∙ ap (no_step (beside_of b)) (l ∙ ap (λ (x : Option (Running × Task)). live_of x rest) some))
+
+  -- no frame has anything to do
+  pub nothing_left : (running rest : List Running) (o : Option (Running × Task)) (left : ℕ) (b : BesideInMemory) → o ≡ None → live code (actives running) ≡ live_of o rest
+      → ends Done (beside_of b) left ≡ going code left (beside_of b) (actives running)
+  nothing_left running rest o zero b none l = sym (ap (no_step (beside_of b)) (l ∙ ap (λ (x : Option (Running × Task)). live_of x rest) none))
+  nothing_left running rest o (suc n) b none l = sym (ap (step_on code n (going code n) (beside_of b)) (l ∙ ap (λ (x : Option (Running × Task)). live_of x rest) none))
+
+  goes_pushed : (n : ℕ) (b : BesideInMemory) (rest pushed : List Running) (r : Running) → pushed ≡ rest ++ r ∷ [] → going code n (beside_of b) (active r ∷ actives rest) ≡ going code n (beside_of b) (actives pushed)
+  goes_pushed n b rest pushed r e = ap (going code n (beside_of b)) (sym (ap actives e ∙ actives-push rest r))
+
+  module _ (running rest pushed : List Running) (top new : Running) (task : Task) (o : Option (Running × Task)) (m : Move) (left : ℕ) (b b' : BesideInMemory) (some_left : left ≢ 0) (is_some : o ≡ Some (top, task))
+      (lives : live code (actives running) ≡ live_of o rest) (steps : Steps h (next_work (work_of_task task ∷ work_of top.work.items)) top b m new b') (is_pushed : pushed ≡ rest ++ new ∷ []) where
+    steps_as : (n : Move) → m ≡ n → going code left (beside_of b) (actives running) ≡ advance n code (left - 1) (going code (left - 1)) (active new) (actives rest) (beside_of b')
+    steps_as n e =
+        one_step running rest top new task m left b b' some_left (lives ∙ ap (λ (x : Option (Running × Task)). live_of x rest) is_some) steps
+        ∙ ap (λ (v : Move). advance v code (left - 1) (going code (left - 1)) (active new) (actives rest) (beside_of b')) e
+
+    all_frames : active new ∷ actives rest ≡ actives pushed
+    all_frames = sym (ap actives is_pushed ∙ actives-push rest new)
+
+    pub step_goes : m ≡ move.GoOn → going code (left - 1) (beside_of b') (actives pushed) ≡ going code left (beside_of b) (actives running)
+    step_goes e = sym (steps_as move.GoOn e ∙ ap (going code (left - 1) (beside_of b')) all_frames)
+
+    how_many : length (active new ∷ actives rest) ≡ length pushed
+    how_many = ap length all_frames ∙ length_actives pushed
+
+    pub step_enters : (called : ModuleId) (arguments : List Value) (r : Running) (entered : List Running) → m ≡ move.Enter called arguments → length pushed < MAX_FRAMES → active r ≡ begun_frame code called arguments (beside_of b') → entered ≡ pushed ++ r ∷ []
+        → going code (left - 1) (beside_of b') (actives entered) ≡ going code left (beside_of b) (actives running)
+    step_enters called arguments r entered e few begins e_entered =
+        sym (steps_as (move.Enter called arguments) e
+        ∙ (run_enters code (left - 1) (going code (left - 1)) arguments called (active new) (actives rest) (beside_of b') (ap (λ (n : ℕ). nat_lt n MAX_FRAMES) how_many ∙ lt-ltb _ _ few)
+        ∙ (ap (λ (l : List (Active (List Work))). going code (left - 1) (beside_of b') (begun_frame code called arguments (beside_of b') ∷ l)) all_frames
+        ∙ (ap (λ (a : Active (List Work)). going code (left - 1) (beside_of b') (a ∷ actives pushed)) (sym begins)
+        ∙ goes_pushed (left - 1) b' pushed entered r e_entered))))
+
+    pub step_too_deep : (called : ModuleId) (arguments : List Value) → m ≡ move.Enter called arguments → MAX_FRAMES ≤ length pushed → ends (Deep new.scope.at) (beside_of b') (left - 1) ≡ going code left (beside_of b) (actives running)
+    step_too_deep called arguments e many =
+        sym (steps_as (move.Enter called arguments) e
+        ∙ run_deep code (left - 1) (going code (left - 1)) arguments called (active new) (actives rest) (beside_of b') (ap (λ (n : ℕ). nat_lt n MAX_FRAMES) how_many ∙ le-ltb _ _ many))
+
+    pub step_holds : (wait : Wait) → m ≡ move.Hold wait → Held (thread_of code wait (actives pushed) (beside_of b')) (around_of b'.around) (left - 1) ≡ going code left (beside_of b) (actives running)
+    step_holds wait e = sym (steps_as (move.Hold wait) e ∙ ap (λ (l : List (Active (List Work))). Held (thread_of code wait l (beside_of b')) (around_of b'.around) (left - 1)) all_frames)
+
+    pub step_leaves : (to : To) → m ≡ move.Leave to → Left (thread_of code New (actives pushed) (beside_of b')) to (around_of b'.around) (left - 1) ≡ going code left (beside_of b) (actives running)
+    step_leaves to e = sym (steps_as (move.Leave to) e ∙ ap (λ (l : List (Active (List Work))). Left (thread_of code New l (beside_of b')) to (around_of b'.around) (left - 1)) all_frames)
+
+    pub step_ends : (end : End) → m ≡ move.End end → ends end (beside_of b') (left - 1) ≡ going code left (beside_of b) (actives running)
+    step_ends end e = sym (steps_as (move.End end) e)
+
+-- the values of the innermost frame are answered
+pub answers : (h : Heads) (wait : Wait) (target : Option TargetInMemory) (old rest new : List Running) (top : Running) (scope : Scope) (b b' : BesideInMemory)
+    → old ≡ rest ++ top ∷ [] → new ≡ rest ++ record top { scope = scope } ∷ []
+    → ((pause : Option Pause) → target_of pause ≡ option_map target_from target → now scope.values (beside_of b') ≡ answered h pause wait top.scope.values (beside_of b))
+    → scope.at ≡ top.scope.at → Answers h wait target old b new b'
+answers h wait target old rest new top scope b b' is_old is_new answer same_at bodies left aims =
+    let p = program_with h bodies in
+    let before : actives old ≡ active top ∷ actives rest = ap actives is_old ∙ actives-push rest top in
+    let after : actives new ≡ active (record top { scope = scope }) ∷ actives rest = ap actives is_new ∙ actives-push rest (record top { scope = scope }) in
+    let pause = pause_at p top.scope.at.module top.scope.at.stop in
+    let now_is = answer pause (sym (aims ∙ ap (top_target p) before)) in
+    ap (going (tree p) left (beside_of b')) after
+    ∙ (ap (λ (a : At). going (tree p) left (beside_of b') (record (active top) { «module» = a.module; stop = a.stop; values = scope.values } ∷ actives rest)) same_at
+    ∙ (ap (λ (n : Now). going (tree p) left n.beside (record (active top) { values = n.values } ∷ actives rest)) now_is
+    ∙ sym (ap (go_on (tree p) (suc left) wait (beside_of b)) before)))
+
+-- no frame is there
+pub answers_none : (h : Heads) (wait : Wait) (target : Option TargetInMemory) (old new : List Running) (b : BesideInMemory) → old ≡ [] → new ≡ [] → Answers h wait target old b new b
+answers_none h wait target old new b is_old is_new bodies left aims =
+    ap (λ (l : List Running). going (tree (program_with h bodies)) left (beside_of b) (actives l)) is_new
+    ∙ sym (ap (λ (l : List Running). go_on (tree (program_with h bodies)) (suc left) wait (beside_of b) (actives l)) is_old)
+
+-- frames that go on from where they stood
+module _ (h : Heads) (bodies : List Body) (fs : List Frame) (wait : Wait) (b : Beside) (left : ℕ) (rs : List Running) (woken : map active rs ≡ map (active_of (tree (program_with h bodies))) fs) where
+  abbrev on : ℕ → List (Active (List Work)) → Outcome
+  on n l = go_on (tree (program_with h bodies)) n wait b l
+
+  same_frames : on left (actives rs) ≡ on left (map (active_of (tree (program_with h bodies))) (reverse fs))
+  same_frames = ap (on left) (actives_woken (active_of (tree (program_with h bodies))) fs rs woken)
+
+  -- where no step is left
+  pub starts_over : left ≡ 0 → no_step b (actives rs) ≡ on left (map (active_of (tree (program_with h bodies))) (reverse fs))
+  starts_over none = sym (ap (λ (n : ℕ). on n (actives rs)) none) ∙ same_frames
+
+  -- where one is
+  pub starts_on : left ≢ 0 → on (suc (left - 1)) (actives rs) ≡ on left (map (active_of (tree (program_with h bodies))) (reverse fs))
+  starts_on some = let same : suc (left - 1) ≡ left = more left some in ap (λ (n : ℕ). on n (actives rs)) same ∙ same_frames
+    where
+      more : (n : ℕ) → n ≢ 0 → suc (n - 1) ≡ n
+      more zero some = absurd (some refl)
+      more (suc n) some = omega arith
+
+-- a thread that goes on, with what stands beside its frames
+pub goes : (p : Resolved) (t : Thread) (around : Around) (left : ℕ) (c m : ℤ) (fs : List Frame) → c ≡ t.code → m ≡ t.mask → fs ≡ t.frames
+    → go_on (tree p) left t.wait (record { id = t.id; code = c; mask = m; around = around }) (map (active_of (tree p)) (reverse fs)) ≡ go (tree p) t around left
+unfolding go
+goes p t around left c m fs same_code same_mask same_frames =
+    ap (λ (n : ℤ). go_on (tree p) left t.wait (record { id = t.id; code = n; mask = m; around = around }) (map (active_of (tree p)) (reverse fs))) same_code
+    ∙ (ap (λ (n : ℤ). go_on (tree p) left t.wait (record { id = t.id; code = t.code; mask = n; around = around }) (map (active_of (tree p)) (reverse fs))) same_mask
+    ∙ ap (λ (l : List Frame). go_on (tree p) left t.wait (record { id = t.id; code = t.code; mask = t.mask; around = around }) (map (active_of (tree p)) (reverse l))) same_frames)

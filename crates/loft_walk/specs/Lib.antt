@@ -1,0 +1,4 @@
+pub mod View
+pub mod Effects
+pub mod Pieces
+pub mod Frames

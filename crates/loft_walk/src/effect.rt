@@ -1,0 +1,13 @@
+//! What becomes of a thread by a statement.
+
+use loft_sense::{End, To, Wait};
+
+/// What becomes of a thread by a statement (docs/SEMANTICS.md, "Statements").
+#[derive(Debug, Drop)]
+pub enum Effect {
+    /// It goes on at once.
+    GoesOn,
+    Waits(Wait),
+    Leaves(To),
+    Dies(End),
+}

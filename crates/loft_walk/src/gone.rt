@@ -1,0 +1,21 @@
+//! A run of a thread (docs/SEMANTICS.md, "Run").
+
+use crate::around::Around;
+use loft_sense::{End, Thread, To};
+
+/// How a run of a thread ends.
+#[derive(Debug, Drop)]
+pub enum Outcome {
+    /// A stop holds it.
+    Held(Thread),
+    Left(Thread, To),
+    Ended(End),
+}
+
+/// How a run of a thread ends, what it leaves around it, and how many steps the thread may still make in this instant.
+#[derive(Debug, Drop)]
+pub struct Gone {
+    pub outcome: Outcome,
+    pub around: Around,
+    pub left: u64,
+}

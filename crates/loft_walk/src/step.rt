@@ -1,0 +1,188 @@
+//! One step of a thread (docs/SEMANTICS.md, "Run").
+
+ghost use Rattle.std.specs.Prelude.{◌≡◌, ◌∷◌, IfOk};
+ghost use Rattle.loft_tree.specs.NamedView.{term_of};
+ghost use Rattle.loft_tree.specs.Resolved.{exp_of};
+ghost use Rattle.loft_sense.specs.Tree.{Again, Turns, next_begin, next_work, next_turn};
+ghost use Rattle.loft_walk.specs.Pieces.{body_from, step_from, work_of, work_of_task};
+
+use crate::effect::Effect;
+use crate::running::Running;
+use crate::scope::Beside;
+use crate::value::{is_true, number_of};
+use crate::work::{Piece, Task};
+use loft_base::{ModuleId, NoMemory, Values};
+use loft_sense::{End, To, Wait};
+use loft_tree::{Heads, NamedExpr, NamedStmt};
+use std::alloc::Global;
+
+/// What a step makes of its thread.
+#[derive(Debug, Drop)]
+pub enum Move {
+    /// The frame goes on.
+    GoOn,
+    /// A module runs in a further frame, with these arguments.
+    Enter(ModuleId, Values),
+    /// The thread waits.
+    Hold(Wait),
+    /// The thread leaves.
+    Leave(To),
+    /// The thread ends.
+    End(End),
+}
+
+impl<'a> Running<'a> {
+    ghost use Rattle.loft_walk.specs.Frames.{Steps, moved_by};
+
+    /// What a statement makes of its thread.
+    fn moved(effect: Effect) -> Move
+        ensures { result ≡ moved_by effect }
+    {
+        match effect {
+            Effect::GoesOn => Move::GoOn,
+            Effect::Waits(wait) => Move::Hold(wait),
+            Effect::Leaves(to) => Move::Leave(to),
+            Effect::Dies(end) => Move::End(end),
+        }
+    }
+
+    /// A statement begins.
+    #[tactic(auto, using(crate::proofs::Onto::onto, loft_tree::proofs::NamedTrees::named_statements))]
+    fn begin_statement(
+        &mut self,
+        alloc: Global,
+        heads: &Heads,
+        beside: &mut Beside,
+        statement: &'a NamedStmt,
+    ) -> Result<Move, NoMemory>
+        ensures { IfOk result (λ move. Steps heads.now (next_begin (step_from statement.now) (work_of self.old.work.items))
+            self.old beside.old move self.new beside.new) }
+    {
+        match statement {
+            NamedStmt::Assign { .. }
+            | NamedStmt::AssignCreate { .. }
+            | NamedStmt::Create { .. }
+            | NamedStmt::PrintText { .. }
+            | NamedStmt::PrintValue { .. }
+            | NamedStmt::Generate { .. }
+            | NamedStmt::Control { .. }
+            | NamedStmt::Broadcast { .. } => {
+                Ok(Self::moved(self.scope.act(alloc, heads, beside, statement)?))
+            }
+            NamedStmt::Cooperate { stop, .. }
+            | NamedStmt::Await { stop, .. }
+            | NamedStmt::Select { stop, .. }
+            | NamedStmt::Get { stop, .. }
+            | NamedStmt::Join { stop, .. }
+            | NamedStmt::Link { stop, .. }
+            | NamedStmt::Unlink { stop, .. }
+            | NamedStmt::Halt { stop, .. } => {
+                self.scope.at.stop = *stop;
+                Ok(Self::moved(self.scope.hold(alloc, heads, beside, statement)?))
+            }
+            NamedStmt::Run {
+                at: _,
+                stop,
+                called: _,
+                module,
+                arguments,
+            } => {
+                self.scope.at.stop = *stop;
+                match self
+                    .scope
+                    .values(alloc, heads, beside, arguments.as_slice())?
+                {
+                    Ok(values) => Ok(Move::Enter(*module, values)),
+                    Err(_) => Ok(Move::End(End::Div(self.scope.at))),
+                }
+            }
+            NamedStmt::If {
+                at: _,
+                test,
+                first,
+                second,
+            } => {
+                let Ok(value) = self.scope.value(heads, beside, test) else {
+                    return Ok(Move::End(End::Div(self.scope.at)));
+                };
+                if is_true(number_of(value)) {
+                    self.work.push(Piece::Rest(first.as_slice()))?;
+                } else {
+                    self.work.push(Piece::Rest(second.as_slice()))?;
+                }
+                Ok(Move::GoOn)
+            }
+            NamedStmt::While { at: _, test, body } => {
+                self.work.push(Piece::Again(test, body.as_slice()))?;
+                Ok(Move::GoOn)
+            }
+            NamedStmt::Repeat { at: _, count, body } => {
+                let Ok(value) = self.scope.value(heads, beside, count) else {
+                    return Ok(Move::End(End::Div(self.scope.at)));
+                };
+                self.work
+                    .push(Piece::Turns(number_of(value), body.as_slice()))?;
+                Ok(Move::GoOn)
+            }
+        }
+    }
+
+    /// The next test of a `while`.
+    #[tactic(auto, using(crate::proofs::Onto::onto))]
+    fn test_again(
+        &mut self,
+        heads: &Heads,
+        beside: &mut Beside,
+        test: &'a NamedExpr,
+        body: &'a [NamedStmt],
+    ) -> Result<Move, NoMemory>
+        ensures { IfOk result (λ move. Steps heads.now (next_work (Again (exp_of (term_of test.now)) (body_from body.now) ∷ work_of self.old.work.items))
+            self.old beside.old move self.new beside.new) }
+    {
+        let Ok(value) = self.scope.value(heads, beside, test) else {
+            return Ok(Move::End(End::Div(self.scope.at)));
+        };
+        if is_true(number_of(value)) {
+            self.work.push(Piece::Again(test, body))?;
+            self.work.push(Piece::Rest(body))?;
+        }
+        Ok(Move::GoOn)
+    }
+
+    /// The next turn of a `repeat`, while turns are to come.
+    #[tactic(auto, using(crate::proofs::Onto::onto))]
+    fn turn(
+        &mut self,
+        heads: &Heads,
+        beside: &mut Beside,
+        count: i64,
+        body: &'a [NamedStmt],
+    ) -> Result<Move, NoMemory>
+        ensures { IfOk result (λ move. Steps heads.now (next_turn count (body_from body.now) (work_of self.old.work.items))
+            self.old beside.old move self.new beside.new) }
+    {
+        if count > 0 {
+            self.work.push(Piece::Turns(count - 1, body))?;
+            self.work.push(Piece::Rest(body))?;
+        }
+        Ok(Move::GoOn)
+    }
+
+    /// One step.
+    pub fn step(
+        &mut self,
+        alloc: Global,
+        heads: &Heads,
+        beside: &mut Beside,
+        task: Task<'a>,
+    ) -> Result<Move, NoMemory>
+        ensures { IfOk result (λ move. Steps heads.now (next_work (work_of_task task.entry ∷ work_of self.old.work.items))
+            self.old beside.old move self.new beside.new) }
+    {
+        match task {
+            Task::Begin(statement) => self.begin_statement(alloc, heads, beside, statement),
+            Task::Again(test, body) => self.test_again(heads, beside, test, body),
+            Task::Turns(count, body) => self.turn(heads, beside, count, body),
+        }
+    }
+}

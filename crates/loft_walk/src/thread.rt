@@ -1,0 +1,272 @@
+//! A thread walks its statements (docs/SEMANTICS.md, "Run").
+
+ghost use Rattle.std.specs.Prelude.{◌≡◌, IfOk, OnOk, map, reverse};
+ghost use Rattle.std.specs.Option.{option_map};
+ghost use Rattle.loft_tree.specs.ProgramView.{program_of};
+ghost use Rattle.loft_tree.specs.Resolved.{Resolved, resolved_of, target_of as variable_of};
+ghost use Rattle.loft_sense.specs.declared.thread.Wait.TheVariants.{New as WaitNew};
+ghost use Rattle.loft_sense.specs.Machine.{Tree};
+ghost use Rattle.loft_sense.specs.Passes.{run_of};
+ghost use Rattle.loft_sense.specs.Around.{Beside as BesideOf};
+ghost use Rattle.loft_sense.specs.Run.{active_of, frame_of, thread_of, live, ends, going, go_on, no_step, Held, Left};
+ghost use Rattle.loft_sense.specs.Tree.{tree};
+ghost use Rattle.loft_walk.specs.View.{around_of, beside_of};
+ghost use Rattle.loft_walk.specs.Frames.{active, actives, live_of, gone_of, top_target, Answers};
+
+use crate::around::Around;
+use crate::gone::{Gone, Outcome};
+use crate::running::Running;
+use crate::scope::Beside;
+use crate::step::Move;
+use crate::work::{Task, take};
+use loft_base::{NoMemory, Sequence};
+use loft_sense::{Act, End, Frame, MAX_FRAMES, Thread, To, Wait};
+use loft_tree::{Heads, NamedProgram, Target};
+use std::alloc::Global;
+
+/// Frames that go on, outermost first, and the variable that the stop of the innermost sets, where it is a `get`.
+#[derive(Drop)]
+struct Woken<'a> {
+    running: Vec<Running<'a>>,
+    target: Option<Target>,
+}
+
+/// All frames go on where they stood.
+fn wake_all<'a>(
+    alloc: Global,
+    program: &'a NamedProgram,
+    mut frames: Vec<Frame>,
+) -> Result<Woken<'a>, NoMemory>
+    ensures frames { IfOk result (λ w. map active w.running.items
+        ≡ map (active_of (tree (resolved_of (program_of program.now)))) frames.items) }
+    ensures target { IfOk result (λ w. option_map variable_of w.target
+        ≡ top_target (resolved_of (program_of program.now)) (actives w.running.items)) }
+{
+    let mut running = Vec::new(alloc);
+    let mut target = None;
+    'waking: while !frames.is_empty() {
+        let (frame, variable) = Running::wake(alloc, program, frames.remove(0))?;
+        running.push(frame)?;
+        target = variable;
+    }
+    Ok(Woken { running, target })
+}
+
+/// All frames as they are kept.
+fn keep_all(alloc: Global, mut running: Vec<Running<'_>>) -> Result<Vec<Frame>, NoMemory>
+    ensures { IfOk result (λ frames. (p : Resolved)
+        → frames.items ≡ map (frame_of (tree p)) (map active running.entry.items)) }
+{
+    let mut frames = Vec::new(alloc);
+    'keeping: while !running.is_empty() {
+        frames.push(running.remove(0).keep(alloc)?)?;
+    }
+    Ok(frames)
+}
+
+/// The innermost frame that has something to do, with its next task; those whose module has ended are dropped.
+fn next_task<'a>(
+    running: &mut Vec<Running<'a>>,
+) -> Result<Option<(Running<'a>, Task<'a>)>, NoMemory>
+    ensures { IfOk result (λ task. (p : Resolved)
+        → live (tree p) (actives running.old.items) ≡ live_of task running.new.items) }
+{
+    'seeking: while let Some(mut top) = running.pop() {
+        if let Some(task) = take(&mut top.work)? {
+            return Ok(Some((top, task)));
+        }
+    }
+    Ok(None)
+}
+
+/// The end of a thread that may make no step.
+fn over(running: &[Running<'_>]) -> End
+    ensures { (b : BesideOf) → ends result b 0 ≡ no_step b (actives running.now) }
+{
+    match running.last() {
+        None => End::Done,
+        Some(top) => End::Over(top.scope.at),
+    }
+}
+
+impl Beside {
+    /// The thread with these frames, outermost first.
+    fn stand(
+        self,
+        alloc: Global,
+        running: Vec<Running<'_>>,
+        wait: Wait,
+    ) -> Result<(Thread, Around), NoMemory>
+        ensures thread { IfOk result (λ stood. (p : Resolved)
+            → stood.0 ≡ thread_of (tree p) wait (actives running.entry.items) (beside_of self)) }
+        ensures around { IfOk result (λ stood. around_of stood.1 ≡ around_of self.around) }
+    {
+        let frames = Sequence::from_vec(keep_all(alloc, running)?);
+        let thread = Thread {
+            id: self.id,
+            code: self.code,
+            mask: self.mask,
+            wait,
+            frames,
+        };
+        Ok((thread, self.around))
+    }
+
+    /// A stop holds the thread.
+    fn hold(
+        self,
+        alloc: Global,
+        running: Vec<Running<'_>>,
+        wait: Wait,
+        left: u64,
+    ) -> Result<Gone, NoMemory>
+        ensures { IfOk result (λ gone. (p : Resolved)
+            → gone_of gone ≡ Held (thread_of (tree p) wait (actives running.entry.items) (beside_of self)) (around_of self.around) left) }
+    {
+        let (thread, around) = self.stand(alloc, running, wait)?;
+        Ok(Gone {
+            outcome: Outcome::Held(thread),
+            around,
+            left,
+        })
+    }
+
+    /// The thread leaves.
+    fn leave(
+        self,
+        alloc: Global,
+        running: Vec<Running<'_>>,
+        to: To,
+        left: u64,
+    ) -> Result<Gone, NoMemory>
+        ensures { IfOk result (λ gone. (p : Resolved)
+            → gone_of gone ≡ Left (thread_of (tree p) WaitNew (actives running.entry.items) (beside_of self)) to (around_of self.around) left) }
+    {
+        let (thread, around) = self.stand(alloc, running, Wait::New)?;
+        Ok(Gone {
+            outcome: Outcome::Left(thread, to),
+            around,
+            left,
+        })
+    }
+
+    /// The thread ends, and is known as ended.
+    fn end(mut self, end: End, left: u64) -> Result<Gone, NoMemory>
+        ensures { IfOk result (λ gone. gone_of gone ≡ ends end (beside_of self) left) }
+    {
+        let thread = self.id;
+        self.around.known.push(thread)?;
+        self.around.push(Act::End { thread, end })?;
+        Ok(Gone {
+            outcome: Outcome::Ended(end),
+            around: self.around,
+            left,
+        })
+    }
+}
+
+/// A thread with these frames goes on, outermost first, in at most so many further steps.
+fn run<'a>(
+    alloc: Global,
+    program: &'a NamedProgram,
+    mut running: Vec<Running<'a>>,
+    mut beside: Beside,
+    mut left: u64,
+) -> Result<Gone, NoMemory>
+    ensures { IfOk result (λ gone. gone_of gone
+        ≡ going (tree (resolved_of (program_of program.now))) left (beside_of beside) (actives running.entry.items)) }
+{
+    'going: while let Some((mut top, task)) = next_task(&mut running)? {
+        if left == 0 {
+            return beside.end(End::Over(top.scope.at), 0);
+        }
+        left -= 1;
+        let step = top.step(alloc, &program.heads, &mut beside, task)?;
+        let at = top.scope.at;
+        running.push(top)?;
+        match step {
+            Move::GoOn => {}
+            Move::Enter(module, arguments) => {
+                if running.len() >= MAX_FRAMES {
+                    return beside.end(End::Deep(at), left);
+                }
+                let frame = Running::begin(alloc, program, beside.id, module, arguments)?;
+                running.push(frame)?;
+            }
+            Move::Hold(wait) => return beside.hold(alloc, running, wait, left),
+            Move::Leave(to) => return beside.leave(alloc, running, to, left),
+            Move::End(end) => return beside.end(end, left),
+        }
+    }
+    beside.end(End::Done, left)
+}
+
+/// The wait of a thread with these frames ends, as it goes on; `target` is the variable that the stop of the innermost
+/// frame sets, where it is a `get`.
+fn answer(
+    heads: &Heads,
+    running: &mut Vec<Running<'_>>,
+    beside: &mut Beside,
+    wait: &Wait,
+    target: Option<Target>,
+) -> Result<(), NoMemory>
+    ensures { OnOk result (Answers heads.now wait.now target running.old.items beside.old running.new.items beside.new) }
+{
+    if let Some(mut top) = running.pop() {
+        top.scope.answer(heads, beside, wait, target);
+        running.push(top)?;
+    }
+    Ok(())
+}
+
+/// A thread with these frames goes on from where it stood, outermost first, in at most so many steps.
+fn walk(
+    alloc: Global,
+    program: &NamedProgram,
+    frames: Vec<Frame>,
+    wait: &Wait,
+    mut beside: Beside,
+    left: u64,
+) -> Result<Gone, NoMemory>
+    ensures { IfOk result (λ gone. let code = tree (resolved_of (program_of program.now)) in
+        gone_of gone ≡ go_on code left wait.now (beside_of beside) (map (active_of code) (reverse frames.items))) }
+{
+    let Woken {
+        mut running,
+        target,
+    } = wake_all(alloc, program, frames)?;
+    if left == 0 {
+        let end = over(running.as_slice());
+        return beside.end(end, 0);
+    }
+    answer(&program.heads, &mut running, &mut beside, wait, target)?;
+    run(alloc, program, running, beside, left - 1)
+}
+
+/// A thread that can go runs from where it stood to the stop that holds it or by which it leaves, or to its end, in at most
+/// so many steps.
+pub fn go(
+    alloc: Global,
+    program: &NamedProgram,
+    thread: Thread,
+    left: u64,
+    around: Around,
+) -> Result<Gone, NoMemory>
+    ensures { IfOk result (λ gone. gone_of gone
+        ≡ run_of (Tree (resolved_of (program_of program.now))) thread (around_of around) left) }
+{
+    let Thread {
+        id,
+        code,
+        mask,
+        wait,
+        frames,
+    } = thread;
+    let beside = Beside {
+        id,
+        code,
+        mask,
+        around,
+    };
+    walk(alloc, program, frames.into_vec(), &wait, beside, left)
+}
