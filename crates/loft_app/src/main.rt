@@ -12,7 +12,7 @@ mod tests;
 mod words;
 
 use app::loft_main;
-use loft_base::{HostFiles, HostSink, OpenGate};
+use loft_base::{Failed, HostFiles, HostSink, OpenGate};
 use status::Status;
 use std::process::ExitCode;
 use std::rt::Env;
@@ -31,8 +31,10 @@ fn main(rt: HostRuntime) -> ExitCode {
     let Ok(words) = arguments(&rt) else {
         return ExitCode::from(Status::NoMemory.code());
     };
+    let Ok(mut sink) = HostSink::new(rt.alloc(), &rt) else {
+        return ExitCode::from(Status::NoMemory.code());
+    };
     let mut files = HostFiles::new(&rt);
-    let mut sink = HostSink::new(&rt);
     let status = loft_main(
         &rt,
         rt.alloc(),
@@ -41,5 +43,9 @@ fn main(rt: HostRuntime) -> ExitCode {
         &mut sink,
         &OpenGate,
     );
-    ExitCode::from(status.code())
+    let ended = match sink.finish() {
+        Ok(()) => status,
+        Err(Failed) => Status::SinkFault,
+    };
+    ExitCode::from(ended.code())
 }

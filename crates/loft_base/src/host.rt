@@ -1,12 +1,15 @@
 //! The outside over the host: real files and standard output. Of contents nothing is known.
 
-ghost use Rattle.std.specs.Prelude.{◌≡◌, ◌≢◌, ◌≤◌, ◌<◌, None, true, length, IfOk};
+ghost use Rattle.std.specs.Prelude.{◌≡◌, ◌≢◌, ◌≤◌, ◌<◌, None, true, [], length, IfOk, OnOk, OnErr};
+ghost use Rattle.std.specs.Io.Buffered.{writer_buffer};
+ghost use Rattle.loft_base.specs.Outside.{Rose};
 ghost use Rattle.loft_base.specs.Streams.{ReadsOn};
 
-use crate::errors::Failed;
+use crate::errors::{Failed, NoMemory};
 use crate::outside::{Files, Sink};
 use crate::streams::{read_some, write_whole};
-use std::io::Read;
+use std::alloc::Global;
+use std::io::{BufWriter, Printer, Read, Write};
 use std::{fs, io, rt};
 
 /// Files of the host. Every name may be asked, as a path. A part from offset 0 opens the file of its
@@ -81,20 +84,52 @@ impl<R: rt::Files> Files for HostFiles<'_, R> {
     }
 }
 
-/// The standard output of a runtime. A piece is written whole, however little the output takes at
-/// once.
+/// How many bytes are gathered before they go out.
+const GATHERED: usize = 1 << 16;
+
+/// The standard output of a runtime. Pieces are gathered, and go out whole, however little the
+/// output takes at once: where many have been gathered, and by `finish`.
 #[derive(Drop)]
 pub struct HostSink<'a, R: Print> {
-    rt: &'a R,
+    output: BufWriter<Printer<'a, R>>,
     faults: u64,
 }
 
 impl<'a, R: Print> HostSink<'a, R> {
-    /// The standard output, with nothing written yet.
-    pub fn new(rt: &'a R) -> Self
-        ensures { ⟦<HostSink<'a, R> as Sink>⟧.faults result ≡ 0 }
+    /// The standard output, with nothing written yet. `NoMemory` comes where it is out of memory
+    /// for what is gathered; no later call takes memory.
+    pub fn new(alloc: Global, rt: &'a R) -> Result<Self, NoMemory>
+        ensures { IfOk result (λ sink. ⟦<HostSink<'a, R> as Sink>⟧.faults sink ≡ 0) }
     {
-        HostSink { rt, faults: 0 }
+        let output = BufWriter::with_capacity(alloc, GATHERED, io::writer(rt));
+        match output {
+            Ok(output) => Ok(HostSink { output, faults: 0 }),
+            Err(_) => Err(NoMemory),
+        }
+    }
+
+    /// Writes what is gathered. `Failed` comes only where the count of faults rose.
+    pub fn finish(&mut self) -> Result<(), Failed>
+        ensures cause { OnErr result (Rose self.old.faults self.new.faults) }
+        ensures never_falls { self.old.faults ≤ self.new.faults }
+        ensures empty { OnOk result (writer_buffer self.new.output ≡ []) }
+    {
+        let flushed = self.output.flush().map_err(|_| Failed);
+        self.counted(flushed)
+    }
+
+    /// Counts a fault where a write failed.
+    fn counted(&mut self, written: Result<(), Failed>) -> Result<(), Failed>
+        ensures same { result ≡ written }
+        ensures output { self.new.output ≡ self.old.output }
+        ensures cause { OnErr result (Rose self.old.faults self.new.faults) }
+        ensures count { OnOk result (self.new.faults ≡ self.old.faults) }
+        ensures never_falls { self.old.faults ≤ self.new.faults }
+    {
+        if written.is_err() {
+            self.faults = self.faults.saturating_add(1);
+        }
+        written
     }
 }
 
@@ -104,10 +139,7 @@ impl<R: Print> Sink for HostSink<'_, R> {
     ghost faults = { λ sink. sink.faults };
 
     fn put(&mut self, bytes: &[u8]) -> Result<(), Failed> {
-        let written = write_whole(&mut io::writer(self.rt), bytes);
-        if written.is_err() {
-            self.faults = self.faults.saturating_add(1);
-        }
-        written
+        let written = write_whole(&mut self.output, bytes);
+        self.counted(written)
     }
 }

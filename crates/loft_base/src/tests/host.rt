@@ -57,24 +57,26 @@ fn the_open_file_is_read_on_and_an_error_is_not_the_end(rt: HostRuntime) -> Resu
 }
 
 #[test]
-fn a_piece_is_written_whole_or_the_sink_fails(rt: HostRuntime) -> Result<(), Fail> {
+fn pieces_go_out_whole_or_the_sink_fails(rt: HostRuntime) -> Result<(), Fail> {
     let rows = [
         (100, 0, Ok(()), "two pieces\n"),
         (3, 0, Ok(()), "two pieces\n"),
         (1, 0, Ok(()), "two pieces\n"),
-        (3, 2, Err(Failed), "twopieces\n"),
-        (3, 1, Err(Failed), "pieces\n"),
+        (3, 3, Err(Failed), "two pi"),
+        (3, 1, Err(Failed), ""),
         (0, 0, Err(Failed), ""),
     ];
     for (at_once, fails_at, want, written) in rows {
         let output = FakeOutput::new(rt.alloc(), at_once, fails_at);
-        let mut sink = HostSink::new(&output);
+        let mut sink = HostSink::new(rt.alloc(), &output).map_err(|_| "out of memory")?;
+        assert_eq!(rt; sink.put(b"two "), Ok(()));
+        assert_eq!(rt; sink.put(b"pieces\n"), Ok(()));
         assert_eq!(rt;
-            sink.put(b"two "),
+            sink.finish(),
             want,
-            "{at_once} at once, failing at {fails_at}"
+            "{at_once} at once, failing from {fails_at} on"
         );
-        let _ = sink.put(b"pieces\n");
+        drop(sink);
         let bytes = output.into_bytes();
         assert_eq!(rt; bytes.as_slice(), written.as_bytes(), "{at_once} at once");
     }
@@ -82,7 +84,31 @@ fn a_piece_is_written_whole_or_the_sink_fails(rt: HostRuntime) -> Result<(), Fai
 }
 
 #[test]
-fn standard_output_takes_a_piece(rt: HostRuntime) {
-    let mut sink = HostSink::new(&rt);
+fn what_is_gathered_goes_out_before_a_long_piece(rt: HostRuntime) -> Result<(), Fail> {
+    let long = [b'x'; 1 << 16];
+    for (fails_at, want, len) in [
+        (0, Ok(()), long.len() + 1),
+        (1, Err(Failed), 0),
+        (2, Err(Failed), 1),
+    ] {
+        let output = FakeOutput::new(rt.alloc(), 1 << 20, fails_at);
+        let mut sink = HostSink::new(rt.alloc(), &output).map_err(|_| "out of memory")?;
+        assert_eq!(rt; sink.put(b"a"), Ok(()));
+        assert_eq!(rt; sink.put(&long), want, "failing from {fails_at} on");
+        drop(sink);
+        assert_eq!(rt;
+            output.into_bytes().len(),
+            len,
+            "failing from {fails_at} on"
+        );
+    }
+    Ok(())
+}
+
+#[test]
+fn standard_output_takes_a_piece(rt: HostRuntime) -> Result<(), Fail> {
+    let mut sink = HostSink::new(rt.alloc(), &rt).map_err(|_| "out of memory")?;
     assert_eq!(rt; sink.put(b"a piece\n"), Ok(()));
+    assert_eq!(rt; sink.finish(), Ok(()));
+    Ok(())
 }

@@ -6,7 +6,8 @@ use std::fmt::Display;
 use std::io;
 use std::io::{Error, ErrorKind};
 
-/// Takes at most `at_once` bytes in one write, and fails at its write `fails_at`, counted from 1.
+/// Takes at most `at_once` bytes in one write, and fails from its write `fails_at` on, counted from
+/// 1; 0 is never.
 #[derive(Drop)]
 pub struct FakeOutput {
     bytes: RefCell<Vec<u8>>,
@@ -47,7 +48,7 @@ impl Print for FakeOutput {
     fn write_some(&self, bytes: &[u8]) -> io::Result<usize> {
         let writes = self.writes.get().saturating_add(1);
         self.writes.set(writes);
-        if writes == self.fails_at {
+        if self.fails_at != 0 && writes >= self.fails_at {
             return Err(Error::from(ErrorKind::BrokenPipe));
         }
         let count = bytes.len().min(self.at_once);
