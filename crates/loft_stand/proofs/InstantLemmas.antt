@@ -391,14 +391,14 @@ module _ (n : NamedProgram) (fits : NamedFits n) (placed : IsPlaced n) where
 
 -- ---- as laws say it
 
-all_of : {A : Type 0} (P : A → Type 0) (xs : List A) → Each P xs → All P xs
+pub all_of : {A : Type 0} (P : A → Type 0) (xs : List A) → Each P xs → All P xs
 all_of P xs f = All-from_recursion P xs (by_recursion P xs f)
   where
     by_recursion : {A : Type 0} (P : A → Type 0) (xs : List A) → Each P xs → AllByRecursion P xs
     by_recursion P [] f = tt
     by_recursion P (x ∷ xs) f = (f.0, by_recursion P xs f.1)
 
-each_of : {A : Type 0} (P : A → Type 0) (xs : List A) → All P xs → Each P xs
+pub each_of : {A : Type 0} (P : A → Type 0) (xs : List A) → All P xs → Each P xs
 each_of P xs f = by_each P xs (recursion_from_All P xs f)
   where
     by_each : {A : Type 0} (P : A → Type 0) (xs : List A) → AllByRecursion P xs → Each P xs

@@ -8,3 +8,4 @@ pub mod StandLemmas
 pub mod ThereLemmas
 pub mod KeptLemmas
 pub mod InstantLemmas
+pub mod HistoryFits

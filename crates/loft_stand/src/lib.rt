@@ -1,8 +1,10 @@
 //! What running leaves: threads that stand in a program, run in it, stand again.
 #![tactic(auto)]
 
+pub mod history_laws;
 pub mod laws;
 
+pub use history_laws::waiting_orders_fit;
 pub use laws::{
     instants_keep_standing, placed_programs_never_stick, stops_leave_what_comes_after,
     threads_keep_standing,

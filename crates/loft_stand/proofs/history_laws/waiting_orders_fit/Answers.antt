@@ -1,0 +1,11 @@
+use Rattle.loft_stand.proofs.HistoryFits.{waiting_fits, scheduler_fits, sents_fit}
+use Rattle.loft_stand.proofs.history_laws.waiting_orders_fit.Goals as goal
+
+pub returns-clause-waiting : goal.returns-clause-waiting
+returns-clause-waiting c = waiting_fits
+
+pub returns-clause-machines : goal.returns-clause-machines
+returns-clause-machines c = scheduler_fits
+
+pub returns-clause-sent : goal.returns-clause-sent
+returns-clause-sent c = sents_fit
