@@ -1,0 +1,7 @@
+pub mod Texts
+pub mod TwoFiles
+pub mod Telling
+pub mod Commands
+pub mod InRange
+pub mod Forms
+pub mod Order

@@ -1,0 +1,78 @@
+-- The order of arguments.
+use Rattle.std.proofs.Common.{◌≡◌, ℕ, ◌≤◌, arith, length, Bool, true, false, List, [], ◌∷◌, ◌++◌, refl, sym, ◌∙◌, ap, Option, Some, None, ◌⊎◌, inl, inr, length-append}
+use Rattle.std.specs.Prelude.{codes, ◌&&◌, if◌then◌else◌, option_and_then}
+use Rattle.std.specs.Option.{option_map}
+use Rattle.std.specs.List.{filter_map, cons_option, list_all}
+use Rattle.std.specs.Str.{bytes_eq}
+use Rattle.std.proofs.lemmas.List.Elements.{filter_map-append}
+use Rattle.std.proofs.lemmas.List.Folds.{list_all-append}
+use Rattle.loft_sense.specs.declared.limits.TheConstants.{MAX_INSTANTS, MAX_BUDGET, MAX_BLOCK, MAX_WORKERS}
+use Rattle.loft_words.specs.declared.defaults.TheConstants.{DEFAULT_INSTANTS, DEFAULT_BUDGET, DEFAULT_BLOCK, DEFAULT_WORKERS}
+use Rattle.loft_words.specs.Arguments.{Argument, plain_word, value_for, is_among, has_only}
+use Rattle.loft_words.specs.Command.{Command, Run, Show, Check, only_file, number_of, options_from, run_names, command_named}
+use Rattle.loft_words.proofs.Commands.{not_one, no_number}
+
+-- the same words, or more than one on both sides
+abbrev AreAlike : List (List ℕ) → List (List ℕ) → Type 0
+AreAlike xs ys = (xs ≡ ys) ⊎ ((2 ≤ length xs) × (2 ≤ length ys))
+
+two_values : (f : Argument → Option (List ℕ)) (before after : List Argument) (a b : Argument) (v w : List ℕ) → f a ≡ Some v → f b ≡ Some w
+    → 2 ≤ length (filter_map f (before ++ (a ∷ b ∷ after)))
+two_values f before after a b v w is other =
+    let all : filter_map f (before ++ (a ∷ b ∷ after)) ≡ filter_map f before ++ (v ∷ w ∷ filter_map f after) =
+    filter_map-append f before (a ∷ b ∷ after)
+    ∙ ap (λ (o : Option (List ℕ)). filter_map f before ++ cons_option o (cons_option (f b) (filter_map f after))) is
+    ∙ ap (λ (o : Option (List ℕ)). filter_map f before ++ (v ∷ cons_option o (filter_map f after))) other in
+    omega (arith, ap (λ (l : List (List ℕ)). length l) all, length-append (filter_map f before) (v ∷ w ∷ filter_map f after))
+
+alike : (f : Argument → Option (List ℕ)) (before after : List Argument) (a b : Argument)
+    → AreAlike (filter_map f (before ++ (a ∷ b ∷ after))) (filter_map f (before ++ (b ∷ a ∷ after)))
+alike f before after a b = go (f a) (f b) refl refl
+  where
+    go : (x y : Option (List ℕ)) → f a ≡ x → f b ≡ y → AreAlike (filter_map f (before ++ (a ∷ b ∷ after))) (filter_map f (before ++ (b ∷ a ∷ after)))
+    go None y is other = inl (grind (arith, filter_map-append f before (a ∷ b ∷ after), filter_map-append f before (b ∷ a ∷ after)))
+    go (Some v) None is other = inl (grind (arith, filter_map-append f before (a ∷ b ∷ after), filter_map-append f before (b ∷ a ∷ after)))
+    go (Some v) (Some w) is other = inr (two_values f before after a b v w is other, two_values f before after b a w v other is)
+
+same_number : (most default : ℕ) (xs ys : List (List ℕ)) → AreAlike xs ys → number_of most default xs ≡ number_of most default ys
+same_number most default xs ys (inl same) = ap (λ (l : List (List ℕ)). number_of most default l) same
+same_number most default xs ys (inr (many, much)) = no_number most default xs many ∙ sym (no_number most default ys much)
+
+same_file : (xs ys : List (List ℕ)) → AreAlike xs ys → only_file xs ≡ only_file ys
+same_file xs ys (inl same) = ap (λ (l : List (List ℕ)). only_file l) same
+same_file xs ys (inr (many, much)) = not_one xs many ∙ sym (not_one ys much)
+
+swapped : (a b c : Bool) → (a && (b && c)) ≡ (b && (a && c))
+swapped true true c = refl
+swapped true false c = refl
+swapped false true c = refl
+swapped false false c = refl
+
+same_names : (names : List (List ℕ)) (before after : List Argument) (a b : Argument) → has_only names (before ++ (a ∷ b ∷ after)) ≡ has_only names (before ++ (b ∷ a ∷ after))
+same_names names before after a b =
+    list_all-append (is_among names) before (a ∷ b ∷ after)
+    ∙ ap (λ (t : Bool). list_all (is_among names) before && t) (swapped (is_among names a) (is_among names b) (list_all (is_among names) after))
+    ∙ sym (list_all-append (is_among names) before (b ∷ a ∷ after))
+
+-- a command is made of seven answers
+made_alike : (F : Bool → Bool → Option (List ℕ) → Option ℕ → Option ℕ → Option ℕ → Option ℕ → Option Command)
+    (b c d e : Bool) (f g : Option (List ℕ)) (i j k l m n o p : Option ℕ) → b ≡ c → d ≡ e → f ≡ g → i ≡ j → k ≡ l → m ≡ n → o ≡ p
+    → F b d f i k m o ≡ F c e g j l n p
+made_alike F b c d e f g i j k l m n o p r s t u v w x = cc
+
+abbrev command_with : List ℕ → (known alone : Bool) (file : Option (List ℕ)) (instants budget block workers : Option ℕ) → Option Command
+command_with word known alone file instants budget block workers =
+    if bytes_eq word (codes "run") then (if known then option_and_then (λ f. option_map (Run f) (options_from instants budget block workers)) file else None)
+    else (if bytes_eq word (codes "show") then option_map Show (if alone then file else None)
+    else (if bytes_eq word (codes "check") then option_map Check (if alone then file else None) else None))
+
+pub neighbours : (word : List ℕ) (before after : List Argument) (a b : Argument)
+    → command_named word (before ++ (a ∷ b ∷ after)) ≡ command_named word (before ++ (b ∷ a ∷ after))
+neighbours word before after a b = made_alike (command_with word) _ _ _ _ _ _ _ _ _ _ _ _ _ _
+    (same_names run_names before after a b)
+    (same_names [] before after a b)
+    (same_file _ _ (alike plain_word before after a b))
+    (same_number MAX_INSTANTS DEFAULT_INSTANTS _ _ (alike (value_for (codes "--instants")) before after a b))
+    (same_number MAX_BUDGET DEFAULT_BUDGET _ _ (alike (value_for (codes "--budget")) before after a b))
+    (same_number MAX_BLOCK DEFAULT_BLOCK _ _ (alike (value_for (codes "--block")) before after a b))
+    (same_number MAX_WORKERS DEFAULT_WORKERS _ _ (alike (value_for (codes "--workers")) before after a b))

@@ -1,0 +1,5 @@
+use Rattle.loft_words.proofs.Order.{neighbours}
+use Rattle.loft_words.proofs.laws.arguments_change_places.Goals as goal
+
+pub returns : goal.returns
+returns c = λ word before after a b. neighbours word before after a b

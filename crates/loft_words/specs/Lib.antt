@@ -1,0 +1,7 @@
+pub mod Words
+pub mod Arguments
+pub mod Command
+pub mod CommandView
+pub mod Ranges
+pub mod Parts
+pub mod FromParts
