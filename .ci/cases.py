@@ -1,9 +1,14 @@
 #!/usr/bin/env python3
 """Runs each case in cases/ through each of the programs that are named: cases.py PROGRAM ..
 
-A folder of cases has the name of its command. NAME.loft is the source, and NAME.loft.stdout all that
-the command has to print; the status follows from the first word of that (docs/COMMANDS.md). A case
-passes where each program gives both exactly."""
+A folder of cases has the name of its command. NAME.loft is the source, NAME.loft.args has further
+words, one a line, where there are any, and NAME.loft.stdout is all that the command has to print;
+the status follows from the first word of that (docs/COMMANDS.md). A case passes where each program
+gives both exactly.
+
+The folder `words` has a table instead: words, the status, and the first line of the answer, between
+tabs. Its words are separated by a blank, and '' is the empty one; they are those of a program that
+is run in that folder."""
 
 import concurrent.futures
 import os
@@ -13,6 +18,8 @@ import sys
 
 TOP = pathlib.Path(__file__).resolve().parent.parent
 COMMANDS = ["run", "show", "check"]
+WORDS = TOP / "cases/words"
+TABLE = WORDS / "words.tsv"
 STATUSES = {b"source:": 3, b"loft:": 2, b"log:": 4, b"files:": 5}
 SECONDS = 300
 
@@ -29,38 +36,75 @@ def difference(wrote, wanted):
     return f"the answer differs at byte {at}, line {line}: {wrote[at:at + 60]!r}, not {wanted[at:at + 60]!r}"
 
 
-def failure(program, command, source):
-    """Why a case fails, or None."""
-    expected = source.with_name(source.name + ".stdout")
-    if not expected.is_file():
-        return f"there is no {expected.name}"
-    wanted = expected.read_bytes()
-    words = [program, command, str(source.relative_to(TOP))]
-    try:
-        ran = subprocess.run(words, cwd=TOP, stdin=subprocess.DEVNULL, capture_output=True, timeout=SECONDS)
-    except subprocess.TimeoutExpired:
-        return f"it had not ended after {SECONDS} seconds"
-    if ran.stdout != wanted:
-        return difference(ran.stdout, wanted)
-    if ran.returncode != status_of(wanted):
-        return f"the status is {ran.returncode}, not {status_of(wanted)}"
-    return None
+def ended(program, words, folder):
+    """How a program ends that is run with these words in a folder."""
+    return subprocess.run([program, *words], cwd=folder, stdin=subprocess.DEVNULL, capture_output=True, timeout=SECONDS)
+
+
+class Source:
+    """A source with the answer of a command."""
+
+    def __init__(self, source):
+        self.source = source
+        self.command = source.parent.name
+        self.name = f"{self.command} {source.name}"
+
+    def beside(self, ending):
+        return self.source.with_name(self.source.name + ending)
+
+    def failure(self, program):
+        """Why the case fails, or None."""
+        expected, further = self.beside(".stdout"), self.beside(".args")
+        if not expected.is_file():
+            return f"there is no {expected.name}"
+        wanted = expected.read_bytes()
+        more = further.read_text().split("\n")[:-1] if further.is_file() else []
+        ran = ended(program, [self.command, str(self.source.relative_to(TOP)), *more], TOP)
+        if ran.stdout != wanted:
+            return difference(ran.stdout, wanted)
+        if ran.returncode != status_of(wanted):
+            return f"the status is {ran.returncode}, not {status_of(wanted)}"
+        return None
+
+
+class Row:
+    """A row of the table of words."""
+
+    def __init__(self, number, line):
+        words, status, self.first = line.split("\t")
+        self.words = ["" if word == "''" else word for word in words.split(" ")] if words else []
+        self.status = int(status)
+        self.name = f"words, line {number}"
+
+    def failure(self, program):
+        """Why the row fails, or None."""
+        ran = ended(program, self.words, WORDS)
+        first = ran.stdout.split(b"\n", 1)[0].decode()
+        if (ran.returncode, first) != (self.status, self.first):
+            return f"the status is {ran.returncode} and the answer begins {first!r}, not {self.status} and {self.first!r}"
+        return None
 
 
 def strays():
     """Files of the cases that belong to no case."""
     for file in sorted(TOP.glob("cases/*/*")):
-        name = file.name.removesuffix(".stdout")
-        is_known = file.parent.name in COMMANDS and name.endswith(".loft")
+        name = file.name.removesuffix(".stdout").removesuffix(".args")
+        is_known = file.parent == WORDS or file.parent.name in COMMANDS and name.endswith(".loft")
         if not is_known or not file.with_name(name).is_file():
             yield f"{file.relative_to(TOP)}: it belongs to no case"
 
 
-def failures_of(programs, source):
+def failures_of(programs, case):
     """Why a case fails, for each of the programs with which it does."""
-    command = source.parent.name
-    found = [(program, failure(program, command, source)) for program in programs]
-    return [f"{command} {source.name} ({pathlib.Path(program).name}): {why}" for program, why in found if why]
+    lines = []
+    for program in programs:
+        try:
+            why = case.failure(program)
+        except subprocess.TimeoutExpired:
+            why = f"it had not ended after {SECONDS} seconds"
+        if why:
+            lines.append(f"{case.name} ({pathlib.Path(program).name}): {why}")
+    return lines
 
 
 def main(programs):
@@ -69,13 +113,14 @@ def main(programs):
     if lacking or not programs:
         print(*lacking, "0 passed, 1 failed", sep="\n")
         return 1
-    sources = [it for command in COMMANDS for it in sorted(TOP.glob(f"cases/{command}/*.loft"))]
+    cases = [Source(it) for command in COMMANDS for it in sorted(TOP.glob(f"cases/{command}/*.loft"))]
+    cases += [Row(number, line) for number, line in enumerate(TABLE.read_text().split("\n")[:-1], 1)]
     with concurrent.futures.ThreadPoolExecutor(os.cpu_count()) as pool:
-        found = list(pool.map(lambda source: failures_of(programs, source), sources))
+        found = list(pool.map(lambda case: failures_of(programs, case), cases))
     others = list(strays())
     failed = sum(map(bool, found)) + len(others)
     lines = [line for lines in found for line in lines] + others
-    print(*lines, f"{len(sources) + len(others) - failed} passed, {failed} failed", sep="\n")
+    print(*lines, f"{len(cases) + len(others) - failed} passed, {failed} failed", sep="\n")
     return 1 if failed else 0
 
 
