@@ -5,7 +5,7 @@ use Rattle.loft_app.specs.declared.status.Status.{Status}
 use Rattle.loft_app.specs.declared.status.Status.TheVariants as status
 use Rattle.loft_app.specs.declared.refusal.Refusal.{Refusal}
 use Rattle.loft_app.specs.declared.refusal.Stopped.TheVariants as stopped
-use Rattle.loft_app.specs.Command.{Command}
+use Rattle.loft_words.specs.Command.{Command}
 use Rattle.loft_app.specs.Written.{Appends, IsLine, IsPrefix}
 use Rattle.loft_app.specs.Refusals.{line_of, IsRefusal}
 use Rattle.loft_app.specs.Promise.{IsAnswer}

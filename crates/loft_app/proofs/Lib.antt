@@ -3,4 +3,3 @@ pub mod Deciding
 pub mod AnswerLemmas
 pub mod Doing
 pub mod Reported
-pub mod WordLemmas

@@ -7,7 +7,7 @@ use Rattle.loft_app.specs.declared.status.Status.TheVariants as status
 use Rattle.loft_app.specs.declared.refusal.Refusal.{Refusal}
 use Rattle.loft_app.specs.declared.refusal.Stopped.{Stopped}
 use Rattle.loft_app.specs.declared.refusal.Stopped.TheVariants as stopped
-use Rattle.loft_app.specs.Command.{Command}
+use Rattle.loft_words.specs.Command.{Command}
 use Rattle.loft_app.specs.Written.{Appends, IsLine, IsPrefix}
 use Rattle.loft_app.specs.Refusals.{IsTextOf, IsRefusedFor, IsCause, Asks, Refuses, IsRefusal, Takes}
 use Rattle.loft_app.specs.Promise.{IsAnswerFor, IsAnswer}

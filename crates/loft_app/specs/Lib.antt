@@ -1,5 +1,3 @@
-pub mod Command
-pub mod CommandView
 pub mod Written
 pub mod Refusals
 pub mod Stops

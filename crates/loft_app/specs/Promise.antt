@@ -5,7 +5,6 @@ use Rattle.loft_tree.specs.Source.{Source}
 use Rattle.loft_tree.specs.Resolved.{resolved_of}
 use Rattle.loft_names.specs.Numbers.{numbered}
 use Rattle.loft_show.specs.Canon.{Canon}
-use Rattle.loft_sense.specs.declared.limits.Limits.{Limits}
 use Rattle.loft_sense.specs.declared.limits.RunOptions.{RunOptions}
 use Rattle.loft_sense.specs.Machine.{Prog, Tree, heads}
 use Rattle.loft_sense.specs.declared.entry.Entry.{Entry}
@@ -13,16 +12,9 @@ use Rattle.loft_sense.specs.History.{Choice, hist, HasEnded}
 use Rattle.loft_sense.specs.Legal.{IsLegal}
 use Rattle.loft_sense.specs.Lines.{text_of}
 use Rattle.loft_sense.specs.Report.{head_lines, report}
-use Rattle.loft_app.specs.Command.{Command, Run, Show, Check}
+use Rattle.loft_words.specs.Command.{Command, Run, Show, Check}
 use Rattle.loft_app.specs.Written.{IsLine}
 use Rattle.loft_app.specs.Refusals.{IsTextOf, Takes}
-
--- the options of a run for which none is given
-abbrev pub default_limits : Limits
-default_limits = record { instants = 100; budget = 10000; block = 1000000 }
-
-abbrev pub default_options : RunOptions
-default_options = record { limits = default_limits; workers = 2 }
 
 -- the text begins with these options and these choices
 abbrev pub BeginsWith : Heads → RunOptions → List Choice → List ℕ → Type 0
@@ -41,7 +33,7 @@ pub record IsReport (x : Prog) (o : RunOptions) (text : List ℕ) : Type 0 where
 
 -- what a command answers: the report of a run, the canonical text, or `ok`
 abbrev pub IsAnswerText : Command → Source → List ℕ → Type 0
-IsAnswerText (Run file) p text = IsReport (Tree (resolved_of (numbered p))) default_options text
+IsAnswerText (Run file o) p text = IsReport (Tree (resolved_of (numbered p))) o text
 IsAnswerText (Show file) p text = text ≡ Canon p
 IsAnswerText (Check file) p text = IsLine (codes "ok") text
 

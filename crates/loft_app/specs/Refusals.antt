@@ -1,5 +1,5 @@
 -- Why contents are refused, and the line that says so (docs/COMMANDS.md, "Fault lines").
-use Rattle.std.specs.Prelude.{◌≡◌, ℕ, ◌<◌, ◌≤◌, ◌⊎◌, List, [], ◌++◌, length, codes, slice_get, unwrap_or}
+use Rattle.std.specs.Prelude.{◌≡◌, true, false, ℕ, ◌<◌, ◌≤◌, ◌⊎◌, List, [], ◌++◌, length, codes, slice_get, unwrap_or}
 use Rattle.std.specs.Fmt.{decimal}
 use Rattle.loft_lex.specs.declared.TheConstants.{MAX_TEXT_LEN}
 use Rattle.loft_lex.specs.declared.token.LexError.{LexError}
@@ -14,13 +14,13 @@ use Rattle.loft_names.specs.Numbers.{numbered}
 use Rattle.loft_place.specs.declared.error.PlaceError.{PlaceError}
 use Rattle.loft_place.specs.declared.error.PlaceError.TheVariants as links
 use Rattle.loft_place.specs.Links.{IsPlaced, PlaceFault}
-use Rattle.loft_plain.specs.Built.{IsBuilt}
+use Rattle.loft_turns.specs.Built.{is_built}
 use Rattle.loft_parse.specs.declared.error.ParseError.{ParseError}
 use Rattle.loft_parse.specs.declared.error.ParseError.TheVariants.{Lex, Expected, TooDeep, TooMany, TooLong, NoMemory}
 use Rattle.loft_parse.specs.Source.{Reads, SourceFault}
 use Rattle.loft_app.specs.declared.refusal.Refusal.{Refusal}
 use Rattle.loft_app.specs.declared.refusal.Refusal.TheVariants as refusal
-use Rattle.loft_app.specs.Command.{Command, Run, Show, Check}
+use Rattle.loft_words.specs.Command.{Command, Run, Show, Check}
 use Rattle.loft_app.specs.Written.{IsLine}
 
 -- ---- lines
@@ -89,7 +89,7 @@ abbrev pub IsRefusedFor : Source → Refusal → Type 0
 IsRefusedFor p (refusal.Text e) = ⊥
 IsRefusedFor p (refusal.Names e) = NameFault p e
 IsRefusedFor p (refusal.Links e schedulers) = NamesFit p × PlaceFault (numbered p) e × (schedulers ≡ (numbered p).heads.schedulers)
-IsRefusedFor p refusal.NotBuilt = Well p × (IsBuilt (numbered p) → ⊥)
+IsRefusedFor p refusal.NotBuilt = Well p × (is_built (numbered p) ≡ false)
 
 -- the fault of the contents: they are too long, or else the fault of their text
 abbrev pub ContentsFault : List ℕ → ParseError → Type 0
@@ -116,13 +116,13 @@ IsCause contents refusal.NotBuilt = ProgramRefused contents refusal.NotBuilt
 -- what a command asks of a program: `show` nothing, `check` its names and links, `run` besides that it runs yet
 abbrev pub Asks : Command → Refusal → Type 0
 Asks c (refusal.Text e) = Unit {0}
-Asks (Run file) (refusal.Names e) = Unit {0}
+Asks (Run file o) (refusal.Names e) = Unit {0}
 Asks (Show file) (refusal.Names e) = ⊥
 Asks (Check file) (refusal.Names e) = Unit {0}
-Asks (Run file) (refusal.Links e schedulers) = Unit {0}
+Asks (Run file o) (refusal.Links e schedulers) = Unit {0}
 Asks (Show file) (refusal.Links e schedulers) = ⊥
 Asks (Check file) (refusal.Links e schedulers) = Unit {0}
-Asks (Run file) refusal.NotBuilt = Unit {0}
+Asks (Run file o) refusal.NotBuilt = Unit {0}
 Asks (Show file) refusal.NotBuilt = ⊥
 Asks (Check file) refusal.NotBuilt = ⊥
 
@@ -136,6 +136,6 @@ IsRefusal c contents text = (line : List ℕ) × Refuses c contents line × IsLi
 
 -- the command can be done for a program: each can be shown, well ones pass the check, and those of them that are built run
 abbrev pub Takes : Command → Source → Type 0
-Takes (Run file) p = Well p × IsBuilt (numbered p)
+Takes (Run file o) p = Well p × (is_built (numbered p) ≡ true)
 Takes (Show file) p = Unit {0}
 Takes (Check file) p = Well p

@@ -3,8 +3,10 @@
 ghost use Rattle.std.specs.Prelude.{◌≡◌, ◌≢◌, ◌<◌, ◌≤◌, ◌⊎◌, ◌++◌, ◌∷◌, [], ℕ, List, length, IsTrue, IsSome, Some, None, codes, IsErrOf, Err};
 ghost use Rattle.loft_base.specs.Outside.{Rose, appended, GrowsByPrefix};
 ghost use Rattle.loft_tree.specs.Source.{Source as SourceTree};
-ghost use Rattle.loft_app.specs.Command.{Command as PlainCommand, command, words_of, file_of};
-ghost use Rattle.loft_app.specs.CommandView.{command_of};
+ghost use Rattle.loft_words.specs.Command.{Command as PlainCommand, command, file_of};
+ghost use Rattle.loft_words.specs.Ranges.{KeepsRanges};
+ghost use Rattle.loft_words.specs.Words.{words_of};
+ghost use Rattle.loft_words.specs.CommandView.{command_of};
 ghost use Rattle.loft_app.specs.Written.{Appends, IsLine, IsPrefix};
 ghost use Rattle.loft_app.specs.Refusals.{IsTextOf, line_of, Refuses, IsRefusal, Takes};
 ghost use Rattle.loft_app.specs.Promise.{IsAnswer};
@@ -15,11 +17,11 @@ use crate::command::{check, run, show_text};
 use crate::refusal::{Refusal, Stopped};
 use crate::source::read_program;
 use crate::status::Status;
-use crate::words::{Command, read_words};
 use loft_base::{Files, Gate, Sink};
 use loft_names::names_are_decided;
 use loft_parse::texts_are_decided;
 use loft_place::links_are_decided;
+use loft_words::{Command, read_words};
 use std::alloc::Global;
 use std::sync::Wait;
 use std::thread::Threads;
@@ -66,7 +68,8 @@ fn attempt<R: Threads + Wait + Sync, F: Files, S: Sink, G: Gate>(
     sink: &mut S,
     gate: &G,
 ) -> Result<(), Stopped>
-    requires { IsTrue (F.may_ask files.old (file_of (command_of command))) }
+    requires file { IsTrue (F.may_ask files.old (file_of (command_of command))) }
+    requires ranges { KeepsRanges (command_of command) }
     ensures attempts { Attempts (command_of command.entry)
         (F.contents files.old (file_of (command_of command.entry))) result
         (S.written sink.old) (S.written sink.new) }
@@ -76,7 +79,7 @@ fn attempt<R: Threads + Wait + Sync, F: Files, S: Sink, G: Gate>(
 {
     let program = read_program(alloc, files, command.file())?;
     match command {
-        Command::Run(_) => run(rt, alloc, program, sink, gate),
+        Command::Run { options, .. } => run(rt, alloc, program, &options, sink, gate),
         Command::Show(_) => show_text(alloc, &program, sink),
         Command::Check(_) => check(alloc, program, sink),
     }
@@ -91,7 +94,8 @@ fn answer<R: Threads + Wait + Sync, F: Files, S: Sink, G: Gate>(
     sink: &mut S,
     gate: &G,
 ) -> Status
-    requires { IsTrue (F.may_ask files.old (file_of (command_of command))) }
+    requires file { IsTrue (F.may_ask files.old (file_of (command_of command))) }
+    requires ranges { KeepsRanges (command_of command) }
     ensures answers { Answers (command_of command.entry)
         (F.contents files.old (file_of (command_of command.entry))) result
         (S.written sink.old) (S.written sink.new) (F.faults files.old) (F.faults files.new) }

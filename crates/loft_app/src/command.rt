@@ -1,15 +1,16 @@
 //! What each command does with a program.
 
-ghost use Rattle.std.specs.Prelude.{◌≡◌, ◌≤◌, ℕ, List, IsErrOf, OnOk, OnErr};
+ghost use Rattle.std.specs.Prelude.{◌≡◌, ◌≤◌, true, ℕ, List, IsErrOf, OnOk, OnErr};
 ghost use Rattle.loft_base.specs.Outside.{Rose};
 ghost use Rattle.loft_tree.specs.Resolved.{resolved_of};
 ghost use Rattle.loft_tree.specs.ProgramView.{program_of};
 ghost use Rattle.loft_tree.specs.View.{source_of};
-ghost use Rattle.loft_plain.specs.Built.{IsBuilt};
 ghost use Rattle.loft_sense.specs.Machine.{Tree};
-ghost use Rattle.loft_app.specs.Command.{Run, Show, Check};
+ghost use Rattle.loft_turns.specs.Built.{is_built};
+ghost use Rattle.loft_words.specs.Command.{Run, Show, Check};
+ghost use Rattle.loft_words.specs.Ranges.{AreInRange};
 ghost use Rattle.loft_app.specs.Written.{Appends, IsPrefix};
-ghost use Rattle.loft_app.specs.Promise.{default_options, IsReport};
+ghost use Rattle.loft_app.specs.Promise.{IsReport};
 ghost use Rattle.loft_app.specs.Answer.{Does};
 
 use crate::refusal::{Refusal, Stopped};
@@ -17,65 +18,53 @@ use crate::source::placed;
 use loft_base::{Gate, SchedId, Sink, WriteError, write_lines};
 use loft_log::write_report;
 use loft_place::Placed;
-use loft_plain::{PlainEngine, built_programs_are_quiet, is_built};
-use loft_sense::{Limits, RunOptions};
+use loft_plain::PlainEngine;
+use loft_sense::RunOptions;
 use loft_show::show;
-use loft_stand::instants_keep_standing;
+use loft_stand::waiting_orders_fit;
 use loft_tree::Program;
-use loft_turns::run_alone;
+use loft_turns::{is_built, run_alone};
 use std::alloc::Global;
 use std::sync::Wait;
 use std::thread::Threads;
-
-/// The options of a run for which none is given.
-fn defaults() -> RunOptions
-    ensures { result ≡ default_options }
-{
-    RunOptions {
-        limits: Limits {
-            instants: 100,
-            budget: 10_000,
-            block: 1_000_000,
-        },
-        workers: 2,
-    }
-}
 
 /// Runs a program that can be run and writes its report.
 fn run_program<R: Threads + Wait + Sync, S: Sink, G: Gate>(
     rt: &R,
     alloc: Global,
     placed: &Placed,
+    options: &RunOptions,
     sink: &mut S,
     gate: &G,
 ) -> Result<(), WriteError>
-    requires { IsBuilt (program_of placed.now) }
+    requires built { is_built (program_of placed.now) ≡ true }
+    requires range { AreInRange options.now }
     ensures report { OnOk result (Appends (S.written sink.old) (S.written sink.new)
-        (IsReport (Tree (resolved_of (program_of placed.now))) default_options)) }
+        (IsReport (Tree (resolved_of (program_of placed.now))) options.now)) }
     ensures failed { OnErr result (Appends (S.written sink.old) (S.written sink.new)
-        (IsPrefix (IsReport (Tree (resolved_of (program_of placed.now))) default_options))) }
+        (IsPrefix (IsReport (Tree (resolved_of (program_of placed.now))) options.now))) }
     ensures sink { IsErrOf result WriteError.Sink → Rose (S.faults sink.old) (S.faults sink.new) }
     ensures never_falls { S.faults sink.old ≤ S.faults sink.new }
 {
-    built_programs_are_quiet();
-    instants_keep_standing();
+    waiting_orders_fit();
     let heads = &placed.program().heads;
-    let options = defaults();
     let scheduler = SchedId(0);
     let engine = PlainEngine::new(alloc, placed, scheduler, options.limits)?;
     let run = run_alone(rt, alloc, heads, engine, scheduler, gate)?;
-    write_report(alloc, heads, &options, scheduler, &run, sink)
+    write_report(alloc, heads, options, scheduler, &run, sink)
 }
 
-/// `run`: the report of a run.
+/// `run`: the report of a run with these options.
 pub fn run<R: Threads + Wait + Sync, S: Sink, G: Gate>(
     rt: &R,
     alloc: Global,
     program: Program,
+    options: &RunOptions,
     sink: &mut S,
     gate: &G,
 ) -> Result<(), Stopped>
-    ensures does { (file : List ℕ) → Does (Run file) (source_of program) result
+    requires range { AreInRange options.now }
+    ensures does { (file : List ℕ) → Does (Run file options.now) (source_of program) result
         (S.written sink.old) (S.written sink.new) }
     ensures sink_fault { IsErrOf result Stopped.SinkFault → Rose (S.faults sink.old) (S.faults sink.new) }
     ensures never_falls { S.faults sink.old ≤ S.faults sink.new }
@@ -84,7 +73,7 @@ pub fn run<R: Threads + Wait + Sync, S: Sink, G: Gate>(
     if !is_built(placed.program()) {
         return Err(Stopped::Refused(Refusal::NotBuilt));
     }
-    run_program(rt, alloc, &placed, sink, gate)?;
+    run_program(rt, alloc, &placed, options, sink, gate)?;
     Ok(())
 }
 

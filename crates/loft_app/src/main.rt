@@ -9,7 +9,6 @@ mod source;
 mod status;
 #[cfg(test)]
 mod tests;
-mod words;
 
 use app::loft_main;
 use loft_base::{Failed, HostFiles, HostSink, OpenGate};

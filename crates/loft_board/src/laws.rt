@@ -14,7 +14,7 @@ pub fn events_stay_present()
 {}
 
 /// An event of the board has the values that were generated with it, in the order in which they
-/// came, behind those that it had.
+/// came, after those that it had.
 pub fn values_come_in_order()
     ensures { (events : List (EventId × Option ℤ)) (e : EventId) (board : Board)
         → e.0 < length board

@@ -1,4 +1,4 @@
--- The parts of a report, one behind the other.
+-- The parts of a report, one after the other.
 use Rattle.std.proofs.Common.{◌≡◌, ℕ, ◌+◌, ◌==◌, ◌<◌, Bool, true, false, List, [], ◌∷◌, ◌++◌, length, drop, get_or, min, ◌≤◌, ◌*◌, map, refl, ap, ◌∙◌, if◌then◌else◌, codes, arith, length-drop, ℤ, FitsSigned, w64, to_z, of_z, eq-eqb}
 use Rattle.std.specs.Fmt.{signed_decimal}
 use Rattle.std.proofs.lemmas.Grind.{common_steps}
@@ -66,7 +66,7 @@ batch-none h stopped k [] ms none = refl
 batch-none h stopped k (o ∷ os) [] none = refl
 batch-none h stopped k (o ∷ os) (m ∷ ms) none = absurd (omega arith)
 
--- behind the last order that has a mark nothing is left
+-- after the last order that has a mark nothing is left
 pub batch-end : (h : Heads) (stopped : List Ended) (os : List Order) (ms : List Mark) (k : ℕ) → min (length os) (length ms) ≤ k → text_of (batch_lines h stopped k (drop k os) (drop k ms)) ≡ []
 batch-end h stopped os ms k past = ap text_of (batch-none h stopped k (drop k os) (drop k ms) (omega (arith, length-drop k os, length-drop k ms)))
 
@@ -76,8 +76,8 @@ choices-count s [] = refl
 choices-count s (t ∷ ts) = omega (arith, choices-count s ts)
 
 -- the lines of these values, for the scheduler's variables from number k on
-abbrev pub shared_behind : Heads → SchedId → ℕ → List ℤ → List (List ℕ)
-shared_behind h s k values = shared_lines h (shared_from k s (drop k h.shared)) values
+abbrev pub shared_after : Heads → SchedId → ℕ → List ℤ → List (List ℕ)
+shared_after h s k values = shared_lines h (shared_from k s (drop k h.shared)) values
 
 abbrev pub value_text : List ℕ → ℤ → List ℕ
 value_text name v = codes "shared " ++ (name ++ (space ++ signed_decimal v))
@@ -88,28 +88,28 @@ value_line-read {name = name} v fits is same = is ∙ (ap (λ n. value_text n (t
 
 -- another scheduler's variable has no line
 pub shared-skipped : (h : Heads) (s : SchedId) (k : ℕ) (x : SharedHead) (values : List ℤ) → k < length h.shared → x ≡ get_or h.shared k x → (s.0 ≡ x.scheduler.0 → ⊥)
-    → text_of (shared_behind h s k values) ≡ text_of (shared_behind h s (k + 1) values)
+    → text_of (shared_after h s k values) ≡ text_of (shared_after h s (k + 1) values)
 shared-skipped h s k x values below is elsewhere =
     ap (λ xs. text_of (shared_lines h (shared_from k s xs) values)) (drop-at h.shared k x below is)
     ∙ ap (λ b. text_of (shared_lines h (if b then record { 0 = k } ∷ shared_from (k + 1) s (drop (k + 1) h.shared) else shared_from (k + 1) s (drop (k + 1) h.shared)) values)) (ne_eqb s.0 x.scheduler.0 elsewhere)
 
 -- the scheduler's variable at this index has the first value that is left
 pub shared-written : (h : Heads) (s : SchedId) (k : ℕ) (x : SharedHead) (v : ℤ) (left rest : List ℤ) → k < length h.shared → x ≡ get_or h.shared k x → s.0 ≡ x.scheduler.0 → left ≡ v ∷ rest
-    → text_of (shared_behind h s k left) ≡ (value_text x.name v ++ 10 ∷ []) ++ text_of (shared_behind h s (k + 1) rest)
+    → text_of (shared_after h s k left) ≡ (value_text x.name v ++ 10 ∷ []) ++ text_of (shared_after h s (k + 1) rest)
 shared-written h s k x v left rest below is here first =
-    ap (λ values. text_of (shared_behind h s k values)) first
+    ap (λ values. text_of (shared_after h s k values)) first
     ∙ ap (λ xs. text_of (shared_lines h (shared_from k s xs) (v ∷ rest))) (drop-at h.shared k x below is)
     ∙ ap (λ b. text_of (shared_lines h (if b then record { 0 = k } ∷ shared_from (k + 1) s (drop (k + 1) h.shared) else shared_from (k + 1) s (drop (k + 1) h.shared)) (v ∷ rest))) (eq-eqb s.0 x.scheduler.0 here)
-    ∙ ap (λ o. (value_text (name_of_shared o) v ++ 10 ∷ []) ++ text_of (shared_behind h s (k + 1) rest)) (slice_get_read h.shared (length h.shared) k x refl below is)
+    ∙ ap (λ o. (value_text (name_of_shared o) v ++ 10 ∷ []) ++ text_of (shared_after h s (k + 1) rest)) (slice_get_read h.shared (length h.shared) k x refl below is)
 
 no-values : (h : Heads) (xs : List SharedId) → shared_lines h xs [] ≡ []
 no-values h [] = refl
 no-values h (x ∷ xs) = refl
 
 -- without a further value nothing is left
-pub shared-spent : (h : Heads) (s : SchedId) (k : ℕ) → text_of (shared_behind h s k []) ≡ []
+pub shared-spent : (h : Heads) (s : SchedId) (k : ℕ) → text_of (shared_after h s k []) ≡ []
 shared-spent h s k = ap text_of (no-values h (shared_from k s (drop k h.shared)))
 
--- behind the last variable nothing is left
-pub shared-end : (h : Heads) (s : SchedId) (k : ℕ) (values : List ℤ) → length h.shared ≤ k → text_of (shared_behind h s k values) ≡ []
+-- after the last variable nothing is left
+pub shared-end : (h : Heads) (s : SchedId) (k : ℕ) (values : List ℤ) → length h.shared ≤ k → text_of (shared_after h s k values) ≡ []
 shared-end h s k values past = ap (λ xs. text_of (shared_lines h (shared_from k s xs) values)) (drop_all k h.shared past)

@@ -15,7 +15,7 @@ use Rattle.loft_sense.specs.Turns.{entries_of, batches_of, notes_of}
 use Rattle.loft_sense.specs.Lines.{text_of}
 use Rattle.loft_sense.specs.Report.{head_lines, block_lines, scheduler_lines, left_line, left_lines, left_part, schedulers_from, schedulers, report_lines, report}
 use Rattle.loft_sense.proofs.TurnLemmas.{log-entries_of}
-use Rattle.loft_log.specs.RunReport.{turns_lines, run_lines, run_report}
+use Rattle.loft_log.specs.RunReport.{turns_lines, run_report}
 
 -- the lines of a block, where the notes of the replay are those of the turns and it ends in this state
 block-turns : (h : Heads) (s : SchedId) (turns : List SchedulerTurn) (last : FinalState) (batches : List (List Order)) (r : Replayed) → batches ≡ batches_of turns → r.notes ≡ notes_of turns → r.machine.linked ≡ last.linked → r.machine.shared ≡ last.shared → block_lines h s batches r ≡ turns_lines h s turns last
@@ -30,27 +30,19 @@ only_scheduler s (name ∷ other ∷ names) one zero = absurd (omega arith)
 one-each : {A B : Type 0} (f : A → List B) (xs : List A) (x : A) → xs ≡ x ∷ [] → flat_map f xs ≡ f x
 one-each f xs x is = ap (flat_map f) is ∙ append-nil (f x)
 
--- Where a program has one scheduler, its turns are replayed with these notes to this state and nothing waits behind them, the report of their history is the report of the run.
-pub report_lines-turns : (x : Prog) (o : RunOptions) (s : SchedId) (turns : List SchedulerTurn) (last : FinalState) → length (heads x).schedulers ≡ 1 → s.0 ≡ 0
-    → (replayed x o.limits s (entries_of s turns)).notes ≡ notes_of turns
-    → (replayed x o.limits s (entries_of s turns)).machine.linked ≡ last.linked
-    → (replayed x o.limits s (entries_of s turns)).machine.shared ≡ last.shared
-    → waiting (heads x) s (entries_of s turns) ≡ [] → report_lines x o (entries_of s turns) ≡ run_lines (heads x) o s turns last
-unfolding report_lines
-report_lines-turns x o s turns last one zero noted linked shared none =
-    let es = entries_of s turns in
-    let h = heads x in
-    let only = only_scheduler s h.schedulers one zero in
-    let block = one-each (scheduler_lines x o.limits es) (schedulers x) s only ∙ block-turns h s turns last (log s es) (replayed x o.limits s es) (log-entries_of s turns) noted linked shared in
-    let left = one-each (left_lines x es) (schedulers x) s only ∙ ap (map (left_line h s)) none in
-    ap (λ lines. head_lines h o (map choice_of es) ++ (lines ++ (left_part (flat_map (left_lines x es) (schedulers x)) ++ codes "end" ∷ []))) block
-    ∙ ap (λ lines. head_lines h o (map choice_of es) ++ (turns_lines h s turns last ++ (left_part lines ++ codes "end" ∷ []))) left
-
--- the same of the bytes, for a run that ends as its replay does
+-- Where a program has one scheduler, and its turns are replayed with these notes to this state, after which these orders wait, the report of their history is the report of the run.
 pub report-run : (x : Prog) (o : RunOptions) (s : SchedId) (run : Finished) → length (heads x).schedulers ≡ 1 → s.0 ≡ 0
     → (replayed x o.limits s (entries_of s run.turns.items)).notes ≡ notes_of run.turns.items
     → (replayed x o.limits s (entries_of s run.turns.items)).machine.linked ≡ run.last.linked
     → (replayed x o.limits s (entries_of s run.turns.items)).machine.shared ≡ run.last.shared
-    → waiting (heads x) s (entries_of s run.turns.items) ≡ [] → report x o (entries_of s run.turns.items) ≡ run_report (heads x) o s run
-report-run x o s run one zero noted linked shared none =
-    ap text_of (report_lines-turns x o s run.turns.items run.last one zero noted linked shared none)
+    → waiting (heads x) s (entries_of s run.turns.items) ≡ run.left → report x o (entries_of s run.turns.items) ≡ run_report (heads x) o s run
+unfolding report_lines
+report-run x o s run one zero noted linked shared waits =
+    let turns = run.turns.items in
+    let es = entries_of s turns in
+    let h = heads x in
+    let only = only_scheduler s h.schedulers one zero in
+    let block = one-each (scheduler_lines x o.limits es) (schedulers x) s only ∙ block-turns h s turns run.last (log s es) (replayed x o.limits s es) (log-entries_of s turns) noted linked shared in
+    let left = one-each (left_lines x es) (schedulers x) s only ∙ ap (map (left_line h s)) waits in
+    ap (λ lines. text_of (head_lines h o (map choice_of es) ++ (lines ++ (left_part (flat_map (left_lines x es) (schedulers x)) ++ codes "end" ∷ [])))) block
+    ∙ ap (λ lines. text_of (head_lines h o (map choice_of es) ++ (turns_lines h s turns run.last ++ (left_part lines ++ codes "end" ∷ [])))) left

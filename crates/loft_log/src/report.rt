@@ -13,14 +13,14 @@ ghost use Rattle.loft_sense.specs.Heads.{shared_of};
 ghost use Rattle.loft_sense.specs.History.{choice_of};
 ghost use Rattle.loft_sense.specs.Text.{scheduler_name, order_text};
 ghost use Rattle.loft_sense.specs.Lines.{text_of, mark_word, ends_at, batch_lines, leave_line, leave_lines, instant_lines};
-ghost use Rattle.loft_sense.specs.Report.{choice_line, head_lines, instants_lines, shared_lines, final_lines};
+ghost use Rattle.loft_sense.specs.Report.{choice_line, head_lines, instants_lines, shared_lines, final_lines, left_line, left_part};
 ghost use Rattle.loft_sense.specs.Turns.{entries_of, batches_of, notes_of};
 ghost use Rattle.loft_log.specs.RunReport.{turns_lines, run_report};
 ghost use Rattle.loft_base.specs.Writing.{WritesTo};
 
 use self::lines::{
-    InOneLine, leaver_line, make_end_line, number_line, order_line, scheduler_line, text_line,
-    value_line,
+    InOneLine, leaver_line, left_order_line, make_end_line, number_line, order_line,
+    scheduler_line, text_line, value_line,
 };
 use loft_base::{SchedId, Sink, WriteError};
 use loft_sense::{Ended, FinalState, Finished, Mark, Order, RunOptions, SchedulerTurn, Sent};
@@ -28,7 +28,7 @@ use loft_text::LineBuffer;
 use loft_tree::Heads;
 use std::alloc::Global;
 
-/// Writes the report of a run whose only scheduler is `s`, and after which nothing waits for it.
+/// Writes the report of a run whose only scheduler is `s`.
 ///
 /// `Sink` comes where the sink failed, and its count of faults rose. `NoMemory` comes where it is out of
 /// memory for a line. In both cases a prefix of the report was written.
@@ -74,7 +74,7 @@ impl ReportWriter<'_> {
         let turns = run.turns.as_slice();
         self.write_head(options, s, turns, sink)?;
         self.write_block(s, turns, &run.last, sink)?;
-        self.write_number("left ", 0, sink)?;
+        self.write_left(s, run.left.as_slice(), sink)?;
         self.write_text("end", sink)
     }
 
@@ -304,6 +304,36 @@ impl ReportWriter<'_> {
                 write_line(value_line(self.alloc, head.name.as_slice(), *value)?, sink)?;
                 left = rest;
             }
+        }
+        Ok(())
+    }
+
+    /// Writes how many orders are left over at the scheduler, and then these.
+    fn write_left<S: Sink>(
+        &self,
+        s: SchedId,
+        orders: &[Order],
+        sink: &mut S,
+    ) -> Result<(), WriteError>
+        ensures { WritesTo S.written S.faults sink.old sink.new result
+            (text_of (left_part (map (left_line self.now.heads.now s) orders.now))) }
+    {
+        self.write_number("left ", orders.len() as u64, sink)?;
+        self.write_left_orders(s, orders, sink)
+    }
+
+    /// Writes the orders that are left over at the scheduler.
+    fn write_left_orders<S: Sink>(
+        &self,
+        s: SchedId,
+        orders: &[Order],
+        sink: &mut S,
+    ) -> Result<(), WriteError>
+        ensures { WritesTo S.written S.faults sink.old sink.new result
+            (text_of (map (left_line self.now.heads.now s) orders.now)) }
+    {
+        for order in orders {
+            write_line(left_order_line(self.alloc, self.heads, s, order)?, sink)?;
         }
         Ok(())
     }

@@ -1,4 +1,3 @@
-pub mod BuiltLemmas
 pub mod PositionLemmas
 pub mod RunnerLemmas
 pub mod PassLemmas

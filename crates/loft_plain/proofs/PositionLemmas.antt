@@ -31,9 +31,9 @@ at_first t x xs same = record {
   suspended = λ b s is. ap (λ (q : Bool). if q then record x { suspended = b } ∷ xs else x ∷ suspend t b xs) same ∙ cc;
 }
 
--- behind another
-behind : (t : ThreadId) (x : Standing) (xs : List Standing) (i : ℕ) → same_thread t x.thread.id ≡ false → Stands i t xs → Stands (suc i) t (x ∷ xs)
-behind t x xs i other at = record {
+-- after another
+after : (t : ThreadId) (x : Standing) (xs : List Standing) (i : ℕ) → same_thread t x.thread.id ≡ false → Stands i t xs → Stands (suc i) t (x ∷ xs)
+after t x xs i other at = record {
   there = omega (arith, at.there);
   is_linked = ap (λ (b : Bool). b || is_linked t xs) other ∙ at.is_linked;
   unlinked = ap (λ (b : Bool). if b then xs else x ∷ unlink t xs) other ∙ ap (λ (l : List Standing). x ∷ l) (at.unlinked ∙ ap (λ (l : List Standing). take i xs ++ l) (drop_more i x xs));
@@ -44,7 +44,7 @@ pub found_here : (t : ThreadId) (ss : List Standing) (i : ℕ) (s : Standing) �
 found_here t [] i s within is none same = absurd (omega (arith, within))
 found_here t (x ∷ xs) zero s within is none same = at_first t x xs (ap (λ (y : Standing). same_thread t y.thread.id) (sym is) ∙ same)
 found_here t (x ∷ xs) (suc i) s within is none same =
-    behind t x xs i (not_first (same_thread t x.thread.id) (is_linked t (take i xs)) none)
+    after t x xs i (not_first (same_thread t x.thread.id) (is_linked t (take i xs)) none)
     (found_here t xs i s (omega (arith, within)) is (not_rest (same_thread t x.thread.id) (is_linked t (take i xs)) none) same)
 
 pub not_here : (t : ThreadId) (ss : List Standing) (i : ℕ) (s : Standing) → i < length ss → s ≡ get_or ss i s → is_linked t (take i ss) ≡ false → same_thread t s.thread.id ≡ false → is_linked t (take (i + 1) ss) ≡ false

@@ -1,4 +1,3 @@
-pub mod Built
 pub mod View
 pub mod Positions
 pub mod States

@@ -1,15 +1,19 @@
 -- Schedulers in a history, and how a history goes on after its choices.
-use Rattle.std.proofs.Common.{◌≡◌, ℕ, Bool, true, false, List, [], ◌∷◌, ◌++◌, map, refl, sym, ◌∙◌, ap, eq-eqb, Option, Some, None, Ok, append_assoc, append-nil, length}
+use Rattle.std.proofs.Common.{◌≡◌, ℕ, Bool, true, false, ◌||◌, List, [], ◌∷◌, ◌++◌, map, refl, sym, ◌∙◌, ap, eq-eqb, Option, Some, None, Ok, append_assoc, append-nil, length}
 use Rattle.std.proofs.lemmas.List.{map-append}
 use Rattle.std.specs.Prelude.{◌↔◌, if◌then◌else◌, not, ◌&&◌, nat_lt, IsTrue}
 use Rattle.std.proofs.lemmas.Bool.{eqb-true, lt-ltb, ltb-true}
 use Rattle.loft_base.specs.declared.ids.SchedId.{SchedId}
 use Rattle.loft_sense.specs.declared.entry.Entry.{Entry}
-use Rattle.loft_sense.specs.declared.entry.Entry.TheVariants.{Take, Give}
+use Rattle.loft_sense.specs.declared.entry.Entry.TheVariants.{Take, Give, Pick, Post, Client}
+use Rattle.loft_sense.specs.declared.order.Order.{Order}
+use Rattle.loft_sense.specs.declared.note.InstantNote.{InstantNote}
+use Rattle.loft_sense.specs.declared.limits.Limits.{Limits}
 use Rattle.loft_sense.specs.declared.limits.RunOptions.{RunOptions}
 use Rattle.loft_sense.specs.Heads.{same_scheduler}
 use Rattle.loft_sense.specs.Machine.{Prog, heads}
-use Rattle.loft_sense.specs.History.{Choice, TakeBy, GiveBy, PickBy, PostBy, ClientBy, choice_of, is_open, has_turn, entry_of, with_entry, waiting, replayed, sent_last, hist_on, hist, HasEnded}
+use Rattle.loft_sense.specs.Instant.{Replayed, one_more, replay_on}
+use Rattle.loft_sense.specs.History.{Choice, TakeBy, GiveBy, PickBy, PostBy, ClientBy, choice_of, log, in_instant, is_open, orders_to, waiting_after, has_turn, entry_of, with_entry, waiting, replayed, sent_last, hist_on, hist, HasEnded}
 
 -- a scheduler is itself
 pub same_self : (s : SchedId) → same_scheduler s s ≡ true
@@ -98,3 +102,45 @@ without_choice x o h none s declared =
 -- a history has ended exactly where no choice is allowed
 pub ended_exactly : (x : Prog) (o : RunOptions) (h : List Entry) → HasEnded x o h ↔ ((c : Choice) → entry_of x o h c ≡ None)
 ended_exactly x o h = (ended_choice x o h, without_choice x o h)
+
+-- ---- further entries
+
+-- a list that goes on, with this in front where it is so
+more_if : {A : Type 0} (b : Bool) (x : A) (zs xs ys : List A) → zs ≡ xs ++ ys → (if b then x ∷ zs else zs) ≡ (if b then x ∷ xs else xs) ++ ys
+more_if {A = A} true x zs xs ys e = ap (λ (l : List A). x ∷ l) e
+more_if false x zs xs ys e = e
+
+pub log-append : (s : SchedId) (xs ys : List Entry) → log s (xs ++ ys) ≡ log s xs ++ log s ys
+log-append s [] ys = refl
+log-append s (Take q batch ∷ xs) ys = more_if (same_scheduler s q) batch (log s (xs ++ ys)) (log s xs) (log s ys) (log-append s xs ys)
+log-append s (Give q sent ∷ xs) ys = log-append s xs ys
+log-append s (Pick w job ∷ xs) ys = log-append s xs ys
+log-append s (Post w sent ∷ xs) ys = log-append s xs ys
+log-append s (Client c sent ∷ xs) ys = log-append s xs ys
+
+pub waiting_after-append : (s : SchedId) (before : List Order) (xs ys : List Entry) → waiting_after s before (xs ++ ys) ≡ waiting_after s (waiting_after s before xs) ys
+waiting_after-append s before [] ys = refl
+waiting_after-append s before (Take q batch ∷ xs) ys = waiting_after-append s (if same_scheduler s q then [] else before) xs ys
+waiting_after-append s before (Give q sent ∷ xs) ys = waiting_after-append s (before ++ orders_to s sent) xs ys
+waiting_after-append s before (Pick w job ∷ xs) ys = waiting_after-append s before xs ys
+waiting_after-append s before (Post w sent ∷ xs) ys = waiting_after-append s (before ++ orders_to s (sent ∷ [])) xs ys
+waiting_after-append s before (Client c sent ∷ xs) ys = waiting_after-append s (before ++ orders_to s (sent ∷ [])) xs ys
+
+pub in_instant-append : (s : SchedId) (xs ys : List Entry) (was : Bool) → in_instant s was (xs ++ ys) ≡ in_instant s (in_instant s was xs) ys
+in_instant-append s [] ys was = refl
+in_instant-append s (Take q batch ∷ xs) ys was = in_instant-append s xs ys (same_scheduler s q || was)
+in_instant-append s (Give q sent ∷ xs) ys was = in_instant-append s xs ys (not (same_scheduler s q) && was)
+in_instant-append s (Pick w job ∷ xs) ys was = in_instant-append s xs ys was
+in_instant-append s (Post w sent ∷ xs) ys was = in_instant-append s xs ys was
+in_instant-append s (Client c sent ∷ xs) ys was = in_instant-append s xs ys was
+
+-- ---- further batches and notes
+
+pub replay_on-append : (x : Prog) (limits : Limits) (r : Replayed) (bs : List (List Order)) (b : List Order) → replay_on x limits r (bs ++ b ∷ []) ≡ one_more x limits (replay_on x limits r bs) b
+replay_on-append x limits r [] b = refl
+replay_on-append x limits r (c ∷ bs) b = replay_on-append x limits (one_more x limits r c) bs b
+
+pub sent_last-append : (ns : List InstantNote) (n : InstantNote) → sent_last (ns ++ n ∷ []) ≡ n.sent
+sent_last-append [] n = refl
+sent_last-append (m ∷ []) n = refl
+sent_last-append (m ∷ k ∷ ns) n = sent_last-append (k ∷ ns) n

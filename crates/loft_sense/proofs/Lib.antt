@@ -4,7 +4,6 @@ pub mod PassLemmas
 pub mod RunnerLemmas
 pub mod EventLemmas
 pub mod CodeLemmas
-pub mod QuietLemmas
 pub mod HistoryLemmas
 pub mod LegalLemmas
 pub mod TurnLemmas

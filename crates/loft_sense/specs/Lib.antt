@@ -13,7 +13,6 @@ pub mod Apply
 pub mod Instant
 pub mod Runs
 pub mod Codes
-pub mod Quiet
 pub mod Async
 pub mod Rest
 pub mod Fits

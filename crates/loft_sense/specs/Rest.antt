@@ -5,6 +5,7 @@ use Rattle.loft_sense.specs.declared.thread.Wait.{Wait}
 use Rattle.loft_sense.specs.declared.thread.Wait.TheVariants.{New, Coop, Events, Index, Next, Join, Halt}
 use Rattle.loft_sense.specs.declared.note.Standing.{Standing}
 use Rattle.loft_sense.specs.declared.limits.Limits.{Limits}
+use Rattle.loft_sense.specs.declared.limits.TheConstants.{MAX_INSTANTS, MAX_BUDGET, MAX_BLOCK}
 use Rattle.loft_sense.specs.Machine.{Prog, Mach}
 use Rattle.loft_sense.specs.CanGo.{is_known}
 
@@ -36,6 +37,6 @@ is_spent x limits m = nat_le limits.instants m.number
 
 -- the bounds of a run have their ranges (docs/LANGUAGE.md, "Limits")
 pub record IsInRange (limits : Limits) : Type 0 where
-  pub instants : (1 ≤ limits.instants) × (limits.instants ≤ 1000000)
-  pub budget : (1 ≤ limits.budget) × (limits.budget ≤ 1000000)
-  pub block : (1 ≤ limits.block) × (limits.block ≤ 100000000)
+  pub instants : (1 ≤ limits.instants) × (limits.instants ≤ MAX_INSTANTS)
+  pub budget : (1 ≤ limits.budget) × (limits.budget ≤ MAX_BUDGET)
+  pub block : (1 ≤ limits.block) × (limits.block ≤ MAX_BLOCK)

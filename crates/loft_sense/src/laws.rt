@@ -1,17 +1,12 @@
 //! Laws of instants and of histories. Each is what the contract of an empty function says.
 
-ghost use Rattle.std.specs.Prelude.{◌≡◌, ◌↔◌, false, List, [], map, All, None, Ok};
-ghost use Rattle.loft_tree.specs.Resolved.{Resolved};
+ghost use Rattle.std.specs.Prelude.{◌≡◌, ◌↔◌, false, List, map, All, None, Ok};
 ghost use Rattle.loft_sense.specs.declared.entry.Entry.{Entry};
-ghost use Rattle.loft_sense.specs.declared.limits.Limits.{Limits};
 ghost use Rattle.loft_sense.specs.declared.limits.RunOptions.{RunOptions};
-ghost use Rattle.loft_sense.specs.declared.order.Order.{Order};
-ghost use Rattle.loft_sense.specs.Machine.{Prog, Tree, Mach};
+ghost use Rattle.loft_sense.specs.Machine.{Prog};
 ghost use Rattle.loft_sense.specs.Around.{Around};
 ghost use Rattle.loft_sense.specs.Passes.{Runner, is_ready, pass, passes};
-ghost use Rattle.loft_sense.specs.Instant.{instant};
-ghost use Rattle.loft_sense.specs.Quiet.{IsQuiet};
-ghost use Rattle.loft_sense.specs.History.{Choice, choice_of, orders_to, entry_of, hist, HasEnded};
+ghost use Rattle.loft_sense.specs.History.{Choice, choice_of, entry_of, hist, HasEnded};
 ghost use Rattle.loft_sense.specs.Legal.{IsLegal};
 
 /// The history that choices make is legal, and its choices are these: where every choice is
@@ -38,11 +33,4 @@ pub fn ended_histories_go_no_further()
 pub fn passes_end()
     ensures idle { (x : Prog) (rs : List Runner) (around : Around) → let last = passes x rs around in (pass x last.runners last.around).ran ≡ false }
     ensures nobody { (x : Prog) (rs : List Runner) (around : Around) → let last = passes x rs around in All (λ r. is_ready r last.around ≡ false) last.runners }
-{}
-
-/// Where a program's bodies only print texts and cooperate, an instant on any machine and any batch
-/// sends nothing to its own scheduler.
-pub fn quiet_programs_send_nothing_home()
-    ensures { (p : Resolved) (limits : Limits) (m : Mach) (batch : List Order) → IsQuiet p
-        → orders_to m.s (instant (Tree p) limits m batch).note.sent ≡ [] }
 {}

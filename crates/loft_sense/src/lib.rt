@@ -21,9 +21,11 @@ pub use engine::Engine;
 pub use entry::{Actor, Entry};
 pub use laws::{
     ended_histories_go_no_further, legal_histories_are_made, made_histories_are_legal, passes_end,
-    quiet_programs_send_nothing_home,
 };
-pub use limits::{Limits, MAX_BLOCK_ENTRIES, MAX_ENTRIES, MAX_FRAMES, MAX_LINKED, RunOptions};
+pub use limits::{
+    Limits, MAX_BLOCK, MAX_BLOCK_ENTRIES, MAX_BUDGET, MAX_ENTRIES, MAX_FRAMES, MAX_INSTANTS,
+    MAX_LINKED, MAX_WORKERS, RunOptions,
+};
 pub use note::{
     Act, Acts, Change, Changes, Ended, Ends, FinalState, InstantNote, Numbers, Standing, Standings,
 };

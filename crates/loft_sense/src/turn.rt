@@ -10,9 +10,11 @@ pub struct SchedulerTurn {
     pub note: InstantNote,
 }
 
-/// All turns of a scheduler in order, and its state after the last of them.
+/// All turns of a scheduler in order, its state after the last of them, and the orders that are left
+/// over: those that wait for it then.
 #[derive(Debug, Drop)]
 pub struct Finished {
     pub turns: Vec<SchedulerTurn>,
     pub last: FinalState,
+    pub left: Orders,
 }

@@ -1,5 +1,5 @@
 -- In each history of a placed program, what waits for a scheduler fits there, and the threads of each scheduler stand.
-use Rattle.std.proofs.Common.{◌≡◌, Bool, true, false, List, [], ◌∷◌, ◌++◌, length, Some, None, Ok, refl, sym, ap, ◌∙◌, subst}
+use Rattle.std.proofs.Common.{◌≡◌, Bool, true, false, List, [], ◌∷◌, ◌++◌, length, Some, None, Ok, refl, sym, ◌∙◌, subst}
 use Rattle.std.specs.Prelude.{◌&&◌, nat_lt, if◌then◌else◌, All}
 use Rattle.std.proofs.lemmas.Bool.{and_parts, ltb-true}
 use Rattle.loft_base.specs.declared.ids.SchedId.{SchedId}
@@ -9,7 +9,7 @@ use Rattle.loft_tree.specs.NamedFits.{NamedFits, IsScheduler}
 use Rattle.loft_tree.specs.Resolved.{resolved_of}
 use Rattle.loft_place.specs.Links.{IsPlaced}
 use Rattle.loft_sense.specs.declared.entry.Entry.{Entry}
-use Rattle.loft_sense.specs.declared.entry.Entry.TheVariants.{Take, Give, Pick, Post, Client}
+use Rattle.loft_sense.specs.declared.entry.Entry.TheVariants.{Take, Give}
 use Rattle.loft_sense.specs.declared.limits.RunOptions.{RunOptions}
 use Rattle.loft_sense.specs.declared.note.InstantNote.{InstantNote}
 use Rattle.loft_sense.specs.declared.order.Order.{Order}
@@ -20,33 +20,10 @@ use Rattle.loft_sense.specs.Fits.{Fits}
 use Rattle.loft_sense.specs.Instant.{instant, Replayed, one_more, replay_on}
 use Rattle.loft_sense.specs.History.{Choice, TakeBy, GiveBy, PickBy, PostBy, ClientBy, log, is_open, orders_to, starts_of, waiting_after, waiting, replayed, sent_last, entry_of, hist_on, hist}
 use Rattle.loft_sense.proofs.AroundLemmas.{instant_scheduler}
-use Rattle.loft_sense.proofs.HistoryLemmas.{is_same, from_first, same_history}
+use Rattle.loft_sense.proofs.HistoryLemmas.{is_same, from_first, same_history, log-append, waiting_after-append}
 use Rattle.loft_stand.specs.Machines.{MachFits, SentFits}
 use Rattle.loft_stand.proofs.PointLemmas.{each_append}
 use Rattle.loft_stand.proofs.InstantLemmas.{all_of, each_of, orders_fit, instant_fits, empty_fits, starts_fit}
-
--- ---- further entries
-
--- a list that goes on, with this in front where it is so
-more_if : {A : Type 0} (b : Bool) (x : A) (zs xs ys : List A) → zs ≡ xs ++ ys → (if b then x ∷ zs else zs) ≡ (if b then x ∷ xs else xs) ++ ys
-more_if {A = A} true x zs xs ys e = ap (λ (l : List A). x ∷ l) e
-more_if false x zs xs ys e = e
-
-log-append : (s : SchedId) (xs ys : List Entry) → log s (xs ++ ys) ≡ log s xs ++ log s ys
-log-append s [] ys = refl
-log-append s (Take q batch ∷ xs) ys = more_if (same_scheduler s q) batch (log s (xs ++ ys)) (log s xs) (log s ys) (log-append s xs ys)
-log-append s (Give q sent ∷ xs) ys = log-append s xs ys
-log-append s (Pick w job ∷ xs) ys = log-append s xs ys
-log-append s (Post w sent ∷ xs) ys = log-append s xs ys
-log-append s (Client c sent ∷ xs) ys = log-append s xs ys
-
-waiting_after-append : (s : SchedId) (before : List Order) (xs ys : List Entry) → waiting_after s before (xs ++ ys) ≡ waiting_after s (waiting_after s before xs) ys
-waiting_after-append s before [] ys = refl
-waiting_after-append s before (Take q batch ∷ xs) ys = waiting_after-append s (if same_scheduler s q then [] else before) xs ys
-waiting_after-append s before (Give q sent ∷ xs) ys = waiting_after-append s (before ++ orders_to s sent) xs ys
-waiting_after-append s before (Pick w job ∷ xs) ys = waiting_after-append s before xs ys
-waiting_after-append s before (Post w sent ∷ xs) ys = waiting_after-append s (before ++ orders_to s (sent ∷ [])) xs ys
-waiting_after-append s before (Client c sent ∷ xs) ys = waiting_after-append s (before ++ orders_to s (sent ∷ [])) xs ys
 
 -- an allowed choice makes this entry
 on_allowed : {Q : Type 0} (allowed : Bool) (a e : Entry) → (if allowed then Some a else None) ≡ Some e → (allowed ≡ true → a ≡ e → Q) → Q

@@ -69,7 +69,7 @@ impl LineBuffer {
         self.text(digits.as_str())
     }
 
-    /// Appends the digits of a number, behind a sign where it is negative.
+    /// Appends the digits of a number, after a sign where it is negative.
     pub fn signed(&mut self, number: i64) -> Result<(), NoMemory>
         ensures { OnOk result (self.new ≡ self.old ++ signed_decimal number) }
     {

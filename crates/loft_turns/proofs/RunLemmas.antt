@@ -1,64 +1,35 @@
 -- One more turn of the only scheduler, and the end of its run.
-use Rattle.std.proofs.Common.{◌≡◌, ℕ, ◌<◌, Bool, true, false, List, [], ◌∷◌, ◌++◌, map, length, refl, sym, ◌∙◌, ap, subst, arith, append_assoc, Option, Some, None, Result, Ok, Err, inl, inr, ◌⊎◌, ◌≤◌, ◌+◌, ◌-◌}
-use Rattle.std.proofs.lemmas.Bool.{lt-ltb, lt-leb, leb-false}
-use Rattle.std.proofs.Math.Dec.{eqb-suc-zero}
-use Rattle.loft_sense.specs.Rest.{is_spent, is_resting}
-use Rattle.std.specs.Prelude.{if◌then◌else◌, not, ◌&&◌, ◌||◌, ◌==◌, nat_lt, IsTrue}
+use Rattle.std.proofs.Common.{◌≡◌, ℕ, ◌<◌, Bool, true, false, List, [], ◌∷◌, ◌++◌, map, length, refl, sym, ◌∙◌, ap, subst, arith, append_assoc, Option, Some, None, Result, Ok, Err, ◌+◌, ◌-◌}
+use Rattle.std.proofs.lemmas.Bool.{lt-ltb, leb-false}
+use Rattle.loft_sense.specs.Rest.{is_spent}
+use Rattle.std.specs.Prelude.{if◌then◌else◌, not, ◌&&◌, ◌||◌, nat_lt, IsTrue}
 use Rattle.loft_base.specs.declared.ids.SchedId.{SchedId}
 use Rattle.loft_sense.specs.declared.order.Order.{Order}
 use Rattle.loft_sense.specs.declared.order.Sent.{Sent}
 use Rattle.loft_sense.specs.declared.note.InstantNote.{InstantNote}
 use Rattle.loft_sense.specs.declared.entry.Entry.{Entry}
-use Rattle.loft_sense.specs.declared.entry.Entry.TheVariants.{Take, Give, Pick, Post, Client}
+use Rattle.loft_sense.specs.declared.entry.Entry.TheVariants.{Take, Give}
 use Rattle.loft_sense.specs.declared.limits.Limits.{Limits}
 use Rattle.loft_sense.specs.declared.limits.RunOptions.{RunOptions}
-use Rattle.loft_sense.specs.Heads.{same_scheduler}
-use Rattle.loft_sense.specs.Machine.{Prog, Tree, heads, Mach, empty}
-use Rattle.loft_sense.specs.Instant.{Replayed, one_more, replay_on, replay, instant}
+use Rattle.loft_sense.specs.Machine.{Prog, heads, Mach, empty}
+use Rattle.loft_sense.specs.Instant.{Replayed, one_more, replay, instant}
 use Rattle.loft_sense.specs.History.{Choice, TakeBy, GiveBy, choice_of, log, in_instant, is_open, orders_to, starts_of, replayed, has_turn, sent_last, entry_of, with_entry, hist_on, hist, has_finished}
-use Rattle.loft_sense.proofs.QuietLemmas.{quiet_instant}
-use Rattle.loft_sense.proofs.HistoryLemmas.{same_self, same_id, take_allowed, give_allowed}
-use Rattle.loft_sense.specs.declared.note.FinalState.{FinalState}
+use Rattle.loft_sense.proofs.HistoryLemmas.{same_self, same_id, take_allowed, give_allowed, log-append, in_instant-append, replay_on-append, sent_last-append}
+use Rattle.loft_sense.specs.declared.turn.Finished.{Finished}
 use Rattle.loft_sense.specs.declared.turn.SchedulerTurn.{SchedulerTurn}
 use Rattle.loft_sense.specs.Turns.{entries_of, batches_of, notes_of}
 use Rattle.loft_sense.proofs.TurnLemmas.{entries_of-append, notes_of-append, batches_of-append, replayed-entries_of, is_open-entries_of, waiting-turn}
-use Rattle.loft_turns.specs.Running.{IsQuietProgram, HasRun, IsWholeRun}
+use Rattle.loft_turns.specs.Running.{HasRun, IsWholeRun}
 
 -- the entries of one turn
 abbrev pub pair_of : SchedId → List Order → List Sent → List Entry
 pair_of s batch sent = Take s batch ∷ Give s sent ∷ []
 
 log_taken : (s : SchedId) (es : List Entry) (batch : List Order) → log s (es ++ Take s batch ∷ []) ≡ log s es ++ batch ∷ []
-log_taken s [] batch = ap (λ (b : Bool). if b then batch ∷ [] else []) (same_self s)
-log_taken s (Take q other ∷ es) batch = log_one (same_scheduler s q) other (log s (es ++ Take s batch ∷ [])) (log s es) (batch ∷ []) (log_taken s es batch)
-  where
-    log_one : (b : Bool) (x : List Order) (zs xs ys : List (List Order)) → zs ≡ xs ++ ys → (if b then x ∷ zs else zs) ≡ (if b then x ∷ xs else xs) ++ ys
-    log_one true x zs xs ys e = ap (λ (l : List (List Order)). x ∷ l) e
-    log_one false x zs xs ys e = e
-log_taken s (Give q sent ∷ es) batch = log_taken s es batch
-log_taken s (Pick w job ∷ es) batch = log_taken s es batch
-log_taken s (Post w sent ∷ es) batch = log_taken s es batch
-log_taken s (Client c sent ∷ es) batch = log_taken s es batch
-
-in_instant-append : (s : SchedId) (xs ys : List Entry) (was : Bool) → in_instant s was (xs ++ ys) ≡ in_instant s (in_instant s was xs) ys
-in_instant-append s [] ys was = refl
-in_instant-append s (Take q batch ∷ xs) ys was = in_instant-append s xs ys (same_scheduler s q || was)
-in_instant-append s (Give q sent ∷ xs) ys was = in_instant-append s xs ys (not (same_scheduler s q) && was)
-in_instant-append s (Pick w job ∷ xs) ys was = in_instant-append s xs ys was
-in_instant-append s (Post w sent ∷ xs) ys was = in_instant-append s xs ys was
-in_instant-append s (Client c sent ∷ xs) ys was = in_instant-append s xs ys was
+log_taken s es batch = log-append s es (Take s batch ∷ []) ∙ ap (λ (own : Bool). log s es ++ (if own then batch ∷ [] else [])) (same_self s)
 
 opened : (s : SchedId) (es : List Entry) (batch : List Order) → is_open s (es ++ Take s batch ∷ []) ≡ true
 opened s es batch = in_instant-append s es (Take s batch ∷ []) false ∙ ap (λ (b : Bool). b || in_instant s false es) (same_self s)
-
-replay_on-append : (x : Prog) (limits : Limits) (r : Replayed) (bs : List (List Order)) (b : List Order) → replay_on x limits r (bs ++ b ∷ []) ≡ one_more x limits (replay_on x limits r bs) b
-replay_on-append x limits r [] b = refl
-replay_on-append x limits r (c ∷ bs) b = replay_on-append x limits (one_more x limits r c) bs b
-
-sent_last-append : (ns : List InstantNote) (n : InstantNote) → sent_last (ns ++ n ∷ []) ≡ n.sent
-sent_last-append [] n = refl
-sent_last-append (m ∷ []) n = refl
-sent_last-append (m ∷ k ∷ ns) n = sent_last-append (k ∷ ns) n
 
 -- a history goes on after the choices that made it
 goes_on : (x : Prog) (o : RunOptions) (cs ds : List Choice) (h g : List Entry) → hist_on x o cs h ≡ Ok g → hist_on x o (cs ++ ds) h ≡ hist_on x o ds g
@@ -135,16 +106,12 @@ replayed_as m ns = record { machine = m; notes = ns }
 same_replay : {a b : Mach} {ns ms : List InstantNote} → a ≡ b → ns ≡ ms → replayed_as a ns ≡ replayed_as b ms
 same_replay {b = b} {ns = ns} p q = ap (λ (m : Mach). replayed_as m ns) p ∙ ap (replayed_as b) q
 
--- an instant of a quiet program sends nothing to its own scheduler
-quiet_for : (x : Prog) (limits : Limits) (m : Mach) (batch : List Order) → IsQuietProgram x → orders_to m.s (instant x limits m batch).note.sent ≡ []
-quiet_for (Tree p) limits m batch quiet = quiet_instant p limits m batch quiet
-
 -- one more turn, on all orders that wait
 pub one_turn : (x : Prog) (o : RunOptions) (s : SchedId) (ts : List SchedulerTurn) (m : Mach) (orders : List Order) (note : InstantNote) (next : Mach)
-    → IsQuietProgram x → HasRun x o s ts m orders → m.s ≡ s → s.0 < length (heads x).schedulers → has_turn x o.limits m orders ≡ true
+    → HasRun x o s ts m orders → s.0 < length (heads x).schedulers → has_turn x o.limits m orders ≡ true
     → note ≡ (instant x o.limits m orders).note → next ≡ (instant x o.limits m orders).machine
-    → HasRun x o s (ts ++ record { batch = orders; note = note } ∷ []) next []
-one_turn x o s ts m orders note next quiet run own declared turn is_note is_next =
+    → HasRun x o s (ts ++ record { batch = orders; note = note } ∷ []) next (orders_to s note.sent)
+one_turn x o s ts m orders note next run declared turn is_note is_next =
     let t : SchedulerTurn = record { batch = orders; note = note } in
     let sent = (instant x o.limits m orders).note.sent in
     let es : entries_of s (ts ++ t ∷ []) ≡ entries_of s ts ++ pair_of s orders sent =
@@ -152,45 +119,31 @@ one_turn x o s ts m orders note next quiet run own declared turn is_note is_next
     record {
       history = subst (λ (h : List Entry). hist x o (map choice_of h) ≡ Ok h) (sym es) (history_after x o s ts m orders run declared turn);
       machine = machine_after x o s ts m t run ∙ same_replay (sym is_next) (ap (λ (n : InstantNote). notes_of ts ++ n ∷ []) (sym is_note) ∙ sym (notes_of-append ts (t ∷ [])));
-      left = waiting-turn (heads x) s ts t ∙ (ap (λ (n : InstantNote). orders_to s n.sent) is_note ∙ (ap (λ (q : SchedId). orders_to q sent) (sym own) ∙ quiet_for x o.limits m orders quiet));
+      left = waiting-turn (heads x) s ts t;
     }
 
 finished : {was turn : Bool} → was ≡ false → turn ≡ false → not was && not turn ≡ true
 finished w t = rw (w, t) refl
 
--- a run without a further turn is whole, where nothing waits
-pub whole : (x : Prog) (o : RunOptions) (s : SchedId) (ts : List SchedulerTurn) (m : Mach) → HasRun x o s ts m []
-    → s.0 ≡ 0 → length (heads x).schedulers ≡ 1 → has_turn x o.limits m [] ≡ false
-    → (last : FinalState) → last.linked ≡ m.linked → last.shared ≡ m.shared → IsWholeRun x o s ts last
-whole x o s ts m run first only turn last linked shared = record {
-  history = run.history;
-  ended = λ q declared. subst (λ (r : SchedId). IsTrue (has_finished x o (entries_of s ts) r)) (same_id s q (omega arith))
-      (finished (is_open-entries_of s ts) (ap (λ (w : List Order). has_turn x o.limits (replayed x o.limits s (entries_of s ts)).machine w) run.left ∙ (ap (λ (r : Replayed). has_turn x o.limits r.machine []) run.machine ∙ turn)));
-  notes = ap (λ (r : Replayed). r.notes) run.machine;
-  linked = ap (λ (r : Replayed). r.machine.linked) run.machine ∙ sym linked;
-  shared = ap (λ (r : Replayed). r.machine.shared) run.machine ∙ sym shared;
-  nothing = run.left;
-}
+-- a run without a further turn is whole
+pub whole : (x : Prog) (o : RunOptions) (s : SchedId) (run : Finished) (m : Mach) (orders : List Order) → HasRun x o s run.turns.items m orders
+    → s.0 ≡ 0 → length (heads x).schedulers ≡ 1 → has_turn x o.limits m orders ≡ false
+    → run.last.linked ≡ m.linked → run.last.shared ≡ m.shared → run.left ≡ orders → IsWholeRun x o s run
+whole x o s run m orders made first only turn linked shared left =
+    let es = entries_of s run.turns.items in
+    record {
+      history = made.history;
+      ended = λ q declared. subst (λ (r : SchedId). IsTrue (has_finished x o es r)) (same_id s q (omega arith))
+          (finished (is_open-entries_of s run.turns.items) (ap (λ (w : List Order). has_turn x o.limits (replayed x o.limits s es).machine w) made.left ∙ (ap (λ (r : Replayed). has_turn x o.limits r.machine orders) made.machine ∙ turn)));
+      notes = ap (λ (r : Replayed). r.notes) made.machine;
+      linked = ap (λ (r : Replayed). r.machine.linked) made.machine ∙ sym linked;
+      shared = ap (λ (r : Replayed). r.machine.shared) made.machine ∙ sym shared;
+      left = made.left ∙ sym left;
+    }
 
 pub same_run : {x : Prog} {o : RunOptions} {s : SchedId} {ts us : List SchedulerTurn} {m : Mach} {os ps : List Order} → ts ≡ us → os ≡ ps → HasRun x o s ts m os → HasRun x o s us m ps
 same_run {x = x} {o = o} {s = s} {us = us} {m = m} {os = os} e f run =
     subst (λ (q : List Order). HasRun x o s us m q) f (subst (λ (q : List SchedulerTurn). HasRun x o s q m os) e run)
-
-nothing_spent : (x : Prog) (limits : Limits) (m : Mach) → m.number ≡ 0 → 1 ≤ limits.instants → is_spent x limits m ≡ false
-nothing_spent x limits m zero_yet bound = lt-leb limits.instants m.number (omega arith)
-
-still_turns : (spent resting empty : Bool) → spent ≡ false → empty ≡ false → not spent && not (resting && empty) ≡ false → ⊥
-still_turns false true false s e h = cc
-still_turns false false false s e h = cc
-still_turns true resting empty s e h = cc
-still_turns false resting true s e h = cc
-
--- where no turn is left nothing waits
-pub nothing_waits : (x : Prog) (limits : Limits) (m : Mach) (orders : List Order) → has_turn x limits m orders ≡ false → (orders ≡ []) ⊎ (m.number ≡ 0) → 1 ≤ limits.instants → orders ≡ []
-nothing_waits x limits m [] turn first bound = refl
-nothing_waits x limits m (o ∷ os) turn (inl e) bound = e
-nothing_waits x limits m (o ∷ os) turn (inr e) bound =
-    absurd (still_turns (is_spent x limits m) (is_resting m) (length (o ∷ os) == 0) (nothing_spent x limits m e bound) (eqb-suc-zero (length os)) turn)
 
 unspent_turn : (spent rest : Bool) → not spent && rest ≡ true → spent ≡ false
 unspent_turn false rest e = refl

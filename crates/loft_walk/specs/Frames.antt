@@ -35,11 +35,11 @@ abbrev pub top_target : Resolved → List (Active (List Work)) → Option Target
 top_target p [] = None
 top_target p (r ∷ rs) = target_of (pause_at p r.module r.stop)
 
--- with a task that was taken from its work
+-- with a piece of work that was taken from its list
 abbrev pub active_with : Running → Task → Active (List Work)
 active_with r t = record (active r) { at = work_of_task t ∷ work_of r.work.items }
 
--- the frames that go on, where the task was taken from the innermost of them
+-- the frames that go on, where this piece of work was taken from the innermost of them
 abbrev pub live_of : Option (Running × Task) → List Running → List (Active (List Work))
 live_of None rs = []
 live_of (Some rt) rs = active_with rt.0 rt.1 ∷ actives rs

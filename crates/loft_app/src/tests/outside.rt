@@ -126,6 +126,14 @@ struct NotingGate {
     noted: AtomicU64,
 }
 
+impl NotingGate {
+    /// Notes a digit.
+    fn note(&self, digit: u64) {
+        let noted = self.noted.load(Ordering::SeqCst);
+        self.noted.store(noted.wrapping_mul(10).wrapping_add(digit), Ordering::SeqCst);
+    }
+}
+
 impl Gate for NotingGate {
     fn pass<R: Threads + Wait + Sync>(&self, _rt: &R, turn: Turn) {
         let digit = match turn {
@@ -135,20 +143,44 @@ impl Gate for NotingGate {
             } => number,
             _ => 0,
         };
-        let noted = self.noted.load(Ordering::SeqCst);
-        self.noted.store(noted.wrapping_mul(10).wrapping_add(digit), Ordering::SeqCst);
+        self.note(digit);
     }
 }
 
-/// Each turn passes the gate once, in order, with the number of its instant.
+/// A sink that notes its first piece as a 9, after the turns that a gate has noted.
+#[derive(Drop)]
+struct NotingSink<'a> {
+    gate: &'a NotingGate,
+    has_begun: bool,
+}
+
+impl Sink for NotingSink<'_> {
+    ghost written = { λ _. None };
+
+    ghost faults = { λ _. 0 };
+
+    fn put(&mut self, _bytes: &[u8]) -> Result<(), Failed> {
+        if !self.has_begun {
+            self.has_begun = true;
+            self.gate.note(9);
+        }
+        Ok(())
+    }
+}
+
+/// Each turn passes the gate once, in order, with the number of its instant, and nothing is written
+/// before the last of them.
 #[test]
 fn each_turn_passes_the_gate(rt: HostRuntime) -> Result<(), Fail> {
     let asked = words(rt.alloc(), &["run", "a"])?;
     let mut files = MemFiles::new(rt.alloc())?;
     files.add(rt.alloc(), "a", TWO_PRINTS)?;
-    let mut sink = MemSink::new(rt.alloc(), 4096)?;
     let gate = NotingGate {
         noted: AtomicU64::new(0),
+    };
+    let mut sink = NotingSink {
+        gate: &gate,
+        has_begun: false,
     };
     let status = loft_main(
         &rt,
@@ -159,7 +191,7 @@ fn each_turn_passes_the_gate(rt: HostRuntime) -> Result<(), Fail> {
         &gate,
     );
     assert_eq!(rt; status.code(), 0);
-    assert_eq!(rt; gate.noted.load(Ordering::SeqCst), 12);
+    assert_eq!(rt; gate.noted.load(Ordering::SeqCst), 129);
     Ok(())
 }
 

@@ -5,7 +5,7 @@ ghost use Rattle.std.specs.Fmt.{decimal, signed_decimal};
 ghost use Rattle.loft_tree.specs.declared.heads.Heads.{Heads};
 ghost use Rattle.loft_sense.specs.Text.{space, scheduler_name, event_name, sent_value, id_text, order_text};
 ghost use Rattle.loft_sense.specs.Lines.{end_line, mark_word, to_text, act_line, at_line, shared_line};
-ghost use Rattle.loft_sense.specs.Report.{standing_line};
+ghost use Rattle.loft_sense.specs.Report.{left_line, standing_line};
 
 use super::order_text::{push_order, push_sent_value};
 use super::thread_text::push_thread;
@@ -100,6 +100,22 @@ pub fn order_line(
 {
     let mut line = LineBuffer::new(alloc);
     push_mark(&mut line, mark)?;
+    push_order(&mut line, heads, order)?;
+    Ok(line)
+}
+
+/// The line of an order that is left over at a scheduler.
+pub fn left_order_line(
+    alloc: Global,
+    heads: &Heads,
+    s: SchedId,
+    order: &Order,
+) -> Result<LineBuffer, NoMemory>
+    ensures { IfOk result (λ line. line ≡ left_line heads.now s order.now) }
+{
+    let mut line = LineBuffer::new(alloc);
+    push_scheduler_name(&mut line, heads, s)?;
+    line.text(" ")?;
     push_order(&mut line, heads, order)?;
     Ok(line)
 }

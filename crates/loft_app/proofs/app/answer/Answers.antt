@@ -2,8 +2,8 @@ use Rattle.std.proofs.Common.{◌≡◌, ◌∙◌, ap, subst, Err, Result, inl,
 use Rattle.loft_app.specs.declared.refusal.Stopped.{Stopped}
 use Rattle.loft_app.specs.declared.refusal.Stopped.TheVariants as stopped
 use Rattle.loft_app.specs.declared.status.Status.TheVariants as status
-use Rattle.loft_app.specs.Command.{file_of}
-use Rattle.loft_app.specs.CommandView.{command_of}
+use Rattle.loft_words.specs.Command.{file_of}
+use Rattle.loft_words.specs.CommandView.{command_of}
 use Rattle.loft_app.specs.Answer.{Attempts}
 use Rattle.loft_app.proofs.AnswerLemmas.{done_answers, broken_answers, file_answers, refused_answers}
 use Rattle.loft_app.proofs.app.answer.Goals as goal

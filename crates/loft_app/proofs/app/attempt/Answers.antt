@@ -1,6 +1,6 @@
 use Rattle.std.proofs.Common.{◌≡◌, ◌∙◌, sym, ap, subst, ℕ, [], List, Option}
-use Rattle.loft_app.specs.Command.{Command, Run, Show, Check, file_of}
-use Rattle.loft_app.specs.CommandView.{command_of}
+use Rattle.loft_words.specs.Command.{Command, Run, Show, Check, file_of}
+use Rattle.loft_words.specs.CommandView.{command_of}
 use Rattle.loft_app.specs.Answer.{Attempts}
 use Rattle.loft_app.proofs.Doing.{does_attempts}
 use Rattle.loft_app.proofs.app.attempt.Goals as goal
@@ -10,7 +10,7 @@ returns-in-Run-clause-attempts g c =
     let known : List ℕ → Option (List ℕ) = λ file. g.F.Files.contents c.args.files.now file in
     let same : known c.file.result.now ≡ known (file_of (command_of c.args.command)) = ap known c.file.ensures in
     subst (λ (k : Command). Attempts k (known (file_of (command_of c.args.command))) c.run.result (g.S.Sink.written c.args.sink.now) (g.S.Sink.written c.run.new.sink)) (sym (ap command_of c.in-Run.is))
-    (does_attempts {c = Run c.in-Run.field-0.now} (λ contents t. c.in_ok-program.ensures.program contents (same ∙ t)) (c.run.ensures.does c.in-Run.field-0.now))
+    (does_attempts {c = Run c.in-Run.file.now c.in-Run.options} (λ contents t. c.in_ok-program.ensures.program contents (same ∙ t)) (c.run.ensures.does c.in-Run.file.now))
 
 pub returns-in-Show-clause-attempts : goal.returns-in-Show-clause-attempts
 returns-in-Show-clause-attempts g c =

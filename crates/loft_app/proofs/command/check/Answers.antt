@@ -4,7 +4,7 @@ use Rattle.std.proofs.lemmas.Result.{err_from_is_err_and}
 use Rattle.loft_tree.specs.View.{source_of}
 use Rattle.loft_app.specs.declared.refusal.Stopped.{Stopped}
 use Rattle.loft_app.specs.declared.refusal.Stopped.TheVariants as stopped
-use Rattle.loft_app.specs.Command.{Check}
+use Rattle.loft_words.specs.Command.{Check}
 use Rattle.loft_app.specs.Promise.{IsAnswerFor}
 use Rattle.loft_app.proofs.Doing.{failed_does}
 use Rattle.loft_app.proofs.Written.{begun}

@@ -227,6 +227,16 @@ fn every_kind_of_line(rt: HostRuntime) -> Result<(), Fail> {
             )?,
             shared: list(alloc, [3])?,
         },
+        left: list(
+            alloc,
+            [
+                Order::Broadcast {
+                    event: E,
+                    value: Some(4),
+                },
+                Order::Stop(start(1)),
+            ],
+        )?,
     };
     compare(
         &rt,
@@ -273,7 +283,9 @@ state 2
 suspended start.0 0 0 halt h:1[]()
 linked start.1 0 0 coop:0 h:1[]()
 shared x 3
-left 0
+left 2
+A broadcast e 4
+A stop start.1
 end
 ",
     )

@@ -74,6 +74,7 @@ fn two_prints(rt: HostRuntime) -> Result<(), Fail> {
             linked: Sequence::new(alloc),
             shared: Sequence::new(alloc),
         },
+        left: Sequence::new(alloc),
     };
     compare(
         &rt,

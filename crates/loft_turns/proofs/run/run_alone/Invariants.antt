@@ -1,10 +1,9 @@
-use Rattle.std.proofs.Common.{◌≡◌, ◌-◌, [], ◌⊎◌, false, All}
-use Rattle.loft_sense.specs.Fits.{Fits}
+use Rattle.std.proofs.Common.{◌≡◌, ◌-◌, false}
 use Rattle.loft_sense.specs.declared.limits.RunOptions.{RunOptions}
 use Rattle.loft_turns.specs.Running.{HasRun}
 use Rattle.loft_turns.proofs.run.run_alone.Given as goal
 
--- the turns so far are a history, and these orders wait, which fit; after the first turn none do
+-- the turns so far are a history, after which these orders wait
 abbrev pub invariant-turns : goal.invariant-turns
 invariant-turns g l =
     let e = g.E.Engine in
@@ -14,8 +13,6 @@ invariant-turns g l =
       same_program : e.program l.engine ≡ e.program l.fn.engine;
       same_limits : e.limits l.engine ≡ e.limits l.fn.engine;
       same_scheduler : e.scheduler l.engine ≡ l.scheduler;
-      fits : All (Fits (e.program l.fn.engine) l.scheduler) l.orders;
-      first : (l.orders ≡ []) ⊎ ((e.machine l.engine).number ≡ 0);
     }
 
 abbrev pub decreases-turns : goal.decreases-turns

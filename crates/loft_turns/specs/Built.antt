@@ -1,0 +1,24 @@
+-- The programs that can be run so far: what one thread does by itself (docs/LANGUAGE.md, "Programs that run").
+use Rattle.std.specs.Prelude.{Bool, true, false, not, ◌&&◌, ◌||◌, ◌==◌, length}
+use Rattle.std.specs.List.{list_any}
+use Rattle.loft_tree.specs.NamedTree.{NamedStatement, Unlink, If, While, Repeat, NamedStatements, Done, Then, NamedProgram}
+
+-- an `unlink`, or a statement with one in its bodies
+abbrev mutual
+  pub has_unlink : NamedStatement → Bool
+  has_unlink (Unlink at stop) = true
+  has_unlink (If at test first second) = body_has_unlink first || body_has_unlink second
+  has_unlink (While at test body) = body_has_unlink body
+  has_unlink (Repeat at count body) = body_has_unlink body
+  has_unlink statement = false
+
+  pub body_has_unlink : NamedStatements → Bool
+  body_has_unlink Done = false
+  body_has_unlink (Then first rest) = has_unlink first || body_has_unlink rest
+
+-- one scheduler, no `outside` item, no `unlink`
+abbrev pub is_built : NamedProgram → Bool
+is_built n =
+    (length n.heads.schedulers == 1)
+    && ((length n.heads.clients == 0)
+    && not (list_any (λ m. body_has_unlink m.body) n.modules))
