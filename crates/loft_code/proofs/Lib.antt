@@ -1,0 +1,5 @@
+pub mod SlotLemmas
+pub mod Checked
+pub mod Decided
+pub mod Leading
+pub mod Sample

@@ -1,0 +1,7 @@
+use Rattle.std.proofs.Common.{◌≡◌, drop}
+use Rattle.loft_code.specs.Names.{has_events}
+use Rattle.loft_code.proofs.names.has_events.Given as goal
+
+-- the events that are left decide
+abbrev pub invariant-loop-event : goal.invariant-loop-event
+invariant-loop-event l = has_events l.heads (drop l.event-index l.events) ≡ has_events l.heads l.events
