@@ -24,178 +24,188 @@ fn fault_of(alloc: Global, text: &[u8]) -> (&'static str, u32, u32) {
     }
 }
 
+/// Texts, each with the name of its fault, the place and the limit that it names.
+static FAULTS: [(&'static [u8], (&'static str, u32, u32)); 37] = [
+    (b";", ("expected", 0, 0)),
+    (b"#", ("bad byte", 0, 0)),
+    (b"scheduler ; #", ("bad byte", 12, 0)),
+    (b"9223372036854775808", ("bad number", 0, 0)),
+    (b"\"abc", ("open text", 0, 0)),
+    (
+        b"aaaaaaaaaaaaaaaaaaaaaaaaaaaaaaaaaaaaaaaaaaaaaaaaaaaaaaaaaaaaaaaaa",
+        ("long name", 0, 0),
+    ),
+    (
+        b"scheduler A; module m() in A print \"xxxxxxxxxxxxxxxxxxxxxxxxxxxxxxxxxxxxxxxxxxxxxxxxxxxxxxxxxxxxxxxxxxxxxxxxxxxxxxxxxxxxxxxxxxxxxxxxxxxxxxxxxxxxxxxxxxxxxxxxx\"; end",
+        ("long text", 35, 0),
+    ),
+    (b"scheduler A // the rest", ("expected", 23, 0)),
+    (
+        b"scheduler A; module m() in A print 1;",
+        ("expected", 37, 0),
+    ),
+    (b"scheduler A //", ("expected", 14, 0)),
+    (
+        b"scheduler A;module m() in A print 1 < 2 < 3; end",
+        ("expected", 40, 0),
+    ),
+    (
+        b"scheduler A; module m() in A print create A.m(); end",
+        ("expected", 35, 0),
+    ),
+    (b"scheduler A; start A.1();", ("expected", 21, 0)),
+    (b"scheduler A; shared x in A = --1;", ("expected", 30, 0)),
+    (
+        b"scheduler A; module m() in A if (1) then else else end end",
+        ("expected", 46, 0),
+    ),
+    (
+        b"scheduler A; module m() in A print 1 +; end",
+        ("expected", 38, 0),
+    ),
+    (
+        b"scheduler A; module m() in A link unlinked; end",
+        ("expected", 34, 0),
+    ),
+    (
+        b"scheduler A; module m() in A print 1; local int x; end",
+        ("expected", 38, 0),
+    ),
+    (
+        b"scheduler A;event e in A;module m() in A select e; end",
+        ("expected", 49, 0),
+    ),
+    (b"scheduler A; outside c { print 1; }", ("expected", 25, 0)),
+    (
+        b"scheduler A; module m() in A print ; end",
+        ("expected", 35, 0),
+    ),
+    (
+        b"scheduler A; module m() in A print 1, 2; end",
+        ("expected", 36, 0),
+    ),
+    (b"scheduler A; start A.m;", ("expected", 22, 0)),
+    (b"scheduler A; event e in unlinked;", ("expected", 24, 0)),
+    (b"scheduler print;", ("expected", 10, 0)),
+    (
+        b"scheduler A;start A.m(1,2,3,4,5,6,7,8,9);",
+        ("too many", 38, 8),
+    ),
+    (
+        b"scheduler A;module m() in A run m(1,1,1,1,1,1,1,1,(1)); end",
+        ("too many", 50, 8),
+    ),
+    (
+        b"scheduler A;start A.m(1,2,3,4,5,6,7,8,;",
+        ("expected", 38, 0),
+    ),
+    (
+        b"scheduler A;start A.m(1,2,3,4,5,6,7,8,-9);",
+        ("too many", 38, 8),
+    ),
+    (
+        b"scheduler A;event e in A;module m() in A select e,e,e,e,e,e,e,e,e; end",
+        ("too many", 64, 8),
+    ),
+    (
+        b"scheduler A;module m(int p0,int p1,int p2,int p3,int p4,int p5,int p6,int p7,int p8) in A end",
+        ("too many", 77, 8),
+    ),
+    (
+        b"scheduler A;module m() in A print 1+1+1+1+1+1+1+1+1+1+1+1+1+1+1+1+1+1+1+1+1+1+1+1+1+1+1+1+1+1+1+1+1+1+1+1+1+1+1+1+1+1+1+1+1+1+1+1+1+1+1+1+1+1+1+1+1+1+1+1+1+1+1+1+1; end",
+        ("too many", 162, 64),
+    ),
+    (
+        b"scheduler A;module m() in A print ---------------------------------1;end",
+        ("too deep", 66, 0),
+    ),
+    (
+        b"scheduler A;module m() in A print (((((((((((((((((((((((((((((((((1)))))))))))))))))))))))))))))))));end",
+        ("too deep", 66, 0),
+    ),
+    (
+        b"scheduler A;module m() in A if(1)then if(1)then if(1)then if(1)then if(1)then if(1)then if(1)then if(1)then if(1)then if(1)then if(1)then if(1)then if(1)then if(1)then if(1)then if(1)then if(1)then if(1)then if(1)then if(1)then if(1)then if(1)then if(1)then if(1)then if(1)then if(1)then if(1)then if(1)then if(1)then if(1)then if(1)then if(1)then run m(1,1,1,1,1,1,1,1,(1));",
+        ("too deep", 370, 0),
+    ),
+    (
+        b"scheduler A;module m() in A local int l0;local int l1;local int l2;local int l3;local int l4;local int l5;local int l6;local int l7;local int l8;local int l9;local int l10;local int l11;local int l12;local int l13;local int l14;local int l15;local int l16;local int l17;local int l18;local int l19;local int l20;local int l21;local int l22;local int l23;local int l24;local int l25;local int l26;local int l27;local int l28;local int l29;local int l30;local int l31;local int l32; end",
+        ("too many", 466, 32),
+    ),
+    (
+        b"scheduler S00;scheduler S01;scheduler S02;scheduler S03;scheduler S04;scheduler S05;scheduler S06;scheduler S07;scheduler S08;scheduler S09;scheduler S10;scheduler S11;scheduler S12;scheduler S13;scheduler S14;scheduler S15;scheduler S16;",
+        ("too many", 224, 16),
+    ),
+];
+
 #[test]
 fn faults_stand_at_their_places(rt: HostRuntime) {
-    let rows = [
-        (b";".as_slice(), ("expected", 0, 0)),
-        (b"#", ("bad byte", 0, 0)),
-        (b"scheduler ; #", ("bad byte", 12, 0)),
-        (b"9223372036854775808", ("bad number", 0, 0)),
-        (b"\"abc", ("open text", 0, 0)),
-        (
-            b"aaaaaaaaaaaaaaaaaaaaaaaaaaaaaaaaaaaaaaaaaaaaaaaaaaaaaaaaaaaaaaaaa",
-            ("long name", 0, 0),
-        ),
-        (
-            b"scheduler A; module m() in A print \"xxxxxxxxxxxxxxxxxxxxxxxxxxxxxxxxxxxxxxxxxxxxxxxxxxxxxxxxxxxxxxxxxxxxxxxxxxxxxxxxxxxxxxxxxxxxxxxxxxxxxxxxxxxxxxxxxxxxxxxxx\"; end",
-            ("long text", 35, 0),
-        ),
-        (b"scheduler A // the rest", ("expected", 23, 0)),
-        (
-            b"scheduler A; module m() in A print 1;",
-            ("expected", 37, 0),
-        ),
-        (b"scheduler A //", ("expected", 14, 0)),
-        (
-            b"scheduler A;module m() in A print 1 < 2 < 3; end",
-            ("expected", 40, 0),
-        ),
-        (
-            b"scheduler A; module m() in A print create A.m(); end",
-            ("expected", 35, 0),
-        ),
-        (b"scheduler A; start A.1();", ("expected", 21, 0)),
-        (b"scheduler A; shared x in A = --1;", ("expected", 30, 0)),
-        (
-            b"scheduler A; module m() in A if (1) then else else end end",
-            ("expected", 46, 0),
-        ),
-        (
-            b"scheduler A; module m() in A print 1 +; end",
-            ("expected", 38, 0),
-        ),
-        (
-            b"scheduler A; module m() in A link unlinked; end",
-            ("expected", 34, 0),
-        ),
-        (
-            b"scheduler A; module m() in A print 1; local int x; end",
-            ("expected", 38, 0),
-        ),
-        (
-            b"scheduler A;event e in A;module m() in A select e; end",
-            ("expected", 49, 0),
-        ),
-        (b"scheduler A; outside c { print 1; }", ("expected", 25, 0)),
-        (
-            b"scheduler A; module m() in A print ; end",
-            ("expected", 35, 0),
-        ),
-        (
-            b"scheduler A; module m() in A print 1, 2; end",
-            ("expected", 36, 0),
-        ),
-        (b"scheduler A; start A.m;", ("expected", 22, 0)),
-        (b"scheduler A; event e in unlinked;", ("expected", 24, 0)),
-        (b"scheduler print;", ("expected", 10, 0)),
-        (
-            b"scheduler A;start A.m(1,2,3,4,5,6,7,8,9);",
-            ("too many", 38, 8),
-        ),
-        (
-            b"scheduler A;module m() in A run m(1,1,1,1,1,1,1,1,(1)); end",
-            ("too many", 50, 8),
-        ),
-        (
-            b"scheduler A;start A.m(1,2,3,4,5,6,7,8,;",
-            ("expected", 38, 0),
-        ),
-        (
-            b"scheduler A;start A.m(1,2,3,4,5,6,7,8,-9);",
-            ("too many", 38, 8),
-        ),
-        (
-            b"scheduler A;event e in A;module m() in A select e,e,e,e,e,e,e,e,e; end",
-            ("too many", 64, 8),
-        ),
-        (
-            b"scheduler A;module m(int p0,int p1,int p2,int p3,int p4,int p5,int p6,int p7,int p8) in A end",
-            ("too many", 77, 8),
-        ),
-        (
-            b"scheduler A;module m() in A print 1+1+1+1+1+1+1+1+1+1+1+1+1+1+1+1+1+1+1+1+1+1+1+1+1+1+1+1+1+1+1+1+1+1+1+1+1+1+1+1+1+1+1+1+1+1+1+1+1+1+1+1+1+1+1+1+1+1+1+1+1+1+1+1+1; end",
-            ("too many", 162, 64),
-        ),
-        (
-            b"scheduler A;module m() in A print ---------------------------------1;end",
-            ("too deep", 66, 0),
-        ),
-        (
-            b"scheduler A;module m() in A print (((((((((((((((((((((((((((((((((1)))))))))))))))))))))))))))))))));end",
-            ("too deep", 66, 0),
-        ),
-        (
-            b"scheduler A;module m() in A if(1)then if(1)then if(1)then if(1)then if(1)then if(1)then if(1)then if(1)then if(1)then if(1)then if(1)then if(1)then if(1)then if(1)then if(1)then if(1)then if(1)then if(1)then if(1)then if(1)then if(1)then if(1)then if(1)then if(1)then if(1)then if(1)then if(1)then if(1)then if(1)then if(1)then if(1)then if(1)then run m(1,1,1,1,1,1,1,1,(1));",
-            ("too deep", 370, 0),
-        ),
-        (
-            b"scheduler A;module m() in A local int l0;local int l1;local int l2;local int l3;local int l4;local int l5;local int l6;local int l7;local int l8;local int l9;local int l10;local int l11;local int l12;local int l13;local int l14;local int l15;local int l16;local int l17;local int l18;local int l19;local int l20;local int l21;local int l22;local int l23;local int l24;local int l25;local int l26;local int l27;local int l28;local int l29;local int l30;local int l31;local int l32; end",
-            ("too many", 466, 32),
-        ),
-        (
-            b"scheduler S00;scheduler S01;scheduler S02;scheduler S03;scheduler S04;scheduler S05;scheduler S06;scheduler S07;scheduler S08;scheduler S09;scheduler S10;scheduler S11;scheduler S12;scheduler S13;scheduler S14;scheduler S15;scheduler S16;",
-            ("too many", 224, 16),
-        ),
-    ];
-    for (text, expected) in rows {
-        assert_eq!(rt; fault_of(rt.alloc(), text), expected, "{text:?}");
+    for (text, expected) in &FAULTS {
+        assert_eq!(rt; fault_of(rt.alloc(), text), *expected, "{text:?}");
     }
 }
 
-/// A text of so many times this, between what stands before and behind.
+/// A text of so many times this, between what stands before and after.
 fn repeated(
     alloc: Global,
     before: &[u8],
     this: &[u8],
     times: usize,
-    behind: &[u8],
+    after: &[u8],
 ) -> Result<Vec<u8>, AllocError> {
     let mut text = Vec::from_slice(alloc, before)?;
     for _ in 0..times {
         text.extend_from_slice(this)?;
     }
-    text.extend_from_slice(behind)?;
+    text.extend_from_slice(after)?;
     Ok(text)
 }
 
+/// A text between two, as often as this, and the fault of the whole.
+static REPEATED: [(
+    &'static [u8],
+    &'static [u8],
+    usize,
+    &'static [u8],
+    (&'static str, u32, u32),
+); 7] = [
+    (
+        b" ",
+        b"                                                                ",
+        65536,
+        b"",
+        ("too long", 0, 0),
+    ),
+    (b"module m()in A ", b"halt;", 4096, b"end", ("none", 0, 0)),
+    (
+        b"module m()in A ",
+        b"halt;",
+        4097,
+        b"end",
+        ("too many", 20495, 4096),
+    ),
+    (b"module m()in A x=1", b"+1", 63, b";end", ("none", 0, 0)),
+    (
+        b"module m()in A x=1",
+        b"+1",
+        64,
+        b";end",
+        ("too many", 145, 64),
+    ),
+    (b"module m()in A x=", b"!", 32, b"1;end", ("none", 0, 0)),
+    (
+        b"module m()in A x=",
+        b"(",
+        33,
+        b"1;end",
+        ("too deep", 49, 0),
+    ),
+];
+
 #[test]
 fn programs_may_be_as_large_as_the_limits(rt: HostRuntime) -> Result<(), Fail> {
-    let rows = [
-        (
-            b" ".as_slice(),
-            b"                                                                ".as_slice(),
-            65536,
-            b"".as_slice(),
-            ("too long", 0, 0),
-        ),
-        (b"module m()in A ", b"halt;", 4096, b"end", ("none", 0, 0)),
-        (
-            b"module m()in A ",
-            b"halt;",
-            4097,
-            b"end",
-            ("too many", 20495, 4096),
-        ),
-        (b"module m()in A x=1", b"+1", 63, b";end", ("none", 0, 0)),
-        (
-            b"module m()in A x=1",
-            b"+1",
-            64,
-            b";end",
-            ("too many", 145, 64),
-        ),
-        (b"module m()in A x=", b"!", 32, b"1;end", ("none", 0, 0)),
-        (
-            b"module m()in A x=",
-            b"(",
-            33,
-            b"1;end",
-            ("too deep", 49, 0),
-        ),
-    ];
-    for (before, this, times, behind, expected) in rows {
-        let text = repeated(rt.alloc(), before, this, times, behind)?;
-        assert_eq!(rt; fault_of(rt.alloc(), text.as_slice()), expected, "{times}");
+    for (before, this, times, after, expected) in &REPEATED {
+        let text = repeated(rt.alloc(), before, this, *times, after)?;
+        assert_eq!(rt; fault_of(rt.alloc(), text.as_slice()), *expected, "{times}");
     }
     Ok(())
 }
@@ -226,38 +236,40 @@ fn label_of(statement: &Stmt) -> (&'static str, u32) {
     }
 }
 
+/// What the statements of the text below are, and their places.
+static STATEMENTS: [(&'static str, u32); 20] = [
+    ("assign", 15),
+    ("assign create", 22),
+    ("create", 36),
+    ("print text", 50),
+    ("print value", 62),
+    ("cooperate", 71),
+    ("generate", 82),
+    ("await", 94),
+    ("select", 109),
+    ("get", 121),
+    ("join", 140),
+    ("control", 148),
+    ("broadcast", 163),
+    ("link", 178),
+    ("unlink", 186),
+    ("run", 194),
+    ("halt", 206),
+    ("if", 212),
+    ("while", 241),
+    ("repeat", 261),
+];
+
 #[test]
 fn statements_have_their_kinds_and_places(rt: HostRuntime) {
     let text =
         b"module m()in A x=1; t=create A.m(); create A.m(); print\"t\",1; print 2; cooperate; generate e; await e for 1; select e,g; get e at 0 into x; join t; resume t in A; broadcast e,3; link A; unlink; run m(1,2); halt; if(1)then halt;else halt;end while(1)do halt;end repeat(2)do halt;end end";
-    let expected = [
-        ("assign", 15),
-        ("assign create", 22),
-        ("create", 36),
-        ("print text", 50),
-        ("print value", 62),
-        ("cooperate", 71),
-        ("generate", 82),
-        ("await", 94),
-        ("select", 109),
-        ("get", 121),
-        ("join", 140),
-        ("control", 148),
-        ("broadcast", 163),
-        ("link", 178),
-        ("unlink", 186),
-        ("run", 194),
-        ("halt", 206),
-        ("if", 212),
-        ("while", 241),
-        ("repeat", 261),
-    ];
     match parse(rt.alloc(), text) {
         Ok(program) => match program.items() {
             [Item::Module { body, .. }] => {
-                assert_eq!(rt; body.len(), expected.len());
-                for (statement, expected) in body.iter().zip(expected) {
-                    assert_eq!(rt; label_of(statement), expected);
+                assert_eq!(rt; body.len(), STATEMENTS.len());
+                for (statement, expected) in body.iter().zip(&STATEMENTS) {
+                    assert_eq!(rt; label_of(statement), *expected);
                 }
             }
             _ => assert!(rt; false),
