@@ -30,14 +30,7 @@ fn answer_within<R: Threads + Wait + Sync + AllocGlobal>(
     let mut files = MemFiles::new(rt.alloc())?;
     files.add(rt.alloc(), "a", contents)?;
     let mut sink = MemSink::new(rt.alloc(), capacity)?;
-    let status = loft_main(
-        rt,
-        rt.alloc(),
-        asked,
-        &mut files,
-        &mut sink,
-        &OpenGate,
-    );
+    let status = loft_main(rt, rt.alloc(), asked, &mut files, &mut sink, &OpenGate);
     Ok((status.code(), Vec::from_slice(rt.alloc(), sink.bytes())?))
 }
 
