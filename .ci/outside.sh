@@ -67,14 +67,19 @@ wrote "a pipe as standard input" "$report"
 wants "a named pipe" 0 answer_of_pipe
 wrote "a named pipe" "$report"
 
-# A source of 4 MiB, and one that has a byte more.
+# A source of 4 MiB, one that has a byte more, and one of as many bytes that are no tokens.
 { cat "$source"; head -c 4194305 /dev/zero | tr '\0' ' '; } > "$room/blanks"
 head -c 4194304 "$room/blanks" > "$room/long"
 head -c 4194305 "$room/blanks" > "$room/longer"
+head -c 4194305 /dev/zero > "$room/zeros"
 wants "4 MiB" 0 answer check "$room/long"
 wrote "4 MiB" "$room/ok"
-wants "more than 4 MiB" 3 answer check "$room/longer"
-wrote "more than 4 MiB" "$room/too_long"
+for command in run show check; do
+    for contents in longer zeros; do
+        wants "$command, more than 4 MiB: $contents" 3 answer "$command" "$room/$contents"
+        wrote "$command, more than 4 MiB: $contents" "$room/too_long"
+    done
+done
 
 wants "no words" 2 answer
 wrote "no words" "$room/usage"

@@ -7,8 +7,6 @@ mod piece;
 mod reading;
 mod sign;
 mod symbol;
-#[cfg(test)]
-mod tests;
 mod token;
 mod word;
 

@@ -381,8 +381,8 @@ unfoldable pub body : Form (List Statement)
 body = many statement
 
 -- "(" expression ")"
-unfoldable pub test : Form Expression
-test = made (λ x. x.1.0) (sign s.Open ▹ whole ▹ sign s.Close)
+unfoldable pub condition : Form Expression
+condition = made (λ x. x.1.0) (sign s.Open ▹ whole ▹ sign s.Close)
 
 -- "else" body
 unfoldable pub otherwise : Form (List Statement)
@@ -390,11 +390,11 @@ otherwise = made (λ x. x.1) (word w.Else ▹ body)
 
 -- "(" expression ")" "then" body [ "else" body ]
 unfoldable pub branches : Form (Expression × (List Statement × Option (List Statement)))
-branches = made (λ x. (x.0, (x.1.1.0, x.1.1.1))) (test ▹ word w.Then ▹ body ▹ maybe otherwise)
+branches = made (λ x. (x.0, (x.1.1.0, x.1.1.1))) (condition ▹ word w.Then ▹ body ▹ maybe otherwise)
 
 -- "(" expression ")" "do" body
 unfoldable pub turns : Form (Expression × List Statement)
-turns = made (λ x. (x.0, x.1.1)) (test ▹ word w.Do ▹ body)
+turns = made (λ x. (x.0, x.1.1)) (condition ▹ word w.Do ▹ body)
 
 -- the rules that stand inside themselves
 abbrev pub rules : Grammar Language

@@ -4,7 +4,7 @@ ghost use Rattle.std.specs.Option.{option_map};
 ghost use Rattle.loft_tree.specs.View.{expression_of, statement_of};
 ghost use Rattle.loft_form.specs.Form.{maybe};
 ghost use Rattle.loft_form.specs.Reading.{Gives};
-ghost use Rattle.loft_parse.specs.Grammar.{test, conditional, while_loop, repeat, moving_statement, statement, body, otherwise, branches, turns};
+ghost use Rattle.loft_parse.specs.Grammar.{condition, conditional, while_loop, repeat, moving_statement, statement, body, otherwise, branches, turns};
 ghost use Rattle.loft_parse.specs.View.{reads, viewed, statement_list_of, branches_of, turns_of};
 
 use crate::cursor::Cursor;
@@ -22,9 +22,9 @@ use loft_tree::{Expr, Stmt};
 use std::alloc::Global;
 
 /// The condition of an `if` or a loop, with its brackets.
-#[tactic(auto, unfolding(crate::specs::Grammar::test))]
-fn test<'a>(alloc: Global, deeper: u32, at: Cursor<'a>) -> Result<(Expr, Cursor<'a>), Stop>
-    ensures { Gives (viewed expression_of) result (reads deeper test at.entry) }
+#[tactic(auto, unfolding(crate::specs::Grammar::condition))]
+fn condition<'a>(alloc: Global, deeper: u32, at: Cursor<'a>) -> Result<(Expr, Cursor<'a>), Stop>
+    ensures { Gives (viewed expression_of) result (reads deeper condition at.entry) }
 {
     let at = sign(Sign::Open, at)?;
     let (e, at) = whole(alloc, deeper, at)?;
@@ -172,7 +172,7 @@ fn branches<'a>(
 ) -> Result<((Expr, Vec<Stmt>, Option<Vec<Stmt>>), Cursor<'a>), Stop>
     ensures { Gives (viewed branches_of) result (reads deeper branches at.entry) }
 {
-    let (test, at) = test(alloc, deeper, at)?;
+    let (test, at) = condition(alloc, deeper, at)?;
     let at = word(Word::Then, at)?;
     let (first, at) = body(alloc, deeper, at)?;
     let (second, at) = otherwise(alloc, deeper, at)?;
@@ -188,7 +188,7 @@ fn turns<'a>(
 ) -> Result<((Expr, Vec<Stmt>), Cursor<'a>), Stop>
     ensures { Gives (viewed turns_of) result (reads deeper turns at.entry) }
 {
-    let (test, at) = test(alloc, deeper, at)?;
+    let (test, at) = condition(alloc, deeper, at)?;
     let at = word(Word::Do, at)?;
     let (body, at) = body(alloc, deeper, at)?;
     Ok(((test, body), at))

@@ -18,8 +18,6 @@ mod optional;
 mod order;
 mod source;
 mod symbol;
-#[cfg(test)]
-mod tests;
 mod thread_statement;
 mod token;
 mod value_statement;

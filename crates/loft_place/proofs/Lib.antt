@@ -4,4 +4,3 @@ pub mod Answered
 pub mod Decided
 pub mod Declared
 pub mod Reaching
-pub mod Sample

@@ -6,8 +6,6 @@ mod laws;
 mod links;
 mod needs;
 mod placed;
-#[cfg(test)]
-mod tests;
 mod walk;
 
 pub use error::PlaceError;

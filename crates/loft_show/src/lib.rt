@@ -12,8 +12,6 @@ mod pieces;
 mod program;
 mod simple;
 mod statement;
-#[cfg(test)]
-mod tests;
 
 pub use law::canon_reads;
 pub use program::show;

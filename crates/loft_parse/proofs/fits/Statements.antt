@@ -6,7 +6,7 @@ use Rattle.loft_tree.specs.Source.{Ident, Expression, Creation, Statement as Any
 use Rattle.loft_tree.specs.View.{body_of}
 use Rattle.loft_tree.specs.Fits.{Each, IfThere, NameFits, EventNameFits, ExpressionFits, ArgumentsFit, CreationFits, StatementFits, StatementsFit, size_of, size}
 use Rattle.loft_parse.specs.Language.{Conditional, Looped}
-use Rattle.loft_parse.specs.Grammar.{text, event_name, assignment_of, print_of, else_of, whole, argument, arguments, creation, behind_comma, time_limit, assigned, assignment, printed, print, create, cooperate, generate, await_event, choice, choices, select, get, join, control, broadcast, link, unlink, run, halt, conditional, while_loop, repeat, value_statement, event_statement, thread_statement, moving_statement, statement, body, test, otherwise, branches, turns}
+use Rattle.loft_parse.specs.Grammar.{text, event_name, assignment_of, print_of, else_of, whole, argument, arguments, creation, behind_comma, time_limit, assigned, assignment, printed, print, create, cooperate, generate, await_event, choice, choices, select, get, join, control, broadcast, link, unlink, run, halt, conditional, while_loop, repeat, value_statement, event_statement, thread_statement, moving_statement, statement, body, condition, otherwise, branches, turns}
 use Rattle.loft_parse.specs.declared.counts.Counted.TheVariants.{Statement, Argument, Choice}
 use Rattle.loft_parse.proofs.fits.Expressions.{name_fits, whole_fits}
 use Rattle.loft_parse.proofs.fits.Lists.{many_counts, further_gives, further_counts, in_brackets_gives}
@@ -147,8 +147,8 @@ module _ {n : ℕ} (branches_inside : Gives n (inside Conditional) (BranchesFit 
   unfolding body statement
   body_fits = gives_so (gives_many (value_fits or event_fits or thread_fits or moving_fits)) (each_fits n)
 
-  test_fits : Gives n test (ExpressionFits n)
-  unfolding test
+  test_fits : Gives n condition (ExpressionFits n)
+  unfolding condition
   test_fits = gives_made (gives_any ▸ expression_fits ▸ gives_any) (λ x h. h.1.0)
 
   branches_fit : Gives n branches (BranchesFit (suc n))
@@ -230,7 +230,7 @@ module _ {n : ℕ} (branches_inside : Weighs n Statement (inside Conditional) br
   unfolding body statement
   body_counts = weighs_so (weighs_many (weighs_either value_size (weighs_either event_size (weighs_either thread_size moving_size)))) body_size
 
-  test_counts : Weighs n Statement test (λ _. 0)
+  test_counts : Weighs n Statement condition (λ _. 0)
   unfolding statement_rules
   test_counts = weighs_none refl
 

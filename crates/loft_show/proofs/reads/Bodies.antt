@@ -9,7 +9,7 @@ use Rattle.loft_tree.specs.Fits.{ExpressionFits, StatementFits, StatementsFit, s
 use Rattle.loft_form.specs.Form.{maybe, inside}
 use Rattle.loft_form.specs.Reading.{paid}
 use Rattle.loft_parse.specs.Language.{Rule, Meaning, Conditional, Looped}
-use Rattle.loft_parse.specs.Grammar.{rules, else_of, conditional, while_loop, repeat, moving_statement, statement, body, test, otherwise, branches, turns}
+use Rattle.loft_parse.specs.Grammar.{rules, else_of, conditional, while_loop, repeat, moving_statement, statement, body, condition, otherwise, branches, turns}
 use Rattle.loft_show.specs.Canon.{Piece, Line, tight, spaced, word, sign, expression_pieces, test_line, end_line, statement_lines, body_lines, else_lines}
 use Rattle.loft_show.specs.Places.{bare_expression, bare_body}
 use Rattle.loft_show.proofs.reads.Spelling as spelling
@@ -64,8 +64,8 @@ BodyIs n ss k = Several (size ss) n body (line_pieces (body_lines ss k)) (list_o
 abbrev ElseIs : ℕ → Statements → ℕ → Type 0
 ElseIs n ss k = Several (size ss) n (maybe otherwise) (line_pieces (else_lines ss k)) (else_list (bare_body ss))
 
-test_is : {n : ℕ} (e : Expression) → ExpressionFits n e → Part n test (spaced (sign s.Open) ∷ (expression_pieces e [] ++ tight (sign s.Close) ∷ [])) (bare_expression e)
-unfolding test
+test_is : {n : ℕ} (e : Expression) → ExpressionFits n e → Part n condition (spaced (sign s.Open) ∷ (expression_pieces e [] ++ tight (sign s.Close) ∷ [])) (bare_expression e)
+unfolding condition
 test_is e fits = built (sign_is s.Open then whole_is e [] fits then sign_is s.Close)
 
 else_is : (n k : ℕ) (ss : Statements) → BodyIs n ss (k + 2) → ElseIs n ss k
