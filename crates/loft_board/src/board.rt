@@ -37,6 +37,13 @@ impl Board {
         Ok(Board { events: absent })
     }
 
+    /// How many events it was made for.
+    pub fn events(&self) -> usize
+        ensures { result ≡ length self.now }
+    {
+        self.events.len()
+    }
+
     /// No event is present any more, as an instant ends. It takes no memory, and keeps the room of
     /// the values.
     pub fn reset(&mut self)

@@ -13,6 +13,7 @@ fn crosses_threads<T: Send + Sync>(_value: &T) {}
 fn events_with_and_without_values(rt: HostRuntime) -> Result<(), Fail> {
     let (first, second, third) = (EventId(0), EventId(1), EventId(2));
     let mut board = Board::new(rt.alloc(), 3)?;
+    assert_eq!(rt; board.events(), 3);
     assert!(rt; !board.has(first) && !board.has(second) && !board.has(third));
     board.generate(first);
     board.generate_value(rt.alloc(), third, 7)?;
