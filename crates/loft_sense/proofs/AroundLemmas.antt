@@ -28,7 +28,7 @@ use Rattle.loft_sense.specs.declared.limits.TheConstants.{MAX_FRAMES, MAX_ENTRIE
 use Rattle.loft_sense.specs.declared.limits.Limits.{Limits}
 use Rattle.loft_sense.specs.declared.order.Order.{Order}
 use Rattle.loft_sense.specs.declared.order.Order.TheVariants as order
-use Rattle.loft_sense.specs.Machine.{Prog, Tree, Mach, heads}
+use Rattle.loft_sense.specs.Machine.{Prog, Tree, Code, Mach, heads}
 use Rattle.loft_sense.specs.Around.{Around, Beside, done, entered}
 use Rattle.loft_sense.specs.Eval.{eval, eval_all, eval_if, number_of, number_if, thread_or}
 use Rattle.loft_sense.specs.CanGo.{has_any, is_index, is_known}
@@ -37,6 +37,7 @@ use Rattle.loft_sense.specs.Runs.{is_entry, KeepsEvents, instant_walk}
 use Rattle.loft_sense.specs.Codes.{IsPending}
 use Rattle.loft_sense.specs.Run.{Next, Finish, Stuck, Acts, Passes, Tests, Counts, Holds, Runs, Control, Active, Outcome, Held, Left, Ended, ends, live, effect_on, test_on, count_on, run_on, begun_frame, stopped, step, step_on, no_step, going, go_on, go, here, beside, actives_of}
 use Rattle.loft_sense.specs.Tree.{tree}
+use Rattle.loft_sense.specs.Code.{code}
 use Rattle.loft_sense.specs.Passes.{Runner, Walk, is_ready, run_of, around_after, walked, pass, passes_within, steps_left, passes}
 use Rattle.loft_sense.specs.Apply.{Applied, is_linked, apply_order, apply_orders, unapplied, apply}
 use Rattle.loft_sense.specs.Instant.{runner_of, around_of, instant}
@@ -288,6 +289,7 @@ go_on_so c (suc left) w b (r ∷ rs) =
 pub run_is : (x : Prog) (t : Thread) (around : Around) (n : ℕ) → OutcomeIs around (run_of x t around n)
 unfolding go
 run_is (Tree p) t around n = go_on_so (tree p) n t.wait (beside t around) (actives_of (tree p) t)
+run_is (Code c) t around n = go_on_so (code c) n t.wait (beside t around) (actives_of (code c) t)
 
 outcome_follows : (a : Around) (o : Outcome) → OutcomeIs a o → Follows a (around_after o)
 outcome_follows a (Held t b left) p = p.0

@@ -12,10 +12,11 @@ use Rattle.loft_sense.specs.declared.order.End.TheVariants.{Over}
 use Rattle.loft_sense.specs.declared.order.Order.{Order}
 use Rattle.loft_sense.specs.declared.note.Standing.{Standing}
 use Rattle.loft_sense.specs.declared.limits.Limits.{Limits}
-use Rattle.loft_sense.specs.Machine.{Prog, Tree, Mach}
+use Rattle.loft_sense.specs.Machine.{Prog, Tree, Code, Mach}
 use Rattle.loft_sense.specs.Around.{Around, Beside}
 use Rattle.loft_sense.specs.Run.{Active, Outcome, Held, Left, Ended, ends, no_step, go, here, beside, active_of}
 use Rattle.loft_sense.specs.Tree.{tree}
+use Rattle.loft_sense.specs.Code.{code}
 use Rattle.loft_sense.specs.Passes.{Runner, Walk, is_ready, run_of, runners_after, around_after, walked, pass, passes_within, steps_left, passes}
 use Rattle.loft_sense.specs.Apply.{apply}
 use Rattle.loft_sense.specs.Instant.{runner_of, around_of, has_run}
@@ -119,6 +120,8 @@ pub over_without_steps : (x : Prog) (t : Thread) (around : Around) (outer : List
 unfolding go
 over_without_steps (Tree p) t around outer f e =
     over_at (beside t around) (active_of (tree p) f) (map (active_of (tree p)) (reverse outer)) _ (ap (map (active_of (tree p))) (innermost outer f t.frames e))
+over_without_steps (Code c) t around outer f e =
+    over_at (beside t around) (active_of (code c) f) (map (active_of (code c)) (reverse outer)) _ (ap (map (active_of (code c))) (innermost outer f t.frames e))
 
 -- one that has run as often as the budget allows has none
 pub last_run : (x : Prog) (budget : ℕ) (r : Runner) (around : Around) (outer : List Frame) (f : Frame) → r.runs + r.left ≤ budget → r.runs ≡ budget → r.thread.frames ≡ outer ++ f ∷ []

@@ -6,12 +6,13 @@ use Rattle.loft_base.specs.declared.ids.Value.{Value}
 use Rattle.loft_sense.specs.declared.limits.TheConstants.{MAX_FRAMES}
 use Rattle.loft_sense.specs.declared.thread.Thread.{Thread}
 use Rattle.loft_sense.specs.declared.thread.Wait.{Wait}
-use Rattle.loft_sense.specs.Machine.{Prog, Tree}
+use Rattle.loft_sense.specs.Machine.{Prog, Tree, Code}
 use Rattle.loft_sense.specs.Around.{Around, Beside}
 use Rattle.loft_sense.specs.Eval.{eval, eval_all, number_of}
 use Rattle.loft_sense.specs.Statements.{Effect, GoesOn, Waits, Leaves, Dies, did, begun, answered}
 use Rattle.loft_sense.specs.Run.{Next, Finish, Stuck, Acts, Passes, Tests, Counts, Holds, Runs, Control, Active, Outcome, Held, Left, Ended, live, effect_on, test_on, count_on, run_on, begun_frame, stopped, step, step_on, no_step, going, go_on, go, here, beside, actives_of}
 use Rattle.loft_sense.specs.Tree.{tree}
+use Rattle.loft_sense.specs.Code.{code}
 use Rattle.loft_sense.specs.Passes.{run_of}
 
 -- fewer steps are left than n where the thread still stands, and no more where it has ended
@@ -85,3 +86,4 @@ below_go_on c (suc left) wait b (r ∷ rs) =
 pub run_takes_step : (x : Prog) (t : Thread) (around : Around) (n : ℕ) → IsBelow (run_of x t around n) n
 unfolding go
 run_takes_step (Tree p) t around n = below_go_on (tree p) n t.wait (beside t around) (actives_of (tree p) t)
+run_takes_step (Code c) t around n = below_go_on (code c) n t.wait (beside t around) (actives_of (code c) t)

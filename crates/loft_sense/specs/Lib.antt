@@ -7,6 +7,7 @@ pub mod Eval
 pub mod Statements
 pub mod Run
 pub mod Tree
+pub mod Code
 pub mod Stands
 pub mod Passes
 pub mod Apply

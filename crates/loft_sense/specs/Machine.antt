@@ -4,15 +4,18 @@ use Rattle.loft_base.specs.declared.ids.SchedId.{SchedId}
 use Rattle.loft_base.specs.declared.ids.ThreadId.{ThreadId}
 use Rattle.loft_tree.specs.declared.heads.Heads.{Heads}
 use Rattle.loft_tree.specs.Resolved.{Resolved}
+use Rattle.loft_code.specs.Operations.{Automata}
 use Rattle.loft_sense.specs.declared.note.Standing.{Standing}
 use Rattle.loft_sense.specs.Heads.{shared_values}
 
--- a program: a source tree
+-- a program: a source tree, or code
 pub data Prog : Type 0 where
   Tree : (p : Resolved) → Prog
+  Code : (c : Automata) → Prog
 
 abbrev pub heads : Prog → Heads
 heads (Tree p) = p.heads
+heads (Code c) = c.heads
 
 -- a scheduler between two instants
 pub record Mach : Type 0 where

@@ -1,11 +1,12 @@
 -- The passes of an instant: all linked threads in order, again and again, until nobody runs (docs/SEMANTICS.md, "Passes").
 use Rattle.std.specs.Prelude.{ℕ, zero, suc, ◌+◌, Bool, true, false, not, ◌||◌, ◌&&◌, List, [], ◌∷◌, ◌++◌, Option, Some, is_some, if◌then◌else◌}
 use Rattle.loft_sense.specs.declared.thread.Thread.{Thread}
-use Rattle.loft_sense.specs.Machine.{Prog, Tree}
+use Rattle.loft_sense.specs.Machine.{Prog, Tree, Code}
 use Rattle.loft_sense.specs.declared.order.To.{To}
 use Rattle.loft_sense.specs.Around.{Around}
 use Rattle.loft_sense.specs.Run.{Outcome, Held, Left, Ended, go}
 use Rattle.loft_sense.specs.Tree.{tree}
+use Rattle.loft_sense.specs.Code.{code}
 use Rattle.loft_sense.specs.CanGo.{can_go}
 
 -- a linked thread in an instant: whether it is suspended, how often it has run in this instant and how many steps it may still
@@ -26,6 +27,7 @@ pub record Walk : Type 0 where
 -- one run of a thread of the program
 abbrev pub run_of : Prog → Thread → Around → ℕ → Outcome
 run_of (Tree p) t around left = go (tree p) t around left
+run_of (Code c) t around left = go (code c) t around left
 
 -- a thread after one more run. One that ended isn't linked any more; one that leaves is, until the close.
 abbrev pub runners_after : Runner → Outcome → List Runner

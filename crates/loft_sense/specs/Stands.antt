@@ -1,5 +1,6 @@
 -- Threads that stand in a program at a place (docs/SEMANTICS.md, "Stands").
 use Rattle.std.specs.Prelude.{◌≡◌, ◌⊎◌, ℕ, zero, suc, ◌+◌, ◌≤◌, ℤ, pos, ◌≤ℤ◌, IsTrue, List, [], ◌∷◌, ◌++◌, length, reverse, Option, Some, None, slice_get}
+use Rattle.std.specs.Option.{option_and_then}
 use Rattle.loft_base.specs.declared.ids.ModuleId.{ModuleId}
 use Rattle.loft_base.specs.declared.ids.ThreadId.{ThreadId}
 use Rattle.loft_base.specs.declared.ids.Value.{Value}
@@ -14,8 +15,11 @@ use Rattle.loft_sense.specs.declared.thread.Wait.TheVariants as wait
 use Rattle.loft_sense.specs.declared.thread.Frame.{Frame}
 use Rattle.loft_sense.specs.declared.thread.Thread.{Thread}
 use Rattle.loft_sense.specs.declared.limits.TheConstants.{MAX_FRAMES}
-use Rattle.loft_sense.specs.Machine.{Prog, Tree, heads}
+use Rattle.loft_code.specs.Operations.{Operation, Line, Automata}
+use Rattle.loft_code.specs.Operations as op
+use Rattle.loft_sense.specs.Machine.{Prog, Tree, Code, heads}
 use Rattle.loft_sense.specs.Tree.{first_some, at_stop, body_at}
+use Rattle.loft_sense.specs.Code.{lines_at, stop_from}
 
 -- what a stop of a module is
 pub data StopKind : Type 0 where
@@ -90,10 +94,42 @@ abbrev pub tree_stop : Resolved → ModuleId → ℕ → Option StopAt
 tree_stop p m zero = Some (record { kind = Begins; depth = 0; after = begin_of p.heads m })
 tree_stop p m (suc k) = stop_in p.heads (body_at p m) (suc k) 0 (begin_of p.heads m)
 
+-- ---- the stops of code
+
+abbrev pub kind_of : Operation → Option StopKind
+kind_of (op.Do action) = None
+kind_of (op.Hold k pause) = Some (Pauses pause)
+kind_of (op.Call k m arguments) = Some (Calls m)
+kind_of (op.Branch t test) = None
+kind_of op.Enter = None
+kind_of (op.Count e) = None
+kind_of (op.Turn t) = None
+kind_of (op.Jump t) = None
+kind_of op.End = None
+
+-- a stop of this kind, after which a thread goes on at this operation
+abbrev pub stop_before : Option StopKind → Option Line → Option StopAt
+stop_before None next = None
+stop_before (Some kind) None = None
+stop_before (Some kind) (Some next) = Some (record { kind = kind; depth = next.depth; after = next.place })
+
+-- operation p as a stop
+abbrev pub stop_at_line : List Line → Option ℕ → Option StopAt
+stop_at_line lines None = None
+stop_at_line lines (Some p) = stop_before (option_and_then (λ l. kind_of l.operation) (slice_get lines p)) (slice_get lines (p + 1))
+
+abbrev pub line_stop : List Line → ℕ → Option StopAt
+line_stop lines zero = stop_before (Some Begins) (slice_get lines 0)
+line_stop lines (suc k) = stop_at_line lines (stop_from 0 lines (suc k))
+
+abbrev pub code_stop : Automata → ModuleId → ℕ → Option StopAt
+code_stop c m k = line_stop (lines_at c m) k
+
 -- ---- threads
 
 abbrev pub stop_of : Prog → ModuleId → ℕ → Option StopAt
 stop_of (Tree p) m k = tree_stop p m k
+stop_of (Code c) m k = code_stop c m k
 
 -- a number left, where there is one, isn't negative, and there is one exactly where the statement gives one
 abbrev pub LeftAgrees : Option Exp → Option ℤ → Type 0
