@@ -1,5 +1,5 @@
 -- The bodies of a placed program whose names are correct fit.
-use Rattle.std.proofs.Common.{◌≡◌, ℕ, zero, suc, ◌<◌, Bool, true, false, List, [], ◌∷◌, ◌++◌, map, length, Option, Some, None, slice_get, refl, sym, ap, ◌∙◌, subst, arith}
+use Rattle.std.proofs.Common.{◌≡◌, ℕ, zero, suc, ◌<◌, Bool, true, false, List, [], ◌∷◌, ◌++◌, map, length, Option, Some, None, slice_get, refl, sym, ap, ◌∙◌, subst}
 use Rattle.loft_base.specs.declared.ids.SharedId.{SharedId}
 use Rattle.loft_base.specs.declared.ids.ModuleId.{ModuleId}
 use Rattle.loft_tree.specs.declared.kinds.Kind.{Kind}
@@ -23,14 +23,10 @@ use Rattle.loft_place.specs.Links.{Need, IsThere, IsMet, AreMet, term_needs, ter
 use Rattle.loft_place.proofs.Declared.{module_goes}
 use Rattle.loft_sense.specs.Tree.{body_or_empty, body_at}
 use Rattle.loft_sense.specs.Stands.{begin_of, begin_or_unlinked, end_or_unlinked, leads_step, leads}
+use Rattle.loft_stand.proofs.ListLemmas.{within_some}
 use Rattle.loft_stand.specs.WorkFits.{IsShared, IsEvent, HasKind, IsInt, IsValue, TargetHasKind, ArgumentsFit, CallFits, StepFits, BodyFits}
 
--- ---- lists and places
-
-pub within_some : {A : Type 0} (xs : List A) (k : ℕ) → k < length xs → (x : A) × (slice_get xs k ≡ Some x)
-within_some [] k h = absurd (omega arith)
-within_some (x ∷ xs) zero h = (x, refl)
-within_some (x ∷ xs) (suc k) h = within_some xs k (omega arith)
+-- ---- needs and places
 
 met_left : (ms ns : List Need) → AreMet (ms ++ ns) → AreMet ms
 met_left [] ns met = tt

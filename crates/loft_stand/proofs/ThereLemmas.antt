@@ -15,7 +15,7 @@ use Rattle.loft_sense.specs.Around.{Around}
 use Rattle.loft_sense.specs.CanGo.{is_index}
 use Rattle.loft_stand.specs.WorkFits.{IsShared, IsEvent}
 use Rattle.loft_stand.specs.Points.{SharedFit, AroundFits}
-use Rattle.loft_stand.proofs.FitLemmas.{within_some}
+use Rattle.loft_stand.proofs.ListLemmas.{within_some}
 
 fewer_kept : (x : SharedHead) (b : Bool) (front all : List SharedHead) → length front < length all → length (cond b (x ∷ front) front) < length (cond b (x ∷ all) all)
 fewer_kept x true front all h = omega (arith, h)

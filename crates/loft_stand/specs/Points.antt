@@ -1,5 +1,6 @@
 -- Points of a run at which all is there that the thread asks for (docs/SEMANTICS.md, "Stands").
-use Rattle.std.specs.Prelude.{◌≡◌, IsTrue, ℕ, ℤ, List, [], ◌∷◌, length, Some, slice_get}
+use Rattle.std.specs.Prelude.{◌≡◌, ◌≤◌, IsTrue, true, ℕ, ℤ, List, [], ◌∷◌, length, Some, None, slice_get}
+use Rattle.loft_base.specs.declared.ids.ModuleId.{ModuleId}
 use Rattle.loft_base.specs.declared.ids.SchedId.{SchedId}
 use Rattle.loft_base.specs.declared.ids.Value.{Value}
 use Rattle.loft_tree.specs.declared.kinds.Kind.{Kind}
@@ -10,6 +11,9 @@ use Rattle.loft_tree.specs.declared.heads.Heads.{Heads}
 use Rattle.loft_tree.specs.Fits.{Each}
 use Rattle.loft_tree.specs.HeadsFit.{is_of, HeadsFit}
 use Rattle.loft_tree.specs.NamedFits.{IsPlace, slots_of}
+use Rattle.loft_tree.specs.Resolved.{Resolved}
+use Rattle.loft_code.specs.Operations.{Line, Automata, way, is_turn}
+use Rattle.loft_code.specs.Leads.{IsReached}
 use Rattle.loft_sense.specs.declared.note.Act.{Act}
 use Rattle.loft_sense.specs.declared.note.Act.TheVariants as act
 use Rattle.loft_sense.specs.declared.order.Order.{Order}
@@ -18,14 +22,18 @@ use Rattle.loft_sense.specs.declared.order.To.{To}
 use Rattle.loft_sense.specs.declared.order.To.TheVariants as to
 use Rattle.loft_sense.specs.declared.thread.Thread.{Thread}
 use Rattle.loft_sense.specs.declared.thread.Wait.TheVariants.{New}
+use Rattle.loft_sense.specs.declared.limits.TheConstants.{MAX_FRAMES}
 use Rattle.loft_sense.specs.Heads.{shared_values}
 use Rattle.loft_sense.specs.Around.{Around, Beside}
-use Rattle.loft_sense.specs.Machine.{Prog, heads}
-use Rattle.loft_sense.specs.Run.{Control, Active, Outcome, Held, Left, Ended, live, step_on}
-use Rattle.loft_sense.specs.Tree.{Work, next_work}
-use Rattle.loft_sense.specs.Stands.{end_of, Stands}
+use Rattle.loft_sense.specs.Machine.{Prog, Tree, Code, heads}
+use Rattle.loft_sense.specs.Run.{Control, Active, Outcome, Held, Left, Ended, frame_of, live, step_on}
+use Rattle.loft_sense.specs.Tree.{Work}
+use Rattle.loft_sense.specs.Code.{Point, lines_at, landing, jump_of}
+use Rattle.loft_sense.specs.Stands.{end_of, tree_stop, FrameCalls, Stands}
 use Rattle.loft_sense.specs.Fits.{IsThread, IsValue, ThreadNames, EndNames, IsEventOf}
+use Rattle.loft_stand.specs.WellFormed.{PointOf, control}
 use Rattle.loft_stand.specs.WorkFits.{NextFits, WorkFits}
+use Rattle.loft_stand.specs.WorkAgrees.{WorkAgrees}
 
 -- a value of this kind, and a thread only if it is declared
 abbrev pub ValueFits : Heads → Kind → Value → Type 0
@@ -81,36 +89,73 @@ pub record BesideFits (h : Heads) (place : Place) (b : Beside) : Type 0 where
   pub id : IsThread h b.id
   pub around : AroundFits h place b.around
 
--- A frame that goes on at this place: its module is declared, its values have the kinds of the module's parameters and local
--- variables, and the work that is left fits and ends where the module ends.
-pub record FrameFits (h : Heads) (place : Place) (r : Active (List Work)) : Type 0 where
-  pub head : Signature
-  pub declared : slice_get h.modules r.module.0 ≡ Some head
-  pub values : ValuesFit h (slots_of head) r.values
-  pub work : WorkFits h (slots_of head) r.at place head.end
+-- ---- points of a module
 
--- frames, innermost first: each goes on where the module of the one before it ends
-abbrev pub FramesFit : Heads → Place → List (Active (List Work)) → Type 0
-FramesFit h place [] = Unit {0}
-FramesFit h place (r ∷ rs) = FrameFits h place r × FramesFit h (end_of h r.module) rs
+-- Work of a module with this signature that a thread begins where it is linked here: each statement fits where the thread is
+-- then, the work ends where the module ends, and its stops are those of the module.
+pub record WorkIsAt (p : Resolved) (m : ModuleId) (head : Signature) (w : List Work) (here : Place) : Type 0 where
+  pub fits : WorkFits p.heads (slots_of head) w here head.end
+  pub agrees : WorkAgrees p.heads (tree_stop p m) w here
+
+-- A point of a module with this signature at which a thread goes on that is linked here. In code there is an operation, with
+-- that place and with as many counts as its depth.
+abbrev pub PointIsAt : (x : Prog) → ModuleId → Signature → PointOf x → Place → Type 0
+PointIsAt (Tree p) m head w here = WorkIsAt p m head w here
+PointIsAt (Code c) m head p here = IsReached (lines_at c m) here (way p.op (length p.counts))
+
+-- ---- points of a run
+
+-- A frame that goes on at this place: its module is declared, its values have the kinds of the module's parameters and local
+-- variables, and its point is one of the module at this place.
+pub record FrameFits (x : Prog) (place : Place) (r : Active (PointOf x)) : Type 0 where
+  pub head : Signature
+  pub declared : slice_get (heads x).modules r.module.0 ≡ Some head
+  pub values : ValuesFit (heads x) (slots_of head) r.values
+  pub at : PointIsAt x r.module head r.at place
+
+-- frames below one of module m, innermost first: each stands at a `run` of the module of the one before it, and goes on where
+-- that module ends
+abbrev pub OuterFit : (x : Prog) → ModuleId → List (Active (PointOf x)) → Type 0
+OuterFit x m [] = Unit {0}
+OuterFit x m (r ∷ rs) = FrameCalls x m (frame_of (control x) r) × FrameFits x (end_of (heads x) m) r × OuterFit x r.module rs
+
+abbrev pub FramesFit : (x : Prog) → Place → List (Active (PointOf x)) → Type 0
+FramesFit x place [] = Unit {0}
+FramesFit x place (r ∷ rs) = FrameFits x place r × OuterFit x r.module rs
 
 -- a point of a run
-pub record PointFits (h : Heads) (place : Place) (b : Beside) (rs : List (Active (List Work))) : Type 0 where
-  pub beside : BesideFits h place b
-  pub frames : FramesFit h place rs
+pub record PointFits (x : Prog) (place : Place) (b : Beside) (rs : List (Active (PointOf x))) : Type 0 where
+  pub beside : BesideFits (heads x) place b
+  pub frames : FramesFit x place rs
+  pub few : length rs ≤ MAX_FRAMES
 
 -- What the innermost frame does next fits its values: each has the kind of its slot, and all that is named is there.
-abbrev pub FrontFits : Heads → Place → List (Active (List Work)) → Type 0
-FrontFits h place [] = Unit {0}
-FrontFits h place (r ∷ rs) =
-    (head : Signature) × (slice_get h.modules r.module.0 ≡ Some head) × ValuesFit h (slots_of head) r.values
-    × NextFits h (slots_of head) place (next_work r.at)
+abbrev pub FrontFits : (x : Prog) → Place → List (Active (PointOf x)) → Type 0
+FrontFits x place [] = Unit {0}
+FrontFits x place (r ∷ rs) =
+    (head : Signature) × (slice_get (heads x).modules r.module.0 ≡ Some head) × ValuesFit (heads x) (slots_of head) r.values
+    × NextFits (heads x) (slots_of head) place ((control x).next r.module r.at)
+
+-- The jumps at a point lead to an operation that is no jump, with the same place and depth. Where it is a `turn`, there is a
+-- count.
+pub record LandsOn (lines : List Line) (here : Place) (p : Point) : Type 0 where
+  pub line : Line
+  pub there : slice_get lines (landing lines p.op) ≡ Some line
+  pub place : line.place ≡ here
+  pub depth : line.depth ≡ length p.counts
+  pub is_no_jump : jump_of line.operation ≡ None
+  pub turn_counts : is_turn line.operation ≡ true → 1 ≤ length p.counts
+
+-- the same of the innermost frame
+abbrev pub FrontLands : Automata → Place → List (Active Point) → Type 0
+FrontLands c place [] = Unit {0}
+FrontLands c place (r ∷ rs) = LandsOn (lines_at c r.module) place r.at
 
 -- A step from there goes on at none but these points: what a run would do at others makes no difference.
-abbrev pub GoesOnlyTo : Control (List Work) → (Beside → List (Active (List Work)) → Type 0) → Beside → List (Active (List Work)) → Type 0
-GoesOnlyTo c Point b rs =
-    (left : ℕ) (on other : Beside → List (Active (List Work)) → Outcome)
-    → ((d : Beside) (qs : List (Active (List Work))) → Point d qs → on d qs ≡ other d qs)
+abbrev pub GoesOnlyTo : {A : Type 0} → Control A → (Beside → List (Active A) → Type 0) → Beside → List (Active A) → Type 0
+GoesOnlyTo {A} c Fits b rs =
+    (left : ℕ) (on other : Beside → List (Active A) → Outcome)
+    → ((d : Beside) (qs : List (Active A)) → Fits d qs → on d qs ≡ other d qs)
     → step_on c left on b (live c rs) ≡ step_on c left other b (live c rs)
 
 -- ---- how a run leaves a thread

@@ -91,7 +91,7 @@ module _ (h : Heads) (slots : List Kind) where
     RunFits m arguments = (begin_of h m ≡ here) × CallFits m arguments
 
     -- what comes next at a point
-    abbrev pub NextFits : Next (List Work) → Type 0
+    abbrev pub NextFits : {A : Type 0} → Next A → Type 0
     NextFits Finish = Unit {0}
     NextFits Stuck = ⊥
     NextFits (Acts action rest) = ActionFits action

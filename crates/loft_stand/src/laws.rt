@@ -14,29 +14,31 @@ ghost use Rattle.loft_tree.specs.Fits.{IfThere};
 ghost use Rattle.loft_tree.specs.NamedTree.{NamedProgram};
 ghost use Rattle.loft_tree.specs.NamedFits.{IsScheduler, NamedFits};
 ghost use Rattle.loft_tree.specs.Resolved.{Exp, Pause, Resolved, resolved_of};
-ghost use Rattle.loft_place.specs.Links.{IsPlaced};
+ghost use Rattle.loft_code.specs.Operations.{Automata};
 ghost use Rattle.loft_sense.specs.declared.thread.Frame.{Frame};
 ghost use Rattle.loft_sense.specs.declared.thread.Thread.{Thread};
 ghost use Rattle.loft_sense.specs.Heads.{rank};
 ghost use Rattle.loft_sense.specs.declared.limits.Limits.{Limits};
 ghost use Rattle.loft_sense.specs.declared.order.Order.{Order};
-ghost use Rattle.loft_sense.specs.Machine.{Prog, Tree, heads, Mach, empty};
+ghost use Rattle.loft_sense.specs.Machine.{Prog, Tree, Code, heads, Mach, empty};
 ghost use Rattle.loft_sense.specs.Around.{Around, Beside};
 ghost use Rattle.loft_sense.specs.CanGo.{is_index};
 ghost use Rattle.loft_sense.specs.Eval.{eval, eval_all};
-ghost use Rattle.loft_sense.specs.Run.{Active, frame_of, active_of, live, going, go};
+ghost use Rattle.loft_sense.specs.Run.{Active, frame_of, active_of, live, going};
 ghost use Rattle.loft_sense.specs.Passes.{run_of};
 ghost use Rattle.loft_sense.specs.Tree.{Work, next_work, tree};
+ghost use Rattle.loft_sense.specs.Code.{Point, code};
 ghost use Rattle.loft_sense.specs.Stands.{Pauses, StopAt, stop_of, FrameStands, Stands};
 ghost use Rattle.loft_sense.specs.Fits.{IsThread, ThreadNames, Fits};
 ghost use Rattle.loft_sense.specs.Instant.{instant};
 ghost use Rattle.loft_sense.specs.Async.{async};
 ghost use Rattle.loft_sense.specs.History.{starts_from, orders_to};
+ghost use Rattle.loft_stand.specs.WellFormed.{IsWellFormed, PointOf, control};
 ghost use Rattle.loft_stand.specs.Numbered.{IsNumbered};
 ghost use Rattle.loft_stand.specs.Left.{IsLeft, LeavesAfter};
 ghost use Rattle.loft_stand.specs.WorkFits.{IsShared, IsEvent, HasKind, ArgumentsFit};
 ghost use Rattle.loft_stand.specs.Points.{ValueFits, ValuesFit, AroundFits, PointFits};
-ghost use Rattle.loft_stand.specs.Points.{FrontFits, GoesOnlyTo, LeavesStanding};
+ghost use Rattle.loft_stand.specs.Points.{FrontFits, FrontLands, GoesOnlyTo, LeavesStanding};
 ghost use Rattle.loft_stand.specs.Machines.{ThreadFits, MachFits, SentFits};
 
 /// Where running a module reaches a stop, the work that is left there is what the program says
@@ -51,52 +53,52 @@ pub fn stops_leave_what_comes_after()
     ensures numbered { (n : NamedProgram) → NamedFits n → IsNumbered (resolved_of n) }
 {}
 
-/// A thread that stands in a placed program and is run there, with any bound, stands again where a
-/// stop holds it, and where it leaves, it stands where it goes. It names only threads that are
-/// declared, an end names a module that is, each order that it sends fits where it goes, and what
-/// stands around it is still as it has to be for the next thread.
+/// A thread that stands in a well-formed program, a placed source or valid code, and is run there,
+/// with any bound, stands again where a stop holds it, and where it leaves, it stands where it
+/// goes. It names only threads that are declared, an end names a module that is, each order that
+/// it sends fits where it goes, and what stands around it is still as it has to be for the next
+/// thread.
 pub fn threads_keep_standing()
-    ensures { (n : NamedProgram) → NamedFits n → IsPlaced n
+    ensures { (x : Prog) → IsWellFormed x
         → (t : Thread) (place : Place) (around : Around) (left : ℕ)
-        → Stands (Tree (resolved_of n)) t place → ThreadNames n.heads t
-        → AroundFits n.heads place around
-        → LeavesStanding (Tree (resolved_of n)) place
-        (run_of (Tree (resolved_of n)) t around left) }
+        → Stands x t place → ThreadNames (heads x) t → AroundFits (heads x) place around
+        → LeavesStanding x place (run_of x t around left) }
 {}
 
-/// A thread that stands in a placed program and is run there finds all that it asks for. It goes on
-/// at a point that fits, and each step from such a point goes on only at such points. What comes
-/// next at one names only what is declared and there, with the kinds that it takes: each slot has a
-/// value of its kind, each shared variable a value, each event its room on the board, each stop
-/// what it waits for, each index that a wait for a value ends with its value, and each expression a
-/// value of its kind, unless a divisor is 0.
-pub fn placed_programs_never_stick()
-    ensures begins { (n : NamedProgram) → NamedFits n → IsPlaced n
+/// A thread that stands in a well-formed program and is run there finds all that it asks for. It
+/// goes on at a point that fits, and each step from such a point goes on only at such points. What
+/// comes next at one names only what is declared and there, with the kinds that it takes: each
+/// slot has a value of its kind, each shared variable a value, each event its room on the board,
+/// each stop what it waits for, each index that a wait for a value ends with its value, and each
+/// expression a value of its kind, unless a divisor is 0. In code what comes next is an operation
+/// that is there and no jump, where the thread is linked and with as many counts as its depth, and
+/// a `turn` has a count.
+pub fn well_formed_programs_never_stick()
+    ensures begins { (x : Prog) → IsWellFormed x
         → (t : Thread) (place : Place) (around : Around)
-        → Stands (Tree (resolved_of n)) t place → ThreadNames n.heads t
-        → AroundFits n.heads place around
-        → (b : Beside) × (rs : List (Active (List Work))) × PointFits n.heads place b rs
-        × ((left : ℕ) → go (tree (resolved_of n)) t around (suc left)
-        ≡ going (tree (resolved_of n)) left b rs) }
-    ensures goes_on { (n : NamedProgram) → NamedFits n → IsPlaced n
-        → (place : Place) (b : Beside) (rs : List (Active (List Work)))
-        → PointFits n.heads place b rs
-        → GoesOnlyTo (tree (resolved_of n)) (PointFits n.heads place) b rs }
-    ensures next { (n : NamedProgram) → NamedFits n → IsPlaced n
-        → (place : Place) (b : Beside) (rs : List (Active (List Work)))
-        → PointFits n.heads place b rs
-        → FrontFits n.heads place (live (tree (resolved_of n)) rs) }
+        → Stands x t place → ThreadNames (heads x) t → AroundFits (heads x) place around
+        → (b : Beside) × (rs : List (Active (PointOf x))) × PointFits x place b rs
+        × ((left : ℕ) → run_of x t around (suc left) ≡ going (control x) left b rs) }
+    ensures goes_on { (x : Prog) → IsWellFormed x
+        → (place : Place) (b : Beside) (rs : List (Active (PointOf x))) → PointFits x place b rs
+        → GoesOnlyTo (control x) (PointFits x place) b rs }
+    ensures next { (x : Prog) → IsWellFormed x
+        → (place : Place) (b : Beside) (rs : List (Active (PointOf x))) → PointFits x place b rs
+        → FrontFits x place (live (control x) rs) }
+    ensures operations { (c : Automata) → IsWellFormed (Code c)
+        → (place : Place) (b : Beside) (rs : List (Active Point)) → PointFits (Code c) place b rs
+        → FrontLands c place (live (code c) rs) }
     ensures slots { (h : Heads) (slots : List Kind) (values : List Value) (k : ℕ) (kind : Kind)
         → ValuesFit h slots values → slice_get slots k ≡ Some kind
         → (v : Value) × (slice_get values k ≡ Some v) × ValueFits h kind v }
-    ensures shared { (h : Heads) (place : Place) (around : Around) (x : SharedId)
-        → IsShared h place x → AroundFits h place around
-        → (i : ℤ) × (slice_get around.shared (rank h x) ≡ Some i) }
+    ensures shared { (h : Heads) (place : Place) (around : Around) (y : SharedId)
+        → IsShared h place y → AroundFits h place around
+        → (i : ℤ) × (slice_get around.shared (rank h y) ≡ Some i) }
     ensures events { (h : Heads) (place : Place) (around : Around) (e : EventId)
         → IsEvent h place e → AroundFits h place around → e.0 < length around.board }
-    ensures pauses { (p : Resolved) (m : ModuleId) (k : ℕ) (at : StopAt) (pause : Pause)
-        → stop_of (Tree p) m k ≡ Some at → at.kind ≡ Pauses pause
-        → (tree p).pause m k ≡ Some pause }
+    ensures pauses { (x : Prog) (m : ModuleId) (k : ℕ) (at : StopAt) (pause : Pause)
+        → stop_of x m k ≡ Some at → at.kind ≡ Pauses pause
+        → (control x).pause m k ≡ Some pause }
     ensures indexes { (values : List ℤ) (i : ℤ) → is_index i (length values) ≡ true
         → (k : ℕ) × (v : ℤ) × (i ≡ pos k) × (slice_get values k ≡ Some v) }
     ensures values { (h : Heads) (slots : List Kind) (place : Place) (values : List Value)
@@ -113,24 +115,21 @@ pub fn placed_programs_never_stick()
 /// whose threads stand. Each order that it sends fits at each scheduler to which it is addressed,
 /// and each thread that it sends to the workers stands unlinked; so it is with all that such a
 /// thread sends. A scheduler that has made no instant is such a machine, and the orders of the
-/// source's starts fit.
+/// starts fit.
 pub fn instants_keep_standing()
     ensures begins { (x : Prog) (s : SchedId) → IsScheduler (heads x) s → MachFits x (empty x s) }
-    ensures starts { (n : NamedProgram) → NamedFits n → IsPlaced n
-        → (s : SchedId) → All (Fits (Tree (resolved_of n)) s) (starts_from s 0 n.heads.starts) }
-    ensures machine { (n : NamedProgram) → NamedFits n → IsPlaced n
+    ensures starts { (x : Prog) → IsWellFormed x
+        → (s : SchedId) → All (Fits x s) (starts_from s 0 (heads x).starts) }
+    ensures machine { (x : Prog) → IsWellFormed x
         → (limits : Limits) (m : Mach) (batch : List Order)
-        → MachFits (Tree (resolved_of n)) m → All (Fits (Tree (resolved_of n)) m.s) batch
-        → MachFits (Tree (resolved_of n)) (instant (Tree (resolved_of n)) limits m batch).machine }
-    ensures sent { (n : NamedProgram) → NamedFits n → IsPlaced n
+        → MachFits x m → All (Fits x m.s) batch → MachFits x (instant x limits m batch).machine }
+    ensures sent { (x : Prog) → IsWellFormed x
         → (limits : Limits) (m : Mach) (batch : List Order)
-        → MachFits (Tree (resolved_of n)) m → All (Fits (Tree (resolved_of n)) m.s) batch
-        → let sent = (instant (Tree (resolved_of n)) limits m batch).note.sent in
-        All (SentFits (Tree (resolved_of n))) sent
-        × ((s : SchedId) → All (Fits (Tree (resolved_of n)) s) (orders_to s sent)) }
-    ensures unlinked { (n : NamedProgram) → NamedFits n → IsPlaced n
-        → (t : Thread) (block : ℕ) → ThreadFits (Tree (resolved_of n)) Unlinked t
-        → let sent = async (Tree (resolved_of n)) t block in
-        All (SentFits (Tree (resolved_of n))) sent
-        × ((s : SchedId) → All (Fits (Tree (resolved_of n)) s) (orders_to s sent)) }
+        → MachFits x m → All (Fits x m.s) batch
+        → let sent = (instant x limits m batch).note.sent in
+        All (SentFits x) sent × ((s : SchedId) → All (Fits x s) (orders_to s sent)) }
+    ensures unlinked { (x : Prog) → IsWellFormed x
+        → (t : Thread) (block : ℕ) → ThreadFits x Unlinked t
+        → let sent = async x t block in
+        All (SentFits x) sent × ((s : SchedId) → All (Fits x s) (orders_to s sent)) }
 {}

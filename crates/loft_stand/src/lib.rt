@@ -6,6 +6,6 @@ pub mod laws;
 
 pub use history_laws::waiting_orders_fit;
 pub use laws::{
-    instants_keep_standing, placed_programs_never_stick, stops_leave_what_comes_after,
-    threads_keep_standing,
+    instants_keep_standing, stops_leave_what_comes_after, threads_keep_standing,
+    well_formed_programs_never_stick,
 };

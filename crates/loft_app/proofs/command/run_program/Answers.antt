@@ -1,8 +1,9 @@
-use Rattle.std.proofs.Common.{◌≡◌, true, sym, ◌∙◌, ap, subst, List, ℕ}
+use Rattle.std.proofs.Common.{◌≡◌, true, refl, sym, ◌∙◌, ap, subst, List, ℕ}
 use Rattle.loft_tree.specs.declared.named.NamedProgram.{NamedProgram}
 use Rattle.loft_tree.specs.ProgramView.{program_of}
 use Rattle.loft_tree.specs.Resolved.{resolved_of}
 use Rattle.loft_sense.specs.Machine.{Prog, Tree}
+use Rattle.loft_stand.specs.WellFormed.{IsPlacedTree}
 use Rattle.loft_plain.specs.PlainEngine.{limits_of}
 use Rattle.loft_log.specs.RunReport.{run_report}
 use Rattle.loft_turns.specs.Built.{is_built}
@@ -15,8 +16,9 @@ use Rattle.loft_app.proofs.command.run_program.Goals as goal
 pub run_alone-requires-clause-fits : goal.run_alone-requires-clause-fits
 run_alone-requires-clause-fits g c κs within =
     let n = program_of c.args.placed.now in
+    let well : IsPlacedTree (resolved_of n) = record { source = n; names = c.program.ensures.fits; links = c.program.ensures.placed; same = refl } in
     subst (λ (x : Prog). AlwaysFits x (limits_of c.in_ok-engine.engine) only) (sym c.in_ok-engine.ensures.program)
-    (λ o choices es same made. c.waiting_orders_fit.ensures.waiting n c.program.ensures.fits c.program.ensures.placed o choices es made only)
+    (λ o choices es same made. c.waiting_orders_fit.ensures.waiting (Tree (resolved_of n)) well o choices es made only)
 
 pub returns-clause-report : goal.returns-clause-report
 returns-clause-report g c =

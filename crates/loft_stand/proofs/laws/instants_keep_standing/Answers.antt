@@ -1,4 +1,5 @@
-use Rattle.loft_stand.proofs.InstantLemmas.{empty_fits, starts_fit, machine_fits, sent_fits, unlinked_fits}
+use Rattle.loft_stand.proofs.OrderLemmas.{starts_fit}
+use Rattle.loft_stand.proofs.InstantLemmas.{empty_fits, machine_fits, sent_fits, unlinked_fits}
 use Rattle.loft_stand.proofs.laws.instants_keep_standing.Goals as goal
 
 pub returns-clause-begins : goal.returns-clause-begins

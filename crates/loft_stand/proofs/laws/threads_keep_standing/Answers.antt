@@ -1,5 +1,5 @@
-use Rattle.loft_stand.proofs.StandLemmas.{go_leaves}
+use Rattle.loft_stand.proofs.StandLemmas.{run_leaves}
 use Rattle.loft_stand.proofs.laws.threads_keep_standing.Goals as goal
 
 pub returns : goal.returns
-returns c = go_leaves
+returns c = run_leaves

@@ -1,17 +1,20 @@
-use Rattle.loft_stand.proofs.EffectLemmas.{value_at, eval_fits, eval_all_fits}
-use Rattle.loft_stand.proofs.PointLemmas.{goes_only, next_there}
-use Rattle.loft_stand.proofs.StandLemmas.{go_begins, pause_found}
+use Rattle.loft_stand.proofs.ValueLemmas.{value_at, eval_fits, eval_all_fits}
+use Rattle.loft_stand.proofs.ProgramLemmas.{pause_found}
+use Rattle.loft_stand.proofs.StandLemmas.{run_begins, run_goes_on, next_fits_there, run_lands}
 use Rattle.loft_stand.proofs.ThereLemmas.{shared_there, event_there, index_there}
-use Rattle.loft_stand.proofs.laws.placed_programs_never_stick.Goals as goal
+use Rattle.loft_stand.proofs.laws.well_formed_programs_never_stick.Goals as goal
 
 pub returns-clause-begins : goal.returns-clause-begins
-returns-clause-begins c = go_begins
+returns-clause-begins c = run_begins
 
 pub returns-clause-goes_on : goal.returns-clause-goes_on
-returns-clause-goes_on c = goes_only
+returns-clause-goes_on c = run_goes_on
 
 pub returns-clause-next : goal.returns-clause-next
-returns-clause-next c = next_there
+returns-clause-next c = next_fits_there
+
+pub returns-clause-operations : goal.returns-clause-operations
+returns-clause-operations c = run_lands
 
 pub returns-clause-slots : goal.returns-clause-slots
 returns-clause-slots c = value_at

@@ -1,0 +1,40 @@
+-- Lists each of whose elements is so.
+use Rattle.std.proofs.Common.{◌≡◌, ℕ, zero, suc, ◌<◌, List, [], ◌∷◌, ◌++◌, reverse, length, Some, slice_get, refl, sym, subst, arith}
+use Rattle.std.specs.Prelude.{All}
+use Rattle.std.specs.List.{AllByRecursion}
+use Rattle.std.proofs.lemmas.List.{reverse-append}
+use Rattle.std.proofs.lemmas.List.Elements.{All-from_recursion, recursion_from_All}
+use Rattle.loft_tree.specs.Fits.{Each}
+
+pub within_some : {A : Type 0} (xs : List A) (k : ℕ) → k < length xs → (x : A) × (slice_get xs k ≡ Some x)
+within_some [] k h = absurd (omega arith)
+within_some (x ∷ xs) zero h = (x, refl)
+within_some (x ∷ xs) (suc k) h = within_some xs k (omega arith)
+
+pub each_append : {A : Type 0} (P : A → Type 0) (xs ys : List A) → Each P xs → Each P ys → Each P (xs ++ ys)
+each_append P [] ys f g = g
+each_append P (x ∷ xs) ys f g = (f.0, each_append P xs ys f.1 g)
+
+pub each_reverse : {A : Type 0} (P : A → Type 0) (xs : List A) → Each P xs → Each P (reverse xs)
+each_reverse P [] f = tt
+each_reverse P (x ∷ xs) f = subst (Each P) (sym (reverse-append (x ∷ []) xs)) (each_append P (reverse xs) (x ∷ []) (each_reverse P xs f.1) (f.0, tt))
+
+pub each_map : {A : Type 0} (P Q : A → Type 0) (xs : List A) → ((x : A) → P x → Q x) → Each P xs → Each Q xs
+each_map P Q [] turn f = tt
+each_map P Q (x ∷ xs) turn f = (turn x f.0, each_map P Q xs turn f.1)
+
+-- ---- as laws say it
+
+pub all_of : {A : Type 0} (P : A → Type 0) (xs : List A) → Each P xs → All P xs
+all_of P xs f = All-from_recursion P xs (by_recursion P xs f)
+  where
+    by_recursion : {A : Type 0} (P : A → Type 0) (xs : List A) → Each P xs → AllByRecursion P xs
+    by_recursion P [] f = tt
+    by_recursion P (x ∷ xs) f = (f.0, by_recursion P xs f.1)
+
+pub each_of : {A : Type 0} (P : A → Type 0) (xs : List A) → All P xs → Each P xs
+each_of P xs f = by_each P xs (recursion_from_All P xs f)
+  where
+    by_each : {A : Type 0} (P : A → Type 0) (xs : List A) → AllByRecursion P xs → Each P xs
+    by_each P [] f = tt
+    by_each P (x ∷ xs) f = (f.0, by_each P xs f.1)

@@ -1,0 +1,66 @@
+-- Well-formed programs lead on, what a stop waits for is found under its number, and their starts can begin.
+use Rattle.std.proofs.Common.{◌≡◌, ℕ, suc, ◌+◌, List, [], ◌∷◌, Some, slice_get, refl, sym, subst, arith}
+use Rattle.loft_base.specs.declared.ids.ModuleId.{ModuleId}
+use Rattle.loft_base.specs.declared.ids.Value.{Value}
+use Rattle.loft_base.specs.declared.ids.Value.TheVariants as value
+use Rattle.loft_tree.specs.declared.heads.Start.{Start}
+use Rattle.loft_tree.specs.declared.heads.Heads.{Heads}
+use Rattle.loft_tree.specs.Fits.{Each}
+use Rattle.loft_tree.specs.HeadsFit.{HeadsFit}
+use Rattle.loft_tree.specs.NamedTree.{NamedProgram}
+use Rattle.loft_tree.specs.NamedFits.{ArgumentHolds, StartHolds, NamedFits}
+use Rattle.loft_tree.specs.Resolved.{Pause, Resolved}
+use Rattle.loft_place.specs.Links.{IsPlaced}
+use Rattle.loft_place.proofs.Declared.{start_fits}
+use Rattle.loft_code.specs.Fits.{StartFits}
+use Rattle.loft_sense.specs.Machine.{Prog, Tree, Code, heads}
+use Rattle.loft_sense.specs.Stands.{StopKind, Pauses, StopAt, stop_of}
+use Rattle.loft_sense.specs.Fits.{IsMaker, IsValue}
+use Rattle.loft_stand.specs.WellFormed.{IsWellFormed, control}
+use Rattle.loft_stand.proofs.LeadsToPoints.{IsPauseOf, LeadsToPoints}
+use Rattle.loft_stand.proofs.StopLemmas.{tree_pauses}
+use Rattle.loft_stand.proofs.TreeLemmas.{tree_leads}
+use Rattle.loft_stand.proofs.CodeLemmas.{code_pauses, code_leads}
+
+pub leads_to_points : (x : Prog) → IsWellFormed x → LeadsToPoints x
+leads_to_points (Tree p) is = subst (λ (q : Resolved). LeadsToPoints (Tree q)) is.same (tree_leads is.source is.names is.links)
+leads_to_points (Code c) is = code_leads c is
+
+pub stop_pauses : (x : Prog) (m : ModuleId) (k : ℕ) (at : StopAt) → stop_of x m k ≡ Some at → IsPauseOf at.kind ((control x).pause m k)
+stop_pauses (Tree p) m k at e = tree_pauses p m k at e
+stop_pauses (Code c) m k at e = code_pauses c m k at e
+
+pub pause_found : (x : Prog) (m : ModuleId) (k : ℕ) (at : StopAt) (pause : Pause) → stop_of x m k ≡ Some at → at.kind ≡ Pauses pause → (control x).pause m k ≡ Some pause
+pause_found x m k at pause e kind = subst (λ (q : StopKind). IsPauseOf q ((control x).pause m k)) kind (stop_pauses x m k at e)
+
+-- ---- starts
+
+-- a start can begin where it is made, and names only threads that are declared
+abbrev pub Begins : Heads → Start → Type 0
+Begins h t = HeadsFit h t.scheduler t.module t.arguments × Each (IsValue h) t.arguments
+
+argument_names : (h : Heads) (args : List Value) → Each (ArgumentHolds h) args → Each (IsValue h) args
+argument_names h [] f = tt
+argument_names h (value.Int i ∷ args) f = (tt, argument_names h args f.1)
+argument_names h (value.Thread t ∷ args) f = (subst (IsMaker h) (sym f.0.0) tt, argument_names h args f.1)
+
+-- each of a list, by its index in a list that it ends
+tree_starts : (n : NamedProgram) → NamedFits n → IsPlaced n → (k : ℕ) (ts : List Start) → ((i : ℕ) (t : Start) → slice_get ts i ≡ Some t → slice_get n.heads.starts (k + i) ≡ Some t) → Each (StartHolds n.heads) ts
+    → Each (Begins n.heads) ts
+tree_starts n fits placed k [] at f = tt
+tree_starts n fits placed k (t ∷ ts) at f = (
+  (start_fits n (k + 0) t fits placed (at 0 t refl), argument_names n.heads t.arguments f.0.call.arguments),
+  tree_starts n fits placed (k + 1) ts (λ i u e. let next : k + suc i ≡ k + 1 + i = omega arith in subst (λ j. slice_get n.heads.starts j ≡ Some u) next (at (suc i) u e)) f.1,
+)
+
+code_starts : (h : Heads) (ts : List Start) → Each (StartFits h) ts → Each (StartHolds h) ts → Each (Begins h) ts
+code_starts h [] f g = tt
+code_starts h (t ∷ ts) f g = ((f.0, argument_names h t.arguments g.0.call.arguments), code_starts h ts f.1 g.1)
+
+pub starts_begin : (x : Prog) → IsWellFormed x → Each (Begins (heads x)) (heads x).starts
+starts_begin (Tree p) is =
+    let n = is.source in
+    let each : Each (Begins n.heads) n.heads.starts =
+    tree_starts n is.names is.links 0 n.heads.starts (λ i t e. let same : i ≡ 0 + i = omega arith in subst (λ j. slice_get n.heads.starts j ≡ Some t) same e) is.names.heads.starts in
+    subst (λ (q : Resolved). Each (Begins q.heads) q.heads.starts) is.same each
+starts_begin (Code c) is = code_starts c.heads c.heads.starts is.limits.heads.starts_fit is.limits.heads.starts
