@@ -1,0 +1,4 @@
+pub mod Compiled
+pub mod Targets
+pub mod Implements
+pub mod Whole
