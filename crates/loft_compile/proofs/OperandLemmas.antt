@@ -20,7 +20,7 @@ use Rattle.loft_tree.specs.HeadsFit.{kinds_of}
 use Rattle.loft_tree.specs.KindOf.{compares}
 use Rattle.loft_tree.specs.Levels.{Shape, Signed, Joined, shape_nesting, shape_operands}
 use Rattle.loft_tree.specs.NamedTree as tree
-use Rattle.loft_tree.specs.NamedTree.{EventUse, NamedExpression, NamedCreation}
+use Rattle.loft_tree.specs.NamedTree.{EventUse, NamedExpression}
 use Rattle.loft_tree.specs.NamedFits as named
 use Rattle.loft_tree.specs.NamedFits.{OperandsAgree}
 use Rattle.loft_tree.specs.Resolved.{Exp, exp_of, exp_if, exps_of, target_of, events_of}

@@ -7,7 +7,7 @@ use Rattle.std.proofs.lemmas.List.{reverse-append}
 use Rattle.loft_tree.specs.declared.heads.Place.{Place}
 use Rattle.loft_tree.specs.declared.heads.Heads.{Heads}
 use Rattle.loft_tree.specs.Resolved.{Step, Do, Hold, Call, Choose, Loop, Times, Body, Empty, Then}
-use Rattle.loft_code.specs.Operations.{Operation, Line, stop_of}
+use Rattle.loft_code.specs.Operations.{Line, stop_of}
 use Rattle.loft_code.specs.Operations as op
 use Rattle.loft_sense.specs.Tree.{Work, Again, Turns, before, counts_in, first_some, first_count, rest_of, after_step, after_body, stop_at_step, stop_at, pause_of as pause_of_step}
 use Rattle.loft_sense.specs.Code.{point, is_number, stop_from, pause_of, pause_at}

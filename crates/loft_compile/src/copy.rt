@@ -5,7 +5,7 @@ ghost use Rattle.loft_tree.specs.NamedView.{value_of, event_use_of};
 ghost use Rattle.loft_tree.specs.Resolved.{exp_if, events_of};
 ghost use Rattle.loft_code.specs.View.{exp_in, exps_in};
 
-use loft_base::{EventId, NoMemory, Sequence, Value};
+use loft_base::{EventId, NoMemory, Sequence};
 use loft_tree::{
     Client, ClientOrder, EventHead, EventUse, Heads, NamedExpr, SharedHead, Signature, SlotHead,
     Start, Text,

@@ -9,12 +9,12 @@ ghost use Rattle.loft_plain.specs.Positions.{IsPosition};
 
 use loft_base::{EventId, ModuleId, NoMemory, SchedId, Sequence, ThreadId, Values};
 use loft_board::Board;
+use loft_effect::{first_values, same_thread};
 use loft_sense::{
     End, Ended, Ends, Frame, MAX_LINKED, Mark, Marks, Order, Sent, Sents, Standing, Thread, To,
     Wait,
 };
 use loft_tree::Heads;
-use loft_walk::{first_values, same_thread};
 use std::alloc::Global;
 
 /// A scheduler while it applies a batch.

@@ -100,7 +100,8 @@ impl Closed {
             thread,
             suspended,
             runs,
-            left: _,
+            steps: _,
+            bound: _,
             leaving,
         } = runner;
         if let Some(to) = leaving {

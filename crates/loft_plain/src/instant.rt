@@ -15,9 +15,9 @@ use crate::close::{Closed, changes, tell_all};
 use crate::pass::{Runner, Walk};
 use loft_base::{NoMemory, SchedId, Sequence, SharedId, ThreadId};
 use loft_board::Board;
+use loft_effect::Around;
 use loft_sense::{InstantNote, Limits, Numbers, Order, Standing};
 use loft_tree::{NamedProgram, Place};
-use loft_walk::Around;
 use std::alloc::Global;
 use std::collections::VecDeque;
 
@@ -33,7 +33,6 @@ pub struct Setting<'a> {
     pub events: u32,
     ghost own_ones: { own.items ≡ shared_of program.now.heads scheduler },
     ghost all_events: { events ≡ length program.now.heads.events },
-    ghost few_steps: { limits.budget ≤ 1000000 },
 }
 
 /// A scheduler between two instants.
@@ -54,7 +53,7 @@ pub struct State {
 
 impl Setting<'_> {
     ghost use Rattle.loft_plain.specs.View.{applied_of, runner_of, walk_of};
-    ghost use Rattle.loft_walk.specs.View.{around_of};
+    ghost use Rattle.loft_effect.specs.View.{around_of};
     ghost use Rattle.loft_plain.specs.States.{machine_with};
 
     /// The linked threads as the passes begin.
@@ -63,7 +62,6 @@ impl Setting<'_> {
         linked: Vec<Standing>,
         budget: u64,
     ) -> Result<VecDeque<Runner>, NoMemory>
-        requires { budget ≤ 1000000 }
         ensures { IfOk result (λ runners. map runner_of runners.items ≡ map (begin_of budget) linked.items) }
     {
         let mut runners = VecDeque::new(alloc);
@@ -74,7 +72,8 @@ impl Setting<'_> {
                 thread,
                 suspended,
                 runs: 0,
-                left: budget,
+                steps: 0,
+                bound: budget,
                 leaving: None,
             })?;
         }
@@ -135,7 +134,7 @@ impl Setting<'_> {
         let Batch {
             linked,
             known,
-            events,
+            events: _,
             board,
             marks,
             stopped,
@@ -143,12 +142,13 @@ impl Setting<'_> {
         } = self.apply(alloc, linked, known, board, orders)?;
         let around = Around {
             place: Place::Sched(self.scheduler),
-            events,
             board,
             shared: Sequence::from_slice(alloc, before.as_slice())?,
             known,
             made,
             entries: 0,
+            steps: 0,
+            bound: 0,
             acts: Sequence::new(alloc),
         };
         let Walk {
@@ -158,12 +158,13 @@ impl Setting<'_> {
         } = self.pass(alloc, linked, around)?;
         let Around {
             place: _,
-            events: _,
             mut board,
             shared,
             known,
             made,
             entries: _,
+            steps: _,
+            bound: _,
             acts,
         } = around;
         board.reset();

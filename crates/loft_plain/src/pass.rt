@@ -1,17 +1,18 @@
 //! The passes of an instant (docs/SEMANTICS.md, "Passes").
 
-ghost use Rattle.std.specs.Prelude.{◌≡◌, ◌≤◌, ◌+◌, ◌^◌, false, map, IfOk};
+ghost use Rattle.std.specs.Prelude.{◌≡◌, ◌≤◌, ◌-◌, false, map, IfOk};
 ghost use Rattle.std.specs.Option.{option_to_list};
 ghost use Rattle.loft_tree.specs.ProgramView.{program_of};
 ghost use Rattle.loft_tree.specs.Resolved.{resolved_of};
 ghost use Rattle.loft_sense.specs.Machine.{Tree};
 ghost use Rattle.loft_sense.specs.Passes.{is_ready as is_ready_in, pass as pass_over, passes as passes_over, run_of, runners_after, around_after};
-ghost use Rattle.loft_walk.specs.View.{around_of};
+ghost use Rattle.loft_effect.specs.View.{around_of};
 
 use loft_base::NoMemory;
+use loft_effect::Around;
 use loft_sense::{Thread, To};
 use loft_tree::NamedProgram;
-use loft_walk::{Around, Gone, Outcome, go};
+use loft_walk::{Gone, Outcome, go};
 use std::alloc::Global;
 use std::collections::VecDeque;
 
@@ -22,11 +23,14 @@ pub struct Runner {
     pub suspended: bool,
     /// How often it has run in this instant.
     pub runs: u64,
-    /// How many steps it may still make in this instant.
-    pub left: u64,
+    /// The steps that it has made in this instant.
+    pub steps: u64,
+    /// How many steps it may make in this instant.
+    pub bound: u64,
     /// Where it goes at the close, if it leaves.
     pub leaving: Option<To>,
-    ghost few: { runs + left ≤ 2 ^ 63 },
+    ghost few: { runs ≤ steps },
+    ghost within: { steps ≤ bound },
 }
 
 /// The threads as passes leave them, what they leave around them, and whether the last pass ran anybody.
@@ -52,39 +56,40 @@ impl Runner {
         self,
         alloc: Global,
         program: &NamedProgram,
-        around: Around,
+        mut around: Around,
     ) -> Result<(Option<Runner>, Around), NoMemory>
         ensures runners { IfOk result (λ r. map runner_of (option_to_list r.0)
-            ≡ runners_after (runner_of self) (run_of (Tree (resolved_of (program_of program.now))) self.thread (around_of around) self.left)) }
+            ≡ runners_after (runner_of self) (run_of (Tree (resolved_of (program_of program.now))) self.thread (around_of around) (self.bound - self.steps))) }
         ensures around { IfOk result (λ r. around_of r.1
-            ≡ around_after (run_of (Tree (resolved_of (program_of program.now))) self.thread (around_of around) self.left)) }
+            ≡ around_after (run_of (Tree (resolved_of (program_of program.now))) self.thread (around_of around) (self.bound - self.steps))) }
     {
         let Runner {
             thread,
             suspended,
             runs,
-            left,
+            steps,
+            bound,
             leaving,
         } = self;
-        let Gone {
-            outcome,
-            around,
-            left,
-        } = go(alloc, program, thread, left, around)?;
-        let runs = runs + 1;
+        around.bound = bound;
+        around.steps = steps;
+        let Gone { outcome, around } = go(alloc, program, thread, around)?;
+        let steps = around.steps;
         let after = match outcome {
             Outcome::Held(thread) => Some(Runner {
                 thread,
                 suspended,
-                runs,
-                left,
+                runs: runs + 1,
+                steps,
+                bound,
                 leaving,
             }),
             Outcome::Left(thread, to) => Some(Runner {
                 thread,
                 suspended,
-                runs,
-                left,
+                runs: runs + 1,
+                steps,
+                bound,
                 leaving: Some(to),
             }),
             Outcome::Ended(_) => None,

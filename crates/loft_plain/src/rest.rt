@@ -4,8 +4,8 @@ ghost use Rattle.std.specs.Prelude.{◌≡◌};
 ghost use Rattle.loft_sense.specs.Rest.{waits_for_ever as waits_for_ever_in, all_rest as all_rest_in};
 
 use loft_base::ThreadId;
+use loft_effect::is_known;
 use loft_sense::{Standing, Wait};
-use loft_walk::is_known;
 
 /// Whether the wait has no number, and what it waits for isn't there; between two instants no event is present.
 fn waits_for_ever(wait: &Wait, known: &[ThreadId]) -> bool

@@ -25,12 +25,12 @@ use Rattle.loft_sense.specs.Run.{Active, Control, Outcome, Held, Left, thread_of
 use Rattle.loft_sense.specs.Tree.{Work, tree, next_work, pause_at}
 use Rattle.loft_walk.specs.declared.gone.Gone.{Gone}
 use Rattle.loft_walk.specs.declared.running.Running.{Running}
-use Rattle.loft_walk.specs.declared.scope.Scope.{Scope}
-use Rattle.loft_walk.specs.declared.scope.Beside.{Beside as BesideInMemory}
+use Rattle.loft_effect.specs.declared.scope.Scope.{Scope}
+use Rattle.loft_effect.specs.declared.scope.Beside.{Beside as BesideInMemory}
 use Rattle.loft_walk.specs.declared.step.Move.{Move}
 use Rattle.loft_walk.specs.declared.step.Move.TheVariants as move
 use Rattle.loft_walk.specs.declared.work.Task.{Task}
-use Rattle.loft_walk.specs.View.{around_of, beside_of}
+use Rattle.loft_effect.specs.View.{around_of, beside_of}
 use Rattle.loft_walk.specs.Pieces.{work_of, work_of_task}
 use Rattle.loft_walk.specs.Frames.{active, actives, live_of, advance, program_with, Steps, gone_of, top_target, Answers}
 use Rattle.loft_walk.proofs.Frames.{actives-push, actives_woken}

@@ -1,4 +1,3 @@
-pub mod View
-pub mod Effects
+pub mod Groups
 pub mod Pieces
 pub mod Frames

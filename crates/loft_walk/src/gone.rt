@@ -1,6 +1,6 @@
 //! A run of a thread (docs/SEMANTICS.md, "Run").
 
-use crate::around::Around;
+use loft_effect::Around;
 use loft_sense::{End, Thread, To};
 
 /// How a run of a thread ends.
@@ -12,10 +12,9 @@ pub enum Outcome {
     Ended(End),
 }
 
-/// How a run of a thread ends, what it leaves around it, and how many steps the thread may still make in this instant.
+/// How a run of a thread ends, and what it leaves around it.
 #[derive(Debug, Drop)]
 pub struct Gone {
     pub outcome: Outcome,
     pub around: Around,
-    pub left: u64,
 }

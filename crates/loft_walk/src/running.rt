@@ -1,10 +1,9 @@
 //! Frames that run (docs/SEMANTICS.md, "Run").
 
-ghost use Rattle.std.specs.Prelude.{◌≡◌, IfOk, reverse, Some, slice_get};
+ghost use Rattle.std.specs.Prelude.{◌≡◌, IfOk, reverse, Some};
 ghost use Rattle.std.specs.Option.{option_map};
 ghost use Rattle.loft_tree.specs.ProgramView.{program_of};
 ghost use Rattle.loft_tree.specs.Resolved.{Resolved, resolved_of, target_of as variable_of};
-ghost use Rattle.loft_sense.specs.Heads.{locals_or_none, first_value as first_value_of, first_values as first_values_of};
 ghost use Rattle.loft_sense.specs.Around.{Beside};
 ghost use Rattle.loft_sense.specs.Run.{active_of, begun_frame, frame_of};
 ghost use Rattle.loft_sense.specs.Statements.{target_of};
@@ -12,11 +11,11 @@ ghost use Rattle.loft_sense.specs.Tree.{tree, body_at, counts_in as counts_of, p
 ghost use Rattle.loft_walk.specs.Pieces.{work_of, work_after, pause_after, body_from, step_from};
 
 use crate::resume::find_in_body;
-use crate::scope::Scope;
 use crate::work::Piece;
-use loft_base::{ModuleId, NoMemory, Sequence, ThreadId, Value, Values};
+use loft_base::{ModuleId, NoMemory, Sequence, ThreadId, Values};
+use loft_effect::{Scope, first_values};
 use loft_sense::{At, Counts, Frame};
-use loft_tree::{Heads, Kind, NamedProgram, NamedStmt, SlotHead, Target};
+use loft_tree::{NamedProgram, NamedStmt, Target};
 use std::alloc::Global;
 
 /// A frame that runs, and the work that is left in it.
@@ -34,41 +33,6 @@ pub fn body(program: &NamedProgram, id: ModuleId) -> &[NamedStmt]
         Some(module) => module.body.as_slice(),
         None => &[],
     }
-}
-
-/// The local variables of a module, none where there is no such module.
-fn locals(heads: &Heads, module: ModuleId) -> &[SlotHead]
-    ensures { result.now ≡ locals_or_none (slice_get heads.now.modules «module».0) }
-{
-    match heads.modules.as_slice().get(module.0 as usize) {
-        Some(signature) => signature.locals.as_slice(),
-        None => &[],
-    }
-}
-
-/// What a local variable begins as: 0, or the thread itself.
-fn first_value(thread: ThreadId, kind: Kind) -> Value
-    ensures { result ≡ first_value_of thread kind }
-{
-    match kind {
-        Kind::Int => Value::Int(0),
-        Kind::Thread => Value::Thread(thread),
-    }
-}
-
-/// The values of a module's new frame: the arguments, then the local variables.
-pub fn first_values(
-    heads: &Heads,
-    thread: ThreadId,
-    module: ModuleId,
-    mut values: Values,
-) -> Result<Values, NoMemory>
-    ensures { IfOk result (λ all. all ≡ first_values_of heads.now thread «module» values) }
-{
-    for local in locals(heads, module) {
-        values.push(first_value(thread, local.kind))?;
-    }
-    Ok(values)
 }
 
 /// The variable that a stop sets, where it is a `get`.

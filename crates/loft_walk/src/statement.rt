@@ -1,314 +1,190 @@
-//! Statements that go on at once, or end their thread (docs/SEMANTICS.md, "Statements").
+//! Statements but for `run` and those with bodies (docs/SEMANTICS.md, "Statements").
 
-ghost use Rattle.std.specs.Prelude.{◌≡◌, ◌++◌, map, IfOk, OnOk};
-ghost use Rattle.loft_tree.specs.NamedView.{term_of, value_of, creation_of};
-ghost use Rattle.loft_tree.specs.Resolved.{exp_of, exp_if, exps_of, target_of, Assign, PrintText, PrintValue, Generate, ControlThread, Broadcast};
-ghost use Rattle.loft_sense.specs.Heads.{home as home_of};
-ghost use Rattle.loft_sense.specs.Eval.{eval_all};
-ghost use Rattle.loft_sense.specs.Statements.{did, printed, text_if as text_of, order_of as order_for};
-ghost use Rattle.loft_walk.specs.View.{answer_of, beside_of};
-ghost use Rattle.loft_walk.specs.Effects.{Does, make_action, IsAction, action_of};
+ghost use Rattle.std.specs.Prelude.{◌≡◌, map, IfOk};
+ghost use Rattle.loft_tree.specs.NamedView.{value_of, creation_of, event_use_of};
+ghost use Rattle.loft_tree.specs.Resolved.{exp_if, events_of, Await};
+ghost use Rattle.loft_sense.specs.Statements.{did, begun};
+ghost use Rattle.loft_effect.specs.View.{beside_of};
+ghost use Rattle.loft_effect.specs.Effects.{Does};
+ghost use Rattle.loft_walk.specs.Groups.{IsAction, action_of, IsPause, pause_in, make_of};
 ghost use Rattle.loft_walk.specs.Pieces.{step_from};
 
-use crate::effect::Effect;
-use crate::scope::{Beside, Scope, number_if};
-use crate::value::thread_or;
-use loft_base::{Div, EventId, NoMemory, SchedId, Sequence, ThreadId, Value, Values};
-use loft_sense::{Act, End, Order, To};
-use loft_text::{Item, LineBuffer};
-use loft_tree::{Control, Heads, NamedCreation, NamedExpr, NamedStmt, Target, Text};
+use loft_base::{NoMemory, Sequence};
+use loft_effect::{Beside, Effect, Scope};
+use loft_sense::{Events, To, Wait};
+use loft_tree::{EventUse, Heads, NamedCreation, NamedExpr, NamedStmt, Target};
 use std::alloc::Global;
 
-/// The scheduler on whose board the event stands.
-fn home(heads: &Heads, event: EventId) -> SchedId
-    ensures { result ≡ home_of heads.now event }
+/// `create S.m(E, F);`, whose thread the variable is set to, if there is one.
+fn create(
+    scope: &mut Scope,
+    alloc: Global,
+    heads: &Heads,
+    beside: &mut Beside,
+    target: Option<Target>,
+    creation: &NamedCreation,
+) -> Result<Effect, NoMemory>
+    ensures { IfOk result (λ effect. Does effect scope.old beside.old scope.new beside.new
+        (did heads.now (make_of target (creation_of creation.now)) scope.old.at scope.old.values (beside_of beside.old))) }
 {
-    match heads.events.as_slice().get(event.0 as usize) {
-        Some(head) => head.scheduler,
-        None => SchedId(0),
-    }
+    scope.create(
+        alloc,
+        heads,
+        beside,
+        target,
+        creation.scheduler,
+        creation.module,
+        creation.arguments.as_slice(),
+    )
 }
 
-/// What one thread orders of another.
-fn order_of(control: Control, thread: ThreadId) -> Order
-    ensures { result ≡ order_for control thread }
+/// A statement that goes on at once.
+#[tactic(auto, using(loft_tree::proofs::NamedTrees::named_statements))]
+pub fn act(
+    scope: &mut Scope,
+    alloc: Global,
+    heads: &Heads,
+    beside: &mut Beside,
+    statement: &NamedStmt,
+) -> Result<Effect, NoMemory>
+    requires { IsAction (step_from statement.now) }
+    ensures { IfOk result (λ effect. Does effect scope.old beside.old scope.new beside.new
+        (did heads.now (action_of (step_from statement.now)) scope.old.at scope.old.values (beside_of beside.old))) }
 {
-    match control {
-        Control::Stop => Order::Stop(thread),
-        Control::Suspend => Order::Suspend(thread),
-        Control::Resume => Order::Resume(thread),
-    }
-}
-
-/// Appends the text of a value, where there is one.
-fn push_value_if(line: &mut LineBuffer, heads: &Heads, value: Option<Value>) -> Result<(), NoMemory>
-    ensures { OnOk result (line.new ≡ line.old ++ text_of heads.now value) }
-{
-    match value {
-        Some(value) => value.push_to(line, heads),
-        None => Ok(()),
-    }
-}
-
-impl Scope {
-    /// The values of expressions in order. `Div` comes exactly where a divisor is 0.
-    pub fn values(
-        &self,
-        alloc: Global,
-        heads: &Heads,
-        beside: &Beside,
-        es: &[NamedExpr],
-    ) -> Result<Result<Values, Div>, NoMemory>
-        ensures { IfOk result (λ values. answer_of values
-            ≡ eval_all heads.now self.now.values (beside_of beside.now) (exps_of (map term_of es.now))) }
-    {
-        let mut values = Sequence::new(alloc);
-        for e in es {
-            match self.value(heads, beside, e) {
-                Ok(value) => values.push(value)?,
-                Err(div) => return Ok(Err(div)),
-            }
+    match statement {
+        NamedStmt::Assign { target, value } => Ok(scope.assign(heads, beside, *target, value)),
+        NamedStmt::AssignCreate {
+            target,
+            at: _,
+            creation,
+        } => create(scope, alloc, heads, beside, Some(*target), creation),
+        NamedStmt::Create { at: _, creation } => {
+            create(scope, alloc, heads, beside, None, creation)
         }
-        Ok(Ok(values))
-    }
-
-    /// `x = E;`
-    pub fn assign(
-        &mut self,
-        heads: &Heads,
-        beside: &mut Beside,
-        target: Target,
-        e: &NamedExpr,
-    ) -> Effect
-        ensures { Does result self.old beside.old self.new beside.new
-            (did heads.now (Assign (target_of target) (exp_of (term_of e.now))) self.old.at self.old.values (beside_of beside.old)) }
-    {
-        let Ok(value) = self.value(heads, beside, e) else {
-            return Effect::Dies(End::Div(self.at));
-        };
-        self.set(heads, beside, target, value);
-        Effect::GoesOn
-    }
-
-    /// A line is printed.
-    fn print(&self, beside: &mut Beside, line: LineBuffer) -> Result<Effect, NoMemory>
-        ensures { IfOk result (λ e. Does e self.now beside.old self.now beside.new
-            (printed line self.now.at self.now.values (beside_of beside.old))) }
-    {
-        if !beside.around.has_room() {
-            return Ok(Effect::Dies(End::Flood(self.at)));
+        NamedStmt::PrintText { at: _, text, value } => {
+            scope.print_text(alloc, heads, beside, text, value)
         }
-        let thread = beside.id;
-        let line = line.into_line();
-        beside.around.enter(Act::Print { thread, line })?;
-        Ok(Effect::GoesOn)
-    }
-
-    /// `print "..";` or `print "..", E;`
-    pub fn print_text(
-        &self,
-        alloc: Global,
-        heads: &Heads,
-        beside: &mut Beside,
-        text: &Text,
-        e: &Option<NamedExpr>,
-    ) -> Result<Effect, NoMemory>
-        ensures { IfOk result (λ effect. Does effect self.now beside.old self.now beside.new
-            (did heads.now (PrintText text.now (exp_if (value_of e.now))) self.now.at self.now.values (beside_of beside.old))) }
-    {
-        let Ok(value) = self.value_if(heads, beside, e) else {
-            return Ok(Effect::Dies(End::Div(self.at)));
-        };
-        let mut line = LineBuffer::new(alloc);
-        line.bytes(text.bytes())?;
-        push_value_if(&mut line, heads, value)?;
-        self.print(beside, line)
-    }
-
-    /// `print E;`
-    pub fn print_value(
-        &self,
-        alloc: Global,
-        heads: &Heads,
-        beside: &mut Beside,
-        e: &NamedExpr,
-    ) -> Result<Effect, NoMemory>
-        ensures { IfOk result (λ effect. Does effect self.now beside.old self.now beside.new
-            (did heads.now (PrintValue (exp_of (term_of e.now))) self.now.at self.now.values (beside_of beside.old))) }
-    {
-        let Ok(value) = self.value(heads, beside, e) else {
-            return Ok(Effect::Dies(End::Div(self.at)));
-        };
-        let mut line = LineBuffer::new(alloc);
-        value.push_to(&mut line, heads)?;
-        self.print(beside, line)
-    }
-
-    /// `generate e;` or `generate e, E;`
-    pub fn generate(
-        &self,
-        alloc: Global,
-        heads: &Heads,
-        beside: &mut Beside,
-        event: EventId,
-        e: &Option<NamedExpr>,
-    ) -> Result<Effect, NoMemory>
-        ensures { IfOk result (λ effect. Does effect self.now beside.old self.now beside.new
-            (did heads.now (Generate event (exp_if (value_of e.now))) self.now.at self.now.values (beside_of beside.old))) }
-    {
-        let Ok(value) = self.value_if(heads, beside, e) else {
-            return Ok(Effect::Dies(End::Div(self.at)));
-        };
-        if !beside.around.has_room() {
-            return Ok(Effect::Dies(End::Flood(self.at)));
-        }
-        let value = number_if(value);
-        beside.around.generate(alloc, event, value)?;
-        let thread = beside.id;
-        beside.around.enter(Act::Gen {
-            thread,
+        NamedStmt::PrintValue { at: _, value } => scope.print_value(alloc, heads, beside, value),
+        NamedStmt::Generate {
+            at: _,
             event,
             value,
-        })?;
-        Ok(Effect::GoesOn)
+        } => scope.generate(alloc, heads, beside, event.event, value),
+        NamedStmt::Control {
+            at: _,
+            control,
+            thread,
+            scheduler,
+        } => scope.control(heads, beside, *control, thread, *scheduler),
+        NamedStmt::Broadcast {
+            at: _,
+            event,
+            value,
+        } => scope.broadcast(heads, beside, event.event, value),
+        NamedStmt::Cooperate { .. }
+        | NamedStmt::Await { .. }
+        | NamedStmt::Select { .. }
+        | NamedStmt::Get { .. }
+        | NamedStmt::Join { .. }
+        | NamedStmt::Link { .. }
+        | NamedStmt::Unlink { .. }
+        | NamedStmt::Run { .. }
+        | NamedStmt::Halt { .. }
+        | NamedStmt::If { .. }
+        | NamedStmt::While { .. }
+        | NamedStmt::Repeat { .. } => unreachable!(),
     }
+}
 
-    /// `stop E in S;`, `suspend E in S;` or `resume E in S;`
-    pub fn control(
-        &self,
-        heads: &Heads,
-        beside: &mut Beside,
-        control: Control,
-        e: &NamedExpr,
-        scheduler: SchedId,
-    ) -> Result<Effect, NoMemory>
-        ensures { IfOk result (λ effect. Does effect self.now beside.old self.now beside.new
-            (did heads.now (ControlThread control (exp_of (term_of e.now)) scheduler) self.now.at self.now.values (beside_of beside.old))) }
-    {
-        let Ok(value) = self.value(heads, beside, e) else {
-            return Ok(Effect::Dies(End::Div(self.at)));
-        };
-        if !beside.around.has_room() {
-            return Ok(Effect::Dies(End::Flood(self.at)));
-        }
-        let order = order_of(control, thread_or(beside.id, value));
-        beside.send(To::Sched(scheduler), order)?;
-        Ok(Effect::GoesOn)
+/// The events that a statement names.
+fn events_from(alloc: Global, uses: &[EventUse]) -> Result<Events, NoMemory>
+    ensures { IfOk result (λ events. events ≡ events_of (map event_use_of uses.now)) }
+{
+    let mut events = Sequence::new(alloc);
+    for event in uses {
+        events.push(event.event)?;
     }
+    Ok(events)
+}
 
-    /// `broadcast e;` or `broadcast e, E;`
-    pub fn broadcast(
-        &self,
-        heads: &Heads,
-        beside: &mut Beside,
-        event: EventId,
-        e: &Option<NamedExpr>,
-    ) -> Result<Effect, NoMemory>
-        ensures { IfOk result (λ effect. Does effect self.now beside.old self.now beside.new
-            (did heads.now (Broadcast event (exp_if (value_of e.now))) self.now.at self.now.values (beside_of beside.old))) }
-    {
-        let Ok(value) = self.value_if(heads, beside, e) else {
-            return Ok(Effect::Dies(End::Div(self.at)));
-        };
-        if !beside.around.has_room() {
-            return Ok(Effect::Dies(End::Flood(self.at)));
-        }
-        let value = number_if(value);
-        beside.send(
-            To::Sched(home(heads, event)),
-            Order::Broadcast { event, value },
-        )?;
-        Ok(Effect::GoesOn)
-    }
+/// `select e, g for E;`
+fn select(
+    scope: &Scope,
+    alloc: Global,
+    heads: &Heads,
+    beside: &mut Beside,
+    uses: &[EventUse],
+    limit: &Option<NamedExpr>,
+) -> Result<Effect, NoMemory>
+    ensures { IfOk result (λ effect. Does effect scope.now beside.old scope.now beside.new
+        (begun heads.now (Await (events_of (map event_use_of uses.now)) (exp_if (value_of limit.now))) scope.now.at scope.now.values (beside_of beside.old))) }
+{
+    let events = events_from(alloc, uses)?;
+    scope.wait_for(alloc, heads, beside, events.as_slice(), limit)
+}
 
-    /// `create S.m(E, F);`, whose thread the variable is set to, if there is one.
-    pub fn create(
-        &mut self,
-        alloc: Global,
-        heads: &Heads,
-        beside: &mut Beside,
-        target: Option<Target>,
-        creation: &NamedCreation,
-    ) -> Result<Effect, NoMemory>
-        ensures { IfOk result (λ effect. Does effect self.old beside.old self.new beside.new
-            (did heads.now (make_action target (creation_of creation.now)) self.old.at self.old.values (beside_of beside.old))) }
-    {
-        let Ok(args) = self.values(alloc, heads, beside, creation.arguments.as_slice())? else {
-            return Ok(Effect::Dies(End::Div(self.at)));
-        };
-        if !beside.around.has_room() {
-            return Ok(Effect::Dies(End::Flood(self.at)));
-        }
-        let thread = beside.around.new_id();
-        beside.make(
-            To::Sched(creation.scheduler),
-            Order::Create {
-                thread,
-                module: creation.module,
-                args,
-            },
-        )?;
-        if let Some(target) = target {
-            self.set(heads, beside, target, Value::Thread(thread));
-        }
-        Ok(Effect::GoesOn)
-    }
-
-    /// A statement that goes on at once.
-    #[tactic(auto, using(loft_tree::proofs::NamedTrees::named_statements))]
-    pub fn act(
-        &mut self,
-        alloc: Global,
-        heads: &Heads,
-        beside: &mut Beside,
-        statement: &NamedStmt,
-    ) -> Result<Effect, NoMemory>
-        requires { IsAction (step_from statement.now) }
-        ensures { IfOk result (λ effect. Does effect self.old beside.old self.new beside.new
-            (did heads.now (action_of (step_from statement.now)) self.old.at self.old.values (beside_of beside.old))) }
-    {
-        match statement {
-            NamedStmt::Assign { target, value } => Ok(self.assign(heads, beside, *target, value)),
-            NamedStmt::AssignCreate {
-                target,
-                at: _,
-                creation,
-            } => self.create(alloc, heads, beside, Some(*target), creation),
-            NamedStmt::Create { at: _, creation } => {
-                self.create(alloc, heads, beside, None, creation)
-            }
-            NamedStmt::PrintText { at: _, text, value } => {
-                self.print_text(alloc, heads, beside, text, value)
-            }
-            NamedStmt::PrintValue { at: _, value } => self.print_value(alloc, heads, beside, value),
-            NamedStmt::Generate {
-                at: _,
-                event,
-                value,
-            } => self.generate(alloc, heads, beside, event.event, value),
-            NamedStmt::Control {
-                at: _,
-                control,
-                thread,
-                scheduler,
-            } => self.control(heads, beside, *control, thread, *scheduler),
-            NamedStmt::Broadcast {
-                at: _,
-                event,
-                value,
-            } => self.broadcast(heads, beside, event.event, value),
-            NamedStmt::Cooperate { .. }
-            | NamedStmt::Await { .. }
-            | NamedStmt::Select { .. }
-            | NamedStmt::Get { .. }
-            | NamedStmt::Join { .. }
-            | NamedStmt::Link { .. }
-            | NamedStmt::Unlink { .. }
-            | NamedStmt::Run { .. }
-            | NamedStmt::Halt { .. }
-            | NamedStmt::If { .. }
-            | NamedStmt::While { .. }
-            | NamedStmt::Repeat { .. } => unreachable!(),
-        }
+/// A stop as it begins, but for `run`.
+#[tactic(auto, using(loft_tree::proofs::NamedTrees::named_statements))]
+pub fn hold(
+    scope: &mut Scope,
+    alloc: Global,
+    heads: &Heads,
+    beside: &mut Beside,
+    statement: &NamedStmt,
+) -> Result<Effect, NoMemory>
+    requires { IsPause (step_from statement.now) }
+    ensures { IfOk result (λ effect. Does effect scope.old beside.old scope.new beside.new
+        (begun heads.now (pause_in (step_from statement.now)) scope.old.at scope.old.values (beside_of beside.old))) }
+{
+    match statement {
+        NamedStmt::Cooperate {
+            at: _,
+            stop: _,
+            instants,
+        } => Ok(scope.cooperate(heads, beside, instants)),
+        NamedStmt::Await {
+            at: _,
+            stop: _,
+            event,
+            limit,
+        } => scope.wait_for(alloc, heads, beside, &[event.event], limit),
+        NamedStmt::Select {
+            at: _,
+            stop: _,
+            events,
+            limit,
+        } => select(scope, alloc, heads, beside, events.as_slice(), limit),
+        NamedStmt::Get {
+            at: _,
+            stop: _,
+            event,
+            index,
+            target,
+        } => Ok(scope.get(heads, beside, event.event, index, *target)),
+        NamedStmt::Join {
+            at: _,
+            stop: _,
+            thread,
+            limit,
+        } => Ok(scope.join(heads, beside, thread, limit)),
+        NamedStmt::Link {
+            at: _,
+            stop: _,
+            scheduler,
+        } => Ok(Effect::Leaves(To::Sched(*scheduler))),
+        NamedStmt::Unlink { at: _, stop: _ } => Ok(Effect::Leaves(To::Workers)),
+        NamedStmt::Halt { at: _, stop: _ } => Ok(Effect::Waits(Wait::Halt)),
+        NamedStmt::Assign { .. }
+        | NamedStmt::AssignCreate { .. }
+        | NamedStmt::Create { .. }
+        | NamedStmt::PrintText { .. }
+        | NamedStmt::PrintValue { .. }
+        | NamedStmt::Generate { .. }
+        | NamedStmt::Control { .. }
+        | NamedStmt::Broadcast { .. }
+        | NamedStmt::Run { .. }
+        | NamedStmt::If { .. }
+        | NamedStmt::While { .. }
+        | NamedStmt::Repeat { .. } => unreachable!(),
     }
 }

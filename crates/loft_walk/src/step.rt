@@ -6,12 +6,11 @@ ghost use Rattle.loft_tree.specs.Resolved.{exp_of};
 ghost use Rattle.loft_sense.specs.Tree.{Again, Turns, next_begin, next_work, next_turn};
 ghost use Rattle.loft_walk.specs.Pieces.{body_from, step_from, work_of, work_of_task};
 
-use crate::effect::Effect;
 use crate::running::Running;
-use crate::scope::Beside;
-use crate::value::{is_true, number_of};
+use crate::statement::{act, hold};
 use crate::work::{Piece, Task};
 use loft_base::{ModuleId, NoMemory, Values};
+use loft_effect::{Beside, Effect, is_true, number_of};
 use loft_sense::{End, To, Wait};
 use loft_tree::{Heads, NamedExpr, NamedStmt};
 use std::alloc::Global;
@@ -55,8 +54,9 @@ impl<'a> Running<'a> {
         beside: &mut Beside,
         statement: &'a NamedStmt,
     ) -> Result<Move, NoMemory>
-        ensures { IfOk result (λ move. Steps heads.now (next_begin (step_from statement.now) (work_of self.old.work.items))
+        ensures steps { IfOk result (λ move. Steps heads.now (next_begin (step_from statement.now) (work_of self.old.work.items))
             self.old beside.old move self.new beside.new) }
+        ensures bound { IfOk result (λ move. beside.new.around.bound ≡ beside.old.around.bound) }
     {
         match statement {
             NamedStmt::Assign { .. }
@@ -67,7 +67,7 @@ impl<'a> Running<'a> {
             | NamedStmt::Generate { .. }
             | NamedStmt::Control { .. }
             | NamedStmt::Broadcast { .. } => {
-                Ok(Self::moved(self.scope.act(alloc, heads, beside, statement)?))
+                Ok(Self::moved(act(&mut self.scope, alloc, heads, beside, statement)?))
             }
             NamedStmt::Cooperate { stop, .. }
             | NamedStmt::Await { stop, .. }
@@ -78,7 +78,7 @@ impl<'a> Running<'a> {
             | NamedStmt::Unlink { stop, .. }
             | NamedStmt::Halt { stop, .. } => {
                 self.scope.at.stop = *stop;
-                Ok(Self::moved(self.scope.hold(alloc, heads, beside, statement)?))
+                Ok(Self::moved(hold(&mut self.scope, alloc, heads, beside, statement)?))
             }
             NamedStmt::Run {
                 at: _,
@@ -136,8 +136,9 @@ impl<'a> Running<'a> {
         test: &'a NamedExpr,
         body: &'a [NamedStmt],
     ) -> Result<Move, NoMemory>
-        ensures { IfOk result (λ move. Steps heads.now (next_work (Again (exp_of (term_of test.now)) (body_from body.now) ∷ work_of self.old.work.items))
+        ensures steps { IfOk result (λ move. Steps heads.now (next_work (Again (exp_of (term_of test.now)) (body_from body.now) ∷ work_of self.old.work.items))
             self.old beside.old move self.new beside.new) }
+        ensures bound { IfOk result (λ move. beside.new.around.bound ≡ beside.old.around.bound) }
     {
         let Ok(value) = self.scope.value(heads, beside, test) else {
             return Ok(Move::End(End::Div(self.scope.at)));
@@ -158,8 +159,9 @@ impl<'a> Running<'a> {
         count: i64,
         body: &'a [NamedStmt],
     ) -> Result<Move, NoMemory>
-        ensures { IfOk result (λ move. Steps heads.now (next_turn count (body_from body.now) (work_of self.old.work.items))
+        ensures steps { IfOk result (λ move. Steps heads.now (next_turn count (body_from body.now) (work_of self.old.work.items))
             self.old beside.old move self.new beside.new) }
+        ensures bound { IfOk result (λ move. beside.new.around.bound ≡ beside.old.around.bound) }
     {
         if count > 0 {
             self.work.push(Piece::Turns(count - 1, body))?;
@@ -176,8 +178,9 @@ impl<'a> Running<'a> {
         beside: &mut Beside,
         task: Task<'a>,
     ) -> Result<Move, NoMemory>
-        ensures { IfOk result (λ move. Steps heads.now (next_work (work_of_task task.entry ∷ work_of self.old.work.items))
+        ensures steps { IfOk result (λ move. Steps heads.now (next_work (work_of_task task.entry ∷ work_of self.old.work.items))
             self.old beside.old move self.new beside.new) }
+        ensures bound { IfOk result (λ move. beside.new.around.bound ≡ beside.old.around.bound) }
     {
         match task {
             Task::Begin(statement) => self.begin_statement(alloc, heads, beside, statement),

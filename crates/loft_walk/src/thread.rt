@@ -1,6 +1,6 @@
 //! A thread walks its statements (docs/SEMANTICS.md, "Run").
 
-ghost use Rattle.std.specs.Prelude.{◌≡◌, IfOk, OnOk, map, reverse};
+ghost use Rattle.std.specs.Prelude.{◌≡◌, ◌≤◌, ◌-◌, IfOk, OnOk, map, reverse};
 ghost use Rattle.std.specs.Option.{option_map};
 ghost use Rattle.loft_tree.specs.ProgramView.{program_of};
 ghost use Rattle.loft_tree.specs.Resolved.{Resolved, resolved_of, target_of as variable_of};
@@ -10,17 +10,16 @@ ghost use Rattle.loft_sense.specs.Passes.{run_of};
 ghost use Rattle.loft_sense.specs.Around.{Beside as BesideOf};
 ghost use Rattle.loft_sense.specs.Run.{active_of, frame_of, thread_of, live, ends, going, go_on, no_step, Held, Left};
 ghost use Rattle.loft_sense.specs.Tree.{tree};
-ghost use Rattle.loft_walk.specs.View.{around_of, beside_of};
+ghost use Rattle.loft_effect.specs.View.{around_of, beside_of, steps_left};
 ghost use Rattle.loft_walk.specs.Frames.{active, actives, live_of, gone_of, top_target, Answers};
 
-use crate::around::Around;
 use crate::gone::{Gone, Outcome};
 use crate::running::Running;
-use crate::scope::Beside;
 use crate::step::Move;
 use crate::work::{Task, take};
 use loft_base::{NoMemory, Sequence};
-use loft_sense::{Act, End, Frame, MAX_FRAMES, Thread, To, Wait};
+use loft_effect::{Around, Beside};
+use loft_sense::{End, Frame, MAX_FRAMES, Thread, To, Wait};
 use loft_tree::{Heads, NamedProgram, Target};
 use std::alloc::Global;
 
@@ -89,80 +88,88 @@ fn over(running: &[Running<'_>]) -> End
     }
 }
 
-impl Beside {
-    /// The thread with these frames, outermost first.
-    fn stand(
-        self,
-        alloc: Global,
-        running: Vec<Running<'_>>,
-        wait: Wait,
-    ) -> Result<(Thread, Around), NoMemory>
-        ensures thread { IfOk result (λ stood. (p : Resolved)
-            → stood.0 ≡ thread_of (tree p) wait (actives running.entry.items) (beside_of self)) }
-        ensures around { IfOk result (λ stood. around_of stood.1 ≡ around_of self.around) }
-    {
-        let frames = Sequence::from_vec(keep_all(alloc, running)?);
-        let thread = Thread {
-            id: self.id,
-            code: self.code,
-            mask: self.mask,
-            wait,
-            frames,
-        };
-        Ok((thread, self.around))
-    }
+/// What stands around a thread that may still make so many steps in this instant.
+fn around_after(mut around: Around, left: u64) -> Around
+    requires { left ≤ around.bound }
+    ensures same { around_of result ≡ around_of around }
+    ensures left { steps_left result ≡ left }
+    ensures bound { result.bound ≡ around.bound }
+{
+    around.steps = around.bound - left;
+    around
+}
 
-    /// A stop holds the thread.
-    fn hold(
-        self,
-        alloc: Global,
-        running: Vec<Running<'_>>,
-        wait: Wait,
-        left: u64,
-    ) -> Result<Gone, NoMemory>
-        ensures { IfOk result (λ gone. (p : Resolved)
-            → gone_of gone ≡ Held (thread_of (tree p) wait (actives running.entry.items) (beside_of self)) (around_of self.around) left) }
-    {
-        let (thread, around) = self.stand(alloc, running, wait)?;
-        Ok(Gone {
-            outcome: Outcome::Held(thread),
-            around,
-            left,
-        })
-    }
+/// The thread with these frames, outermost first, and what stands around it, where it may still make so many steps.
+fn stand(
+    alloc: Global,
+    beside: Beside,
+    running: Vec<Running<'_>>,
+    wait: Wait,
+    left: u64,
+) -> Result<(Thread, Around), NoMemory>
+    requires { left ≤ beside.around.bound }
+    ensures thread { IfOk result (λ stood. (p : Resolved)
+        → stood.0 ≡ thread_of (tree p) wait (actives running.entry.items) (beside_of beside)) }
+    ensures around { IfOk result (λ stood. around_of stood.1 ≡ around_of beside.around) }
+    ensures left { IfOk result (λ stood. steps_left stood.1 ≡ left) }
+    ensures bound { IfOk result (λ stood. stood.1.bound ≡ beside.around.bound) }
+{
+    let frames = Sequence::from_vec(keep_all(alloc, running)?);
+    let thread = Thread {
+        id: beside.id,
+        code: beside.code,
+        mask: beside.mask,
+        wait,
+        frames,
+    };
+    Ok((thread, around_after(beside.around, left)))
+}
 
-    /// The thread leaves.
-    fn leave(
-        self,
-        alloc: Global,
-        running: Vec<Running<'_>>,
-        to: To,
-        left: u64,
-    ) -> Result<Gone, NoMemory>
-        ensures { IfOk result (λ gone. (p : Resolved)
-            → gone_of gone ≡ Left (thread_of (tree p) WaitNew (actives running.entry.items) (beside_of self)) to (around_of self.around) left) }
-    {
-        let (thread, around) = self.stand(alloc, running, Wait::New)?;
-        Ok(Gone {
-            outcome: Outcome::Left(thread, to),
-            around,
-            left,
-        })
-    }
+/// A stop holds the thread.
+fn hold(
+    alloc: Global,
+    beside: Beside,
+    running: Vec<Running<'_>>,
+    wait: Wait,
+    left: u64,
+) -> Result<Gone, NoMemory>
+    requires { left ≤ beside.around.bound }
+    ensures held { IfOk result (λ gone. (p : Resolved)
+        → gone_of gone ≡ Held (thread_of (tree p) wait (actives running.entry.items) (beside_of beside)) (around_of beside.around) left) }
+    ensures bound { IfOk result (λ gone. gone.around.bound ≡ beside.around.bound) }
+{
+    let (thread, around) = stand(alloc, beside, running, wait, left)?;
+    let outcome = Outcome::Held(thread);
+    Ok(Gone { outcome, around })
+}
 
-    /// The thread ends, and is known as ended.
-    fn end(mut self, end: End, left: u64) -> Result<Gone, NoMemory>
-        ensures { IfOk result (λ gone. gone_of gone ≡ ends end (beside_of self) left) }
-    {
-        let thread = self.id;
-        self.around.known.push(thread)?;
-        self.around.push(Act::End { thread, end })?;
-        Ok(Gone {
-            outcome: Outcome::Ended(end),
-            around: self.around,
-            left,
-        })
-    }
+/// The thread leaves.
+fn leave(
+    alloc: Global,
+    beside: Beside,
+    running: Vec<Running<'_>>,
+    to: To,
+    left: u64,
+) -> Result<Gone, NoMemory>
+    requires { left ≤ beside.around.bound }
+    ensures left { IfOk result (λ gone. (p : Resolved)
+        → gone_of gone ≡ Left (thread_of (tree p) WaitNew (actives running.entry.items) (beside_of beside)) to (around_of beside.around) left) }
+    ensures bound { IfOk result (λ gone. gone.around.bound ≡ beside.around.bound) }
+{
+    let (thread, around) = stand(alloc, beside, running, Wait::New, left)?;
+    let outcome = Outcome::Left(thread, to);
+    Ok(Gone { outcome, around })
+}
+
+/// The thread ends.
+fn end(beside: Beside, end: End, left: u64) -> Result<Gone, NoMemory>
+    requires { left ≤ beside.around.bound }
+    ensures ended { IfOk result (λ gone. gone_of gone ≡ ends end (beside_of beside) left) }
+    ensures bound { IfOk result (λ gone. gone.around.bound ≡ beside.around.bound) }
+{
+    let around = around_after(beside.end(end)?, left);
+    let outcome = Outcome::Ended(end);
+    Ok(Gone { outcome, around })
 }
 
 /// A thread with these frames goes on, outermost first, in at most so many further steps.
@@ -173,12 +180,14 @@ fn run<'a>(
     mut beside: Beside,
     mut left: u64,
 ) -> Result<Gone, NoMemory>
-    ensures { IfOk result (λ gone. gone_of gone
+    requires { left ≤ beside.around.bound }
+    ensures gone { IfOk result (λ gone. gone_of gone
         ≡ going (tree (resolved_of (program_of program.now))) left (beside_of beside) (actives running.entry.items)) }
+    ensures bound { IfOk result (λ gone. gone.around.bound ≡ beside.around.bound) }
 {
     'going: while let Some((mut top, task)) = next_task(&mut running)? {
         if left == 0 {
-            return beside.end(End::Over(top.scope.at), 0);
+            return end(beside, End::Over(top.scope.at), 0);
         }
         left -= 1;
         let step = top.step(alloc, &program.heads, &mut beside, task)?;
@@ -188,17 +197,17 @@ fn run<'a>(
             Move::GoOn => {}
             Move::Enter(module, arguments) => {
                 if running.len() >= MAX_FRAMES {
-                    return beside.end(End::Deep(at), left);
+                    return end(beside, End::Deep(at), left);
                 }
                 let frame = Running::begin(alloc, program, beside.id, module, arguments)?;
                 running.push(frame)?;
             }
-            Move::Hold(wait) => return beside.hold(alloc, running, wait, left),
-            Move::Leave(to) => return beside.leave(alloc, running, to, left),
-            Move::End(end) => return beside.end(end, left),
+            Move::Hold(wait) => return hold(alloc, beside, running, wait, left),
+            Move::Leave(to) => return leave(alloc, beside, running, to, left),
+            Move::End(cause) => return end(beside, cause, left),
         }
     }
-    beside.end(End::Done, left)
+    end(beside, End::Done, left)
 }
 
 /// The wait of a thread with these frames ends, as it goes on; `target` is the variable that the stop of the innermost
@@ -210,7 +219,8 @@ fn answer(
     wait: &Wait,
     target: Option<Target>,
 ) -> Result<(), NoMemory>
-    ensures { OnOk result (Answers heads.now wait.now target running.old.items beside.old running.new.items beside.new) }
+    ensures answers { OnOk result (Answers heads.now wait.now target running.old.items beside.old running.new.items beside.new) }
+    ensures bound { OnOk result (beside.new.around.bound ≡ beside.old.around.bound) }
 {
     if let Some(mut top) = running.pop() {
         top.scope.answer(heads, beside, wait, target);
@@ -228,32 +238,34 @@ fn walk(
     mut beside: Beside,
     left: u64,
 ) -> Result<Gone, NoMemory>
-    ensures { IfOk result (λ gone. let code = tree (resolved_of (program_of program.now)) in
+    requires { left ≤ beside.around.bound }
+    ensures gone { IfOk result (λ gone. let code = tree (resolved_of (program_of program.now)) in
         gone_of gone ≡ go_on code left wait.now (beside_of beside) (map (active_of code) (reverse frames.items))) }
+    ensures bound { IfOk result (λ gone. gone.around.bound ≡ beside.around.bound) }
 {
     let Woken {
         mut running,
         target,
     } = wake_all(alloc, program, frames)?;
     if left == 0 {
-        let end = over(running.as_slice());
-        return beside.end(end, 0);
+        let cause = over(running.as_slice());
+        return end(beside, cause, 0);
     }
     answer(&program.heads, &mut running, &mut beside, wait, target)?;
     run(alloc, program, running, beside, left - 1)
 }
 
-/// A thread that can go runs from where it stood to the stop that holds it or by which it leaves, or to its end, in at most
-/// so many steps.
+/// A thread that can go runs from where it stood to the stop that holds it or by which it leaves, or to its end, in as many
+/// steps as what stands around it still allows.
 pub fn go(
     alloc: Global,
     program: &NamedProgram,
     thread: Thread,
-    left: u64,
     around: Around,
 ) -> Result<Gone, NoMemory>
-    ensures { IfOk result (λ gone. gone_of gone
-        ≡ run_of (Tree (resolved_of (program_of program.now))) thread (around_of around) left) }
+    ensures gone { IfOk result (λ gone. gone_of gone
+        ≡ run_of (Tree (resolved_of (program_of program.now))) thread (around_of around) (steps_left around)) }
+    ensures bound { IfOk result (λ gone. gone.around.bound ≡ around.bound) }
 {
     let Thread {
         id,
@@ -262,6 +274,7 @@ pub fn go(
         wait,
         frames,
     } = thread;
+    let left = around.bound - around.steps;
     let beside = Beside {
         id,
         code,

@@ -1,17 +1,20 @@
-use Rattle.std.proofs.Common.{◌≡◌}
+use Rattle.std.proofs.Common.{◌≡◌, ◌≤◌}
 use Rattle.loft_tree.specs.ProgramView.{program_of}
 use Rattle.loft_tree.specs.Resolved.{resolved_of}
 use Rattle.loft_sense.specs.Tree.{tree}
 use Rattle.loft_sense.specs.Run.{going}
-use Rattle.loft_walk.specs.View.{beside_of}
+use Rattle.loft_effect.specs.View.{beside_of}
 use Rattle.loft_walk.specs.Frames.{actives}
 use Rattle.loft_walk.proofs.thread.run.Given as goal
 
--- the run goes on with what is left as it goes on with all
+-- the run goes on with what is left as it goes on with all, and the bound stays
 abbrev pub invariant-going : goal.invariant-going
-invariant-going l =
-    going (tree (resolved_of (program_of l.program))) l.left (beside_of l.beside) (actives l.running.items)
-    ≡ going (tree (resolved_of (program_of l.program))) l.fn.left (beside_of l.fn.beside) (actives l.fn.running.items)
+invariant-going l = record {
+  same : going (tree (resolved_of (program_of l.program))) l.left (beside_of l.beside) (actives l.running.items)
+      ≡ going (tree (resolved_of (program_of l.program))) l.fn.left (beside_of l.fn.beside) (actives l.fn.running.items);
+  within : l.left ≤ l.beside.around.bound;
+  bound : l.beside.around.bound ≡ l.fn.beside.around.bound;
+}
 
 abbrev pub decreases-going : goal.decreases-going
 decreases-going l = l.left

@@ -3,22 +3,22 @@ use Rattle.loft_tree.specs.ProgramView.{program_of}
 use Rattle.loft_tree.specs.Resolved.{resolved_of}
 use Rattle.loft_sense.specs.Run.{no_step}
 use Rattle.loft_walk.specs.declared.running.Running.{Running}
-use Rattle.loft_walk.specs.View.{beside_of}
+use Rattle.loft_effect.specs.View.{beside_of}
 use Rattle.loft_walk.specs.Frames.{actives}
 use Rattle.loft_walk.proofs.Going.{gone_as, starts_over, starts_on}
 use Rattle.loft_walk.proofs.thread.walk.Goals as goal
 
-pub returns-then-left-eq0 : goal.returns-then-left-eq0
-returns-then-left-eq0 c =
+pub returns-then-left-eq0-clause-gone : goal.returns-then-left-eq0-clause-gone
+returns-then-left-eq0-clause-gone c =
     let p = resolved_of (program_of c.args.program.now) in
     gone_as c.end.result _ _
-    (c.over-end.ensures (beside_of c.args.beside)
+    (c.over-cause.ensures (beside_of c.args.beside)
     ∙ (ap (λ (rs : List Running). no_step (beside_of c.args.beside) (actives rs)) c.as_slice.ensures.value
-    ∙ starts_over p.heads p.bodies c.args.frames.items c.args.wait.now (beside_of c.args.beside) c.args.left c.in_ok-running.field-0.running.items c.in_ok-running.ensures.frames c.if-left-eq0.true)) c.end.ensures
+    ∙ starts_over p.heads p.bodies c.args.frames.items c.args.wait.now (beside_of c.args.beside) c.args.left c.in_ok-running.field-0.running.items c.in_ok-running.ensures.frames c.if-left-eq0.true)) c.end.ensures.ended
 
-pub returns : goal.returns
-returns c =
+pub returns-clause-gone : goal.returns-clause-gone
+returns-clause-gone c =
     let p = resolved_of (program_of c.args.program.now) in
     gone_as c.run.result _ _
-    (c.in_ok-answer.ensures p.bodies (c.args.left - 1) c.in_ok-running.ensures.target
-    ∙ starts_on p.heads p.bodies c.args.frames.items c.args.wait.now (beside_of c.args.beside) c.args.left c.in_ok-running.field-0.running.items c.in_ok-running.ensures.frames c.if-left-eq0.false) c.run.ensures
+    (c.in_ok-answer.ensures.answers p.bodies (c.args.left - 1) c.in_ok-running.ensures.target
+    ∙ starts_on p.heads p.bodies c.args.frames.items c.args.wait.now (beside_of c.args.beside) c.args.left c.in_ok-running.field-0.running.items c.in_ok-running.ensures.frames c.if-left-eq0.false) c.run.ensures.gone

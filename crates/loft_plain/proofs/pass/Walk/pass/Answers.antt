@@ -3,7 +3,7 @@ use Rattle.std.proofs.lemmas.List.{nil_from_length}
 use Rattle.loft_tree.specs.ProgramView.{program_of}
 use Rattle.loft_tree.specs.Resolved.{resolved_of}
 use Rattle.loft_sense.specs.Machine.{Tree}
-use Rattle.loft_walk.specs.View.{around_of}
+use Rattle.loft_effect.specs.View.{around_of}
 use Rattle.loft_plain.specs.declared.pass.Runner.{Runner}
 use Rattle.loft_plain.specs.View.{runner_of}
 use Rattle.loft_plain.proofs.PassLemmas.{walked_all}

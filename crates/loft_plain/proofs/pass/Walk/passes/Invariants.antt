@@ -3,7 +3,7 @@ use Rattle.loft_tree.specs.ProgramView.{program_of}
 use Rattle.loft_tree.specs.Resolved.{resolved_of}
 use Rattle.loft_sense.specs.Machine.{Tree}
 use Rattle.loft_sense.specs.Passes.{passes}
-use Rattle.loft_walk.specs.View.{around_of}
+use Rattle.loft_effect.specs.View.{around_of}
 use Rattle.loft_plain.specs.View.{runner_of, walk_of}
 use Rattle.loft_plain.proofs.PassLemmas.{passes_after, passes_left}
 use Rattle.loft_plain.proofs.pass.Walk.passes.Given as goal

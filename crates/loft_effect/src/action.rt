@@ -1,0 +1,257 @@
+//! What an action does that goes on at once, or ends its thread (docs/SEMANTICS.md, "Statements").
+
+ghost use Rattle.std.specs.Prelude.{◌≡◌, ◌++◌, map, IfOk, OnOk};
+ghost use Rattle.loft_tree.specs.NamedView.{term_of, value_of};
+ghost use Rattle.loft_tree.specs.Resolved.{exp_of, exp_if, exps_of, target_of, Assign, PrintText, PrintValue, Generate, ControlThread, Broadcast};
+ghost use Rattle.loft_sense.specs.Heads.{home as home_of};
+ghost use Rattle.loft_sense.specs.Eval.{eval_all};
+ghost use Rattle.loft_sense.specs.Statements.{did, printed, text_if as text_of, order_of as order_for};
+ghost use Rattle.loft_effect.specs.View.{answer_of, beside_of};
+ghost use Rattle.loft_effect.specs.Effects.{Does, make_action};
+
+use crate::effect::Effect;
+use crate::scope::{Beside, Scope, number_if};
+use crate::value::thread_or;
+use loft_base::{Div, EventId, ModuleId, NoMemory, SchedId, Sequence, ThreadId, Value, Values};
+use loft_sense::{Act, End, Order, To};
+use loft_text::{Item, LineBuffer};
+use loft_tree::{Control, Heads, NamedExpr, Target, Text};
+use std::alloc::Global;
+
+/// The scheduler on whose board the event stands.
+fn home(heads: &Heads, event: EventId) -> SchedId
+    ensures { result ≡ home_of heads.now event }
+{
+    match heads.events.as_slice().get(event.0 as usize) {
+        Some(head) => head.scheduler,
+        None => SchedId(0),
+    }
+}
+
+/// What one thread orders of another.
+fn order_of(control: Control, thread: ThreadId) -> Order
+    ensures { result ≡ order_for control thread }
+{
+    match control {
+        Control::Stop => Order::Stop(thread),
+        Control::Suspend => Order::Suspend(thread),
+        Control::Resume => Order::Resume(thread),
+    }
+}
+
+/// Appends the text of a value, where there is one.
+fn push_value_if(line: &mut LineBuffer, heads: &Heads, value: Option<Value>) -> Result<(), NoMemory>
+    ensures { OnOk result (line.new ≡ line.old ++ text_of heads.now value) }
+{
+    match value {
+        Some(value) => value.push_to(line, heads),
+        None => Ok(()),
+    }
+}
+
+impl Scope {
+    /// The values of expressions in order. `Div` comes exactly where a divisor is 0.
+    pub fn values(
+        &self,
+        alloc: Global,
+        heads: &Heads,
+        beside: &Beside,
+        es: &[NamedExpr],
+    ) -> Result<Result<Values, Div>, NoMemory>
+        ensures { IfOk result (λ values. answer_of values
+            ≡ eval_all heads.now self.now.values (beside_of beside.now) (exps_of (map term_of es.now))) }
+    {
+        let mut values = Sequence::new(alloc);
+        for e in es {
+            match self.value(heads, beside, e) {
+                Ok(value) => values.push(value)?,
+                Err(div) => return Ok(Err(div)),
+            }
+        }
+        Ok(Ok(values))
+    }
+
+    /// `x = E;`
+    pub fn assign(
+        &mut self,
+        heads: &Heads,
+        beside: &mut Beside,
+        target: Target,
+        e: &NamedExpr,
+    ) -> Effect
+        ensures { Does result self.old beside.old self.new beside.new
+            (did heads.now (Assign (target_of target) (exp_of (term_of e.now))) self.old.at self.old.values (beside_of beside.old)) }
+    {
+        let Ok(value) = self.value(heads, beside, e) else {
+            return Effect::Dies(End::Div(self.at));
+        };
+        self.set(heads, beside, target, value);
+        Effect::GoesOn
+    }
+
+    /// A line is printed.
+    fn print(&self, beside: &mut Beside, line: LineBuffer) -> Result<Effect, NoMemory>
+        ensures { IfOk result (λ e. Does e self.now beside.old self.now beside.new
+            (printed line self.now.at self.now.values (beside_of beside.old))) }
+    {
+        if !beside.around.has_room() {
+            return Ok(Effect::Dies(End::Flood(self.at)));
+        }
+        let thread = beside.id;
+        let line = line.into_line();
+        beside.around.enter(Act::Print { thread, line })?;
+        Ok(Effect::GoesOn)
+    }
+
+    /// `print "..";` or `print "..", E;`
+    pub fn print_text(
+        &self,
+        alloc: Global,
+        heads: &Heads,
+        beside: &mut Beside,
+        text: &Text,
+        e: &Option<NamedExpr>,
+    ) -> Result<Effect, NoMemory>
+        ensures { IfOk result (λ effect. Does effect self.now beside.old self.now beside.new
+            (did heads.now (PrintText text.now (exp_if (value_of e.now))) self.now.at self.now.values (beside_of beside.old))) }
+    {
+        let Ok(value) = self.value_if(heads, beside, e) else {
+            return Ok(Effect::Dies(End::Div(self.at)));
+        };
+        let mut line = LineBuffer::new(alloc);
+        line.bytes(text.bytes())?;
+        push_value_if(&mut line, heads, value)?;
+        self.print(beside, line)
+    }
+
+    /// `print E;`
+    pub fn print_value(
+        &self,
+        alloc: Global,
+        heads: &Heads,
+        beside: &mut Beside,
+        e: &NamedExpr,
+    ) -> Result<Effect, NoMemory>
+        ensures { IfOk result (λ effect. Does effect self.now beside.old self.now beside.new
+            (did heads.now (PrintValue (exp_of (term_of e.now))) self.now.at self.now.values (beside_of beside.old))) }
+    {
+        let Ok(value) = self.value(heads, beside, e) else {
+            return Ok(Effect::Dies(End::Div(self.at)));
+        };
+        let mut line = LineBuffer::new(alloc);
+        value.push_to(&mut line, heads)?;
+        self.print(beside, line)
+    }
+
+    /// `generate e;` or `generate e, E;`
+    pub fn generate(
+        &self,
+        alloc: Global,
+        heads: &Heads,
+        beside: &mut Beside,
+        event: EventId,
+        e: &Option<NamedExpr>,
+    ) -> Result<Effect, NoMemory>
+        ensures { IfOk result (λ effect. Does effect self.now beside.old self.now beside.new
+            (did heads.now (Generate event (exp_if (value_of e.now))) self.now.at self.now.values (beside_of beside.old))) }
+    {
+        let Ok(value) = self.value_if(heads, beside, e) else {
+            return Ok(Effect::Dies(End::Div(self.at)));
+        };
+        if !beside.around.has_room() {
+            return Ok(Effect::Dies(End::Flood(self.at)));
+        }
+        let value = number_if(value);
+        beside.around.generate(alloc, event, value)?;
+        let thread = beside.id;
+        beside.around.enter(Act::Gen {
+            thread,
+            event,
+            value,
+        })?;
+        Ok(Effect::GoesOn)
+    }
+
+    /// `stop E in S;`, `suspend E in S;` or `resume E in S;`
+    pub fn control(
+        &self,
+        heads: &Heads,
+        beside: &mut Beside,
+        control: Control,
+        e: &NamedExpr,
+        scheduler: SchedId,
+    ) -> Result<Effect, NoMemory>
+        ensures { IfOk result (λ effect. Does effect self.now beside.old self.now beside.new
+            (did heads.now (ControlThread control (exp_of (term_of e.now)) scheduler) self.now.at self.now.values (beside_of beside.old))) }
+    {
+        let Ok(value) = self.value(heads, beside, e) else {
+            return Ok(Effect::Dies(End::Div(self.at)));
+        };
+        if !beside.around.has_room() {
+            return Ok(Effect::Dies(End::Flood(self.at)));
+        }
+        let order = order_of(control, thread_or(beside.id, value));
+        beside.send(To::Sched(scheduler), order)?;
+        Ok(Effect::GoesOn)
+    }
+
+    /// `broadcast e;` or `broadcast e, E;`
+    pub fn broadcast(
+        &self,
+        heads: &Heads,
+        beside: &mut Beside,
+        event: EventId,
+        e: &Option<NamedExpr>,
+    ) -> Result<Effect, NoMemory>
+        ensures { IfOk result (λ effect. Does effect self.now beside.old self.now beside.new
+            (did heads.now (Broadcast event (exp_if (value_of e.now))) self.now.at self.now.values (beside_of beside.old))) }
+    {
+        let Ok(value) = self.value_if(heads, beside, e) else {
+            return Ok(Effect::Dies(End::Div(self.at)));
+        };
+        if !beside.around.has_room() {
+            return Ok(Effect::Dies(End::Flood(self.at)));
+        }
+        let value = number_if(value);
+        beside.send(
+            To::Sched(home(heads, event)),
+            Order::Broadcast { event, value },
+        )?;
+        Ok(Effect::GoesOn)
+    }
+
+    /// `create S.m(E, F);`, whose thread the variable is set to, if there is one.
+    pub fn create(
+        &mut self,
+        alloc: Global,
+        heads: &Heads,
+        beside: &mut Beside,
+        target: Option<Target>,
+        scheduler: SchedId,
+        module: ModuleId,
+        arguments: &[NamedExpr],
+    ) -> Result<Effect, NoMemory>
+        ensures { IfOk result (λ effect. Does effect self.old beside.old self.new beside.new
+            (did heads.now (make_action target scheduler «module» arguments.now) self.old.at self.old.values (beside_of beside.old))) }
+    {
+        let Ok(args) = self.values(alloc, heads, beside, arguments)? else {
+            return Ok(Effect::Dies(End::Div(self.at)));
+        };
+        if !beside.around.has_room() {
+            return Ok(Effect::Dies(End::Flood(self.at)));
+        }
+        let thread = beside.around.new_id();
+        beside.make(
+            To::Sched(scheduler),
+            Order::Create {
+                thread,
+                module,
+                args,
+            },
+        )?;
+        if let Some(target) = target {
+            self.set(heads, beside, target, Value::Thread(thread));
+        }
+        Ok(Effect::GoesOn)
+    }
+}

@@ -1,0 +1,19 @@
+//! What statements do to the thread that runs them and around it, in a frame with the values of its variables. Where the
+//! thread goes on is left to who runs it.
+#![tactic(auto)]
+
+mod action;
+mod around;
+mod effect;
+mod frame;
+mod scope;
+mod sight;
+mod stop;
+mod value;
+
+pub use around::{Around, is_known, same_thread};
+pub use effect::Effect;
+pub use frame::first_values;
+pub use scope::{Beside, Scope};
+pub use sight::Sight;
+pub use value::{is_true, number_of};
