@@ -1,0 +1,9 @@
+use Rattle.std.proofs.Common.{◌-◌, ap, ◌∙◌}
+use Rattle.loft_sense.specs.Run.{ends}
+use Rattle.loft_effect.specs.View.{Pace, beside_of, steps_left}
+use Rattle.loft_step.proofs.thread.end.Goals as goal
+
+pub returns-clause-ended : goal.returns-clause-ended
+returns-clause-ended c =
+    c.in_ok-around.ensures.ended (steps_left c.in_ok-around.around)
+    ∙ ap (λ (p : Pace). ends c.args.end (beside_of c.args.beside) (p.bound - p.steps)) c.in_ok-around.ensures.pace

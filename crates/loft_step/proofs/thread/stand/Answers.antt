@@ -1,0 +1,14 @@
+use Rattle.std.proofs.Common.{ℤ, ap, ◌∙◌, rules, to_z, of_z}
+use Rattle.std.specs.Int.{w64}
+use Rattle.std.specs.Prelude.{FitsSigned}
+use Rattle.std.proofs.lemmas.Int.{to_z-of_z}
+use Rattle.loft_step.proofs.Kept.{stood, thread_with}
+use Rattle.loft_step.proofs.thread.stand.Goals as goal
+
+pub returns-clause-thread : goal.returns-clause-thread
+returns-clause-thread c = λ a.
+    let code : FitsSigned w64 c.args.beside.code = search rules in
+    let mask : FitsSigned w64 c.args.beside.mask = search rules in
+    ap (λ (n : ℤ). thread_with c.args.beside.id n (to_z w64 (of_z w64 c.args.beside.mask)) c.args.wait c.push.new.self) (to_z-of_z w64 c.args.beside.code code)
+    ∙ (ap (λ (n : ℤ). thread_with c.args.beside.id c.args.beside.code n c.args.wait c.push.new.self) (to_z-of_z w64 c.args.beside.mask mask)
+    ∙ ap (thread_with c.args.beside.id c.args.beside.code c.args.beside.mask c.args.wait) (stood a c.args.outer c.push.new.self c.args.top c.keep.result c.requires (c.keep.ensures a) c.in_ok-push.ensures.ok))

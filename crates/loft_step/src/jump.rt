@@ -1,0 +1,176 @@
+//! Where operations lead (docs/SEMANTICS.md, "Code").
+
+ghost use Rattle.std.specs.Prelude.{◌≡◌, ◌<◌, [], length, map, slice_get, unwrap_or, Some, IfSome};
+ghost use Rattle.std.specs.Option.{option_map};
+ghost use Rattle.loft_tree.specs.Resolved.{target_of as variable_of};
+ghost use Rattle.loft_code.specs.Operations.{stop_of};
+ghost use Rattle.loft_code.specs.View.{automata_of, line_of, lines_of, operation_of};
+ghost use Rattle.loft_sense.specs.Code.{lines_at, jump_of, landing as landing_of, is_number, stop_from, pause_of, pause_at, pause_in};
+ghost use Rattle.loft_sense.specs.Statements.{target_of};
+ghost use Rattle.loft_step.specs.Lines.{ends_at, line_in, op_after, StopsAreNumbered};
+
+use loft_base::ModuleId;
+use loft_code::{Code, CodeLine, ModuleCode, Op, Pause};
+use loft_tree::Target;
+
+/// The operations of a module among these, none where there is no such module.
+fn lines_among(modules: &[ModuleCode], module: ModuleId) -> &[CodeLine]
+    ensures { map line_of result.now ≡ unwrap_or (slice_get (map lines_of modules.now) «module».0) [] }
+{
+    match modules.get(module.0 as usize) {
+        Some(module) => module.lines.as_slice(),
+        None => &[],
+    }
+}
+
+/// The operations of a module of the code. Each stop among them is found by its number.
+pub fn lines_of(code: &Code, module: ModuleId) -> &[CodeLine]
+    ensures lines { map line_of result.now ≡ lines_at (automata_of code.now) «module» }
+    ensures numbered { StopsAreNumbered (map line_of result.now) }
+{
+    lines_among(code.program().modules.as_slice(), module)
+}
+
+/// Where a `jump` leads.
+fn jump_of(op: &Op) -> Option<u64>
+    ensures { result ≡ jump_of (operation_of op.now) }
+{
+    match op {
+        Op::Jump { target } => Some(*target),
+        Op::Do(_)
+        | Op::Hold { .. }
+        | Op::Run { .. }
+        | Op::Branch { .. }
+        | Op::Enter
+        | Op::Count(_)
+        | Op::Turn { .. }
+        | Op::End => None,
+    }
+}
+
+/// The number of the operation that is reached from this one over jumps: at most as many as there are operations.
+pub fn landing(lines: &[CodeLine], from: usize) -> usize
+    ensures { result ≡ landing_of (map line_of lines.now) from }
+{
+    let mut op = from;
+    'jumping: for _jumps in 0..lines.len() {
+        let Some(line) = lines.get(op) else {
+            return op;
+        };
+        let Some(target) = jump_of(&line.op) else {
+            return op;
+        };
+        op = target as usize;
+    }
+    op
+}
+
+/// Whether it is there, and an `end`.
+pub fn ends_at(line: Option<&CodeLine>) -> bool
+    ensures { result ≡ ends_at (line_in line.entry) }
+{
+    match line {
+        None => false,
+        Some(line) => match &line.op {
+            Op::End => true,
+            Op::Do(_)
+            | Op::Hold { .. }
+            | Op::Run { .. }
+            | Op::Branch { .. }
+            | Op::Enter
+            | Op::Count(_)
+            | Op::Turn { .. }
+            | Op::Jump { .. } => false,
+        },
+    }
+}
+
+/// Whether the operation is stop k.
+fn is_stop(op: &Op, k: u32) -> bool
+    ensures { result ≡ is_number (stop_of (operation_of op.now)) k }
+{
+    match op {
+        Op::Hold { stop, .. } | Op::Run { stop, .. } => *stop == u64::from(k),
+        Op::Do(_)
+        | Op::Branch { .. }
+        | Op::Enter
+        | Op::Count(_)
+        | Op::Turn { .. }
+        | Op::Jump { .. }
+        | Op::End => false,
+    }
+}
+
+/// The number of the first operation that is stop k.
+fn find_stop(lines: &[CodeLine], k: u32) -> Option<usize>
+    ensures first { result ≡ stop_from 0 (map line_of lines.now) k }
+    ensures within { IfSome result (λ number. number < length lines.now) }
+{
+    for (number, line) in lines.iter().enumerate() {
+        if is_stop(&line.op, k) {
+            return Some(number);
+        }
+    }
+    None
+}
+
+/// The variable that a stop sets, where it is a `get`.
+fn target_of(op: &Op) -> Option<Target>
+    ensures { option_map variable_of result ≡ target_of (pause_of (operation_of op.now)) }
+{
+    match op {
+        Op::Hold {
+            stop: _,
+            pause: Pause::Get { target, .. },
+        } => Some(*target),
+        Op::Hold { .. }
+        | Op::Do(_)
+        | Op::Run { .. }
+        | Op::Branch { .. }
+        | Op::Enter
+        | Op::Count(_)
+        | Op::Turn { .. }
+        | Op::Jump { .. }
+        | Op::End => None,
+    }
+}
+
+/// The variable that the operation with this number sets as a stop, where it is a `get`.
+fn target_at(lines: &[CodeLine], number: usize) -> Option<Target>
+    ensures { option_map variable_of result ≡ target_of (pause_at (map line_of lines.now) (Some number)) }
+{
+    match lines.get(number) {
+        Some(line) => target_of(&line.op),
+        None => None,
+    }
+}
+
+/// Where a frame goes on: the number of the operation, and the variable that the stop before it sets.
+#[derive(Clone, Copy)]
+pub struct Resumed {
+    pub op: usize,
+    pub target: Option<Target>,
+}
+
+/// Where a frame goes on that has stood at this stop, 0 where it has stood at none.
+pub fn resume(lines: &[CodeLine], stop: u32) -> Resumed
+    ensures op { result.op ≡ op_after (map line_of lines.now) stop }
+    ensures target { option_map variable_of result.target ≡ target_of (pause_in (map line_of lines.now) stop) }
+{
+    if stop == 0 {
+        return Resumed {
+            op: 0,
+            target: None,
+        };
+    }
+    let Some(number) = find_stop(lines, stop) else {
+        return Resumed {
+            op: lines.len(),
+            target: None,
+        };
+    };
+    Resumed {
+        op: number + 1,
+        target: target_at(lines, number),
+    }
+}
