@@ -15,3 +15,4 @@ pub mod SizeLemmas
 pub mod ValidLemmas
 pub mod ProgramLemmas
 pub mod WriteLemmas
+pub mod SameHistories

@@ -18,8 +18,9 @@ use Rattle.loft_sense.specs.Machine.{Prog, Tree, Code}
 use Rattle.loft_sense.specs.Tree.{body_or_empty, body_at}
 use Rattle.loft_sense.specs.Code.{lines_at}
 use Rattle.loft_sense.specs.Stands.{StopAt, begin_of, leads_step, leads, stop_in, line_stop, stop_of, ValuesAgree, FrameStands, OuterStand, FramesStand, Stands}
+use Rattle.loft_stand.specs.Numbered.{stops_in, body_stops}
 use Rattle.loft_compile.specs.Compiled.{line, again_lines, turn_lines, step_lines, body_lines, compiled}
-use Rattle.loft_compile.specs.Implements.{step_stops, body_stops, IsSame}
+use Rattle.loft_compile.specs.Implements.{IsSame}
 use Rattle.loft_compile.specs.Whole.{BodyIsWhole, IsWhole}
 use Rattle.loft_compile.proofs.Modules.{within_some, code_of, module_begin, module_stop, lines_are, no_lines, body_is, body_or_not}
 
@@ -46,7 +47,7 @@ stops_between first between a b e f =
 
 module _ (h : Heads) where
   mutual
-    step_counted : (s : Step) (p d : ℕ) (here : Place) → stops (step_lines h s p d here) ≡ step_stops s
+    step_counted : (s : Step) (p d : ℕ) (here : Place) → stops (step_lines h s p d here) ≡ stops_in s
     step_counted (Do action) p d here = refl
     step_counted (Hold k pause) p d here = refl
     step_counted (Call k m arguments) p d here = refl

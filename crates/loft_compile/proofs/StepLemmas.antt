@@ -26,7 +26,7 @@ use Rattle.loft_code.specs.declared.limits.TheConstants.{MAX_DEPTH}
 use Rattle.loft_code.specs.Operations as op
 use Rattle.loft_code.specs.Names.{has_place}
 use Rattle.loft_sense.specs.Stands.{end_or_unlinked, leads_step, leads}
-use Rattle.loft_compile.specs.Implements.{step_stops, body_stops}
+use Rattle.loft_stand.specs.Numbered.{stops_in as step_stops, body_stops}
 use Rattle.loft_compile.proofs.OperandLemmas.{met_left, met_right, event_passes, events_pass, operand_passes, int_passes, value_passes, target_passes, call_passes, begins_there}
 use Rattle.loft_compile.proofs.OperationLemmas.{OperationPasses, assign_passes, none_made, some_made, MadePasses, make_passes, print_text_passes, print_value_passes, generate_passes, control_passes, broadcast_passes, cooperate_passes, choices_pass, await_passes, get_passes, join_passes, link_passes, unlink_passes, halt_passes, run_passes, branch_passes, count_passes}
 

@@ -1,9 +1,9 @@
 -- Code that does what a source tree does (docs/CODE.md, "Code that implements a program").
-use Rattle.std.specs.Prelude.{◌≡◌, ℕ, ◌+◌}
+use Rattle.std.specs.Prelude.{◌≡◌, ℕ}
 use Rattle.std.specs.List.{count_by}
 use Rattle.loft_base.specs.declared.ids.ModuleId.{ModuleId}
 use Rattle.loft_tree.specs.declared.heads.Place.{Place}
-use Rattle.loft_tree.specs.Resolved.{Step, Do, Hold, Call, Choose, Loop, Times, Body, Empty, Then, Resolved}
+use Rattle.loft_tree.specs.Resolved.{Resolved}
 use Rattle.loft_code.specs.Operations.{Automata}
 use Rattle.loft_code.specs.Valid.{is_stop}
 use Rattle.loft_sense.specs.declared.thread.Thread.{Thread}
@@ -13,20 +13,7 @@ use Rattle.loft_sense.specs.Run.{go}
 use Rattle.loft_sense.specs.Tree.{tree, body_at}
 use Rattle.loft_sense.specs.Code.{code, lines_at}
 use Rattle.loft_sense.specs.Stands.{Stands}
-
--- how many stops a statement has, and a body
-abbrev mutual
-  pub step_stops : Step → ℕ
-  step_stops (Do action) = 0
-  step_stops (Hold k pause) = 1
-  step_stops (Call k m arguments) = 1
-  step_stops (Choose test first second) = body_stops first + body_stops second
-  step_stops (Loop test body) = body_stops body
-  step_stops (Times count body) = body_stops body
-
-  pub body_stops : Body → ℕ
-  body_stops Empty = 0
-  body_stops (Then s rest) = step_stops s + body_stops rest
+use Rattle.loft_stand.specs.Numbered.{body_stops}
 
 -- both, each from the other
 pub record IsSame (P Q : Type 0) : Type 0 where

@@ -43,25 +43,25 @@ last_fits P (n ∷ []) f = f.0
 last_fits P (n ∷ m ∷ ns) f = last_fits P (m ∷ ns) f.1
 
 module _ (x : Prog) (well : IsWellFormed x) (o : RunOptions) where
-  abbrev BatchFits : SchedId → List Order → Type 0
+  abbrev pub BatchFits : SchedId → List Order → Type 0
   BatchFits s batch = Each (Fits x s) batch
 
   -- all that the instant sent fits
-  abbrev NoteFits : InstantNote → Type 0
+  abbrev pub NoteFits : InstantNote → Type 0
   NoteFits note = Each (SentFits x) note.sent
 
   -- ---- a scheduler's own instants
 
   -- a machine of this scheduler that fits, and notes that do
-  record ReplayedFits (s : SchedId) (r : Replayed) : Type 0 where
-    own : r.machine.s ≡ s
-    machine : MachFits x r.machine
-    notes : Each NoteFits r.notes
+  pub record ReplayedFits (s : SchedId) (r : Replayed) : Type 0 where
+    pub own : r.machine.s ≡ s
+    pub machine : MachFits x r.machine
+    pub notes : Each NoteFits r.notes
 
-  begun_fits : (s : SchedId) → IsScheduler (heads x) s → ReplayedFits s (record { machine = empty x s; notes = [] })
+  pub begun_fits : (s : SchedId) → IsScheduler (heads x) s → ReplayedFits s (record { machine = empty x s; notes = [] })
   begun_fits s declared = record { own = refl; machine = empty_fits x s declared; notes = tt }
 
-  one_more_fits : (s : SchedId) (r : Replayed) (batch : List Order) → ReplayedFits s r → BatchFits s batch → ReplayedFits s (one_more x o.limits r batch)
+  pub one_more_fits : (s : SchedId) (r : Replayed) (batch : List Order) → ReplayedFits s r → BatchFits s batch → ReplayedFits s (one_more x o.limits r batch)
   one_more_fits s r batch f g =
       let did = instant x o.limits r.machine batch in
       let after = instant_fits x well o.limits r.machine batch f.machine (subst (λ (q : SchedId). BatchFits q batch) (sym f.own) g) in
@@ -78,9 +78,9 @@ module _ (x : Prog) (well : IsWellFormed x) (o : RunOptions) where
   -- ---- histories
 
   -- what waits for each scheduler fits there, and so did each batch that it took
-  record HistoryFits (h : List Entry) : Type 0 where
-    waits : (s : SchedId) → BatchFits s (waiting (heads x) s h)
-    took : (s : SchedId) → Each (BatchFits s) (log s h)
+  pub record HistoryFits (h : List Entry) : Type 0 where
+    pub waits : (s : SchedId) → BatchFits s (waiting (heads x) s h)
+    pub took : (s : SchedId) → Each (BatchFits s) (log s h)
 
   replayed_fits : (h : List Entry) (s : SchedId) → HistoryFits h → IsScheduler (heads x) s → ReplayedFits s (replayed x o.limits s h)
   replayed_fits h s f declared = replay_fits s _ (log s h) (begun_fits s declared) (f.took s)
@@ -112,7 +112,7 @@ module _ (x : Prog) (well : IsWellFormed x) (o : RunOptions) where
       }
 
   -- the entry of each allowed choice keeps this
-  entry_fits : (h : List Entry) (c : Choice) (e : Entry) → HistoryFits h → entry_of x o h c ≡ Some e → HistoryFits (h ++ e ∷ [])
+  pub entry_fits : (h : List Entry) (c : Choice) (e : Entry) → HistoryFits h → entry_of x o h c ≡ Some e → HistoryFits (h ++ e ∷ [])
   entry_fits h (TakeBy s) e f is = on_allowed _ (Take s (waiting (heads x) s h)) e is (λ allowed same. subst (λ (d : Entry). HistoryFits (h ++ d ∷ [])) same (take_fits h s f))
   entry_fits h (GiveBy s) e f is =
       on_allowed (nat_lt s.0 (length (heads x).schedulers) && is_open s h) (Give s (sent_last (replayed x o.limits s h).notes)) e is
@@ -126,24 +126,27 @@ module _ (x : Prog) (well : IsWellFormed x) (o : RunOptions) where
   choices_fit (c ∷ cs) h g f made = from_first x o h (entry_of x o h c) cs g made (λ e is on. choices_fit cs (h ++ e ∷ []) g (entry_fits h c e f is) on)
 
   -- at first the starts wait
-  starts_wait : HistoryFits []
+  pub starts_wait : HistoryFits []
   starts_wait = record { waits = λ s. each_of (Fits x s) (starts_of (heads x) s) (starts_fit x well s); took = λ s. tt }
 
   -- ---- as the law says it
 
+  pub history_fits : (choices : List Choice) (es : List Entry) → hist x o choices ≡ Ok es → HistoryFits es
+  history_fits choices es made = choices_fit choices [] es starts_wait made
+
   module _ (choices : List Choice) (es : List Entry) (made : hist x o choices ≡ Ok es) (s : SchedId) where
-    history_fits : HistoryFits es
-    history_fits = choices_fit choices [] es starts_wait made
+    abbrev fits : HistoryFits es
+    fits = history_fits choices es made
 
     pub waiting_fits : All (Fits x s) (waiting (heads x) s es)
-    waiting_fits = all_of (Fits x s) (waiting (heads x) s es) (history_fits.waits s)
+    waiting_fits = all_of (Fits x s) (waiting (heads x) s es) (fits.waits s)
 
     pub scheduler_fits : IsScheduler (heads x) s → let m = (replayed x o.limits s es).machine in (m.s ≡ s) × MachFits x m
-    scheduler_fits declared = let r = replayed_fits es s history_fits declared in (r.own, r.machine)
+    scheduler_fits declared = let r = replayed_fits es s fits declared in (r.own, r.machine)
 
     pub sents_fit : IsScheduler (heads x) s → All (λ (note : InstantNote). All (SentFits x) note.sent) (replayed x o.limits s es).notes
     sents_fit declared =
         let notes = (replayed x o.limits s es).notes in
         all_of (λ (note : InstantNote). All (SentFits x) note.sent) notes
         (each_map NoteFits (λ (note : InstantNote). All (SentFits x) note.sent) notes (λ note f. all_of (SentFits x) note.sent f)
-        (replayed_fits es s history_fits declared).notes)
+        (replayed_fits es s fits declared).notes)

@@ -44,23 +44,23 @@ use Rattle.loft_stand.proofs.OrderLemmas.{acts_fit, Leaves, leaver_fits, orders_
 
 module _ (x : Prog) (s : SchedId) where
   -- a thread that is still linked stands here; one that leaves stands where it goes
-  abbrev Going : Option To → Thread → Type 0
+  abbrev pub Going : Option To → Thread → Type 0
   Going None t = ThreadFits x (Sched s) t
   Going (Some to) t = Leaves x t to
 
-  abbrev RunnerFits : Runner → Type 0
+  abbrev pub RunnerFits : Runner → Type 0
   RunnerFits r = Going r.leaving r.thread
 
-  record WalkFits (w : Walk) : Type 0 where
-    runners : Each RunnerFits w.runners
-    around : AroundFits (heads x) (Sched s) w.around
+  pub record WalkFits (w : Walk) : Type 0 where
+    pub runners : Each RunnerFits w.runners
+    pub around : AroundFits (heads x) (Sched s) w.around
 
   runners_fit : (r : Runner) (o : Outcome) (rest : List Runner) → r.leaving ≡ None → LeavesStanding x (Sched s) o → Each RunnerFits rest → Each RunnerFits (runners_after r o ++ rest)
   runners_fit r (Held t around left) rest e f g = (subst (λ leaving. Going leaving t) (sym e) (f.0, f.1), g)
   runners_fit r (Left t to around left) rest e f g = ((f.0, f.1, f.2), g)
   runners_fit r (Ended end around left) rest e f g = g
 
-  around_fits : (o : Outcome) → LeavesStanding x (Sched s) o → AroundFits (heads x) (Sched s) (around_after o)
+  pub around_fits : (o : Outcome) → LeavesStanding x (Sched s) o → AroundFits (heads x) (Sched s) (around_after o)
   around_fits (Held t around left) f = f.2
   around_fits (Left t to around left) f = f.3
   around_fits (Ended end around left) f = f.1
@@ -81,6 +81,11 @@ module _ (x : Prog) (s : SchedId) where
   ready_stays : (t : Thread) (suspended : Bool) (around : Around) (leaving : Option To) → (not (is_some leaving) && can_go t.wait suspended around.board around.known) ≡ true → leaving ≡ None
   ready_stays t suspended around None e = refl
   ready_stays t suspended around (Some to) e = absurd cc
+
+  pub ready_fits : (r : Runner) (around : Around) → RunnerFits r → is_ready r around ≡ true → (r.leaving ≡ None) × ThreadFits x (Sched s) r.thread
+  ready_fits r around f e =
+      let here : r.leaving ≡ None = ready_stays r.thread r.suspended around r.leaving e in
+      (here, subst (λ leaving. Going leaving r.thread) here f)
 
   one_fits : (b : Bool) (v w : Walk) → WalkFits v → WalkFits w → WalkFits (if b then v else w)
   one_fits true v w f g = f
@@ -154,19 +159,22 @@ module _ (x : Prog) (s : SchedId) where
   leavers_fit [] f = tt
   leavers_fit (r ∷ rs) f = each_append (SentFits x) (leaver r.thread r.leaving) (leavers rs) (leaver_one r.thread r.leaving f.0) (leavers_fit rs f.1)
 
-  begin_fit : (budget : ℕ) (ss : List Standing) → Each (Linked x s) ss → Each (RunnerFits x s) (map (runner_of budget) ss)
+  pub begin_fit : (budget : ℕ) (ss : List Standing) → Each (Linked x s) ss → Each (RunnerFits x s) (map (runner_of budget) ss)
   begin_fit budget [] f = tt
   begin_fit budget (q ∷ ss) f = (f.0, begin_fit budget ss f.1)
 
+-- what an unlinked thread finds around it
+pub alone_fits : (x : Prog) → AroundFits (heads x) Unlinked (alone x)
+alone_fits x = record { declared = tt; there = refl; shared = tt; board = length-replicate (length (heads x).events) None; acts = tt }
+
 module _ (x : Prog) (well : IsWellFormed x) where
-  pass_fits : (s : SchedId) (rs : List Runner) → Each (RunnerFits x s) rs → PassesFit x s rs
+  pub pass_fits : (s : SchedId) (rs : List Runner) → Each (RunnerFits x s) rs → PassesFit x s rs
   pass_fits s [] f around a = record { runners = tt; around = a }
   pass_fits s (r ∷ rs) f around a =
       walk_fits x s r rs around (is_ready r around) (run_of x r.thread around r.left) (pass_fits s rs f.1) f.0 a
       (λ e.
-      let here : r.leaving ≡ None = ready_stays x s r.thread r.suspended around r.leaving e in
-      let t = subst (λ leaving. Going x s leaving r.thread) here f.0 in
-      (here, run_leaves x well r.thread (Sched s) around r.left t.0 t.1 a))
+      let is = ready_fits x s r around f.0 e in
+      (is.0, run_leaves x well r.thread (Sched s) around r.left is.1.0 is.1.1 a))
 
   within_fits : (s : SchedId) (k : ℕ) (rs : List Runner) → Each (RunnerFits x s) rs → (around : Around) → AroundFits (heads x) (Sched s) around
       → WalkFits x s (passes_within k x rs around)
@@ -183,6 +191,15 @@ module _ (x : Prog) (well : IsWellFormed x) where
 
   -- ---- instants
 
+  -- what a batch that fits leaves
+  pub batch_applied : (m : Mach) (batch : List Order) → MachFits x m → Each (Fits x m.s) batch → AppliedFits x m.s (apply x m batch)
+  batch_applied m batch f g =
+      orders_applied x m.s (leads_to_points x well) (unapplied (heads x) m) batch (record { linked = f.linked; board = length-replicate (length (heads x).events) None; sent = tt }) g
+
+  -- what the first thread finds around it
+  pub first_around : (m : Mach) (batch : List Order) → MachFits x m → Each (Fits x m.s) batch → AroundFits (heads x) (Sched m.s) (around_of m (apply x m batch))
+  first_around m batch f g = record { declared = f.declared; there = refl; shared = f.shared; board = (batch_applied m batch f g).board; acts = tt }
+
   -- a machine and what its instant sends
   pub record AfterFits (m : Mach) (sent : List Sent) : Type 0 where
     pub machine : MachFits x m
@@ -193,12 +210,10 @@ module _ (x : Prog) (well : IsWellFormed x) where
   unfolding instant
   instant_fits limits m batch f g =
       let a = apply x m batch in
-      let applied : AppliedFits x m.s a =
-      orders_applied x m.s (leads_to_points x well) (unapplied (heads x) m) batch (record { linked = f.linked; board = length-replicate (length (heads x).events) None; sent = tt }) g in
-      let around : AroundFits (heads x) (Sched m.s) (around_of m a) = record { declared = f.declared; there = refl; shared = f.shared; board = applied.board; acts = tt } in
+      let applied = batch_applied m batch f g in
       let rs = map (runner_of limits.budget) a.linked in
       let last = passes x rs (around_of m a) in
-      let w = passes_fit m.s rs (begin_fit x m.s limits.budget a.linked applied.linked) (around_of m a) around in
+      let w = passes_fit m.s rs (begin_fit x m.s limits.budget a.linked applied.linked) (around_of m a) (first_around m batch f g) in
       record {
         machine = record { declared = f.declared; linked = linked_closed x m.s last.runners w.runners; shared = w.around.shared };
         sents =
@@ -216,9 +231,7 @@ module _ (x : Prog) (well : IsWellFormed x) where
   block_fits (Ended end around left) f = acts_fit x Unlinked around.acts f.1.acts
 
   pub async_fits : (t : Thread) (block : ℕ) → ThreadFits x Unlinked t → Each (SentFits x) (async x t block)
-  async_fits t block f =
-      let around : AroundFits (heads x) Unlinked (alone x) = record { declared = tt; there = refl; shared = tt; board = length-replicate (length (heads x).events) None; acts = tt } in
-      block_fits (run_of x t (alone x) block) (run_leaves x well t Unlinked (alone x) block f.0 f.1 around)
+  async_fits t block f = block_fits (run_of x t (alone x) block) (run_leaves x well t Unlinked (alone x) block f.0 f.1 (alone_fits x))
 
 -- ---- as laws say it
 

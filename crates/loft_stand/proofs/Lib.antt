@@ -19,3 +19,5 @@ pub mod KeptLemmas
 pub mod OrderLemmas
 pub mod InstantLemmas
 pub mod HistoryFits
+pub mod AlikeLemmas
+pub mod HistoryAlike

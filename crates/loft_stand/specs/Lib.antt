@@ -5,3 +5,4 @@ pub mod WorkFits
 pub mod WorkAgrees
 pub mod Points
 pub mod Machines
+pub mod Alike

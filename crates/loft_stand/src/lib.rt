@@ -1,9 +1,12 @@
-//! What running leaves: threads that stand in a program, run in it, stand again.
+//! What running leaves: threads that stand in a program, run in it, stand again. Programs whose
+//! threads run alike have the same histories.
 #![tactic(auto)]
 
+pub mod alike_laws;
 pub mod history_laws;
 pub mod laws;
 
+pub use alike_laws::programs_that_run_alike_agree;
 pub use history_laws::waiting_orders_fit;
 pub use laws::{
     instants_keep_standing, stops_leave_what_comes_after, threads_keep_standing,
