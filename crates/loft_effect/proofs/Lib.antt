@@ -1,2 +1,3 @@
 pub mod ValueLemmas
 pub mod MaskLemmas
+pub mod Runs

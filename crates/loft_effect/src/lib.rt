@@ -6,14 +6,18 @@ mod action;
 mod around;
 mod effect;
 mod frame;
+mod gone;
 mod scope;
 mod sight;
 mod stop;
+mod taken;
 mod value;
 
 pub use around::{Around, is_known, same_thread};
 pub use effect::Effect;
 pub use frame::first_values;
+pub use gone::{Gone, Outcome};
 pub use scope::{Beside, Scope};
 pub use sight::Sight;
+pub use taken::{take_around, take_thread};
 pub use value::{is_true, number_of};

@@ -1,4 +1,1 @@
-pub mod View
-pub mod Positions
-pub mod States
 pub mod PlainEngine

@@ -1,18 +1,14 @@
 //! The engine that walks the statements of a program.
 
-ghost use Rattle.std.specs.Prelude.{◌≡◌, ◌≤◌, false, IfOk, Some};
+ghost use Rattle.std.specs.Prelude.{◌≡◌, false, IfOk};
 ghost use Rattle.loft_tree.specs.ProgramView.{program_of};
 ghost use Rattle.loft_tree.specs.Resolved.{resolved_of};
 ghost use Rattle.loft_sense.specs.Machine.{Tree};
 ghost use Rattle.loft_sense.specs.Rest.{IsInRange};
-ghost use Rattle.loft_plain.specs.declared.instant.State.{State as StateOf};
-ghost use Rattle.loft_plain.specs.States.{IsReady};
 
-use crate::close::{push_own, shared_values, standings};
-use crate::instant::{Setting, State};
-use crate::rest::all_rest;
-use loft_base::{NoMemory, SchedId, Sequence};
-use loft_board::Board;
+use crate::walker::Walker;
+use loft_base::{NoMemory, SchedId};
+use loft_instant::InstantEngine;
 use loft_place::Placed;
 use loft_sense::{Engine, FinalState, InstantNote, Limits, Orders};
 use std::alloc::Global;
@@ -21,11 +17,7 @@ use std::alloc::Global;
 /// failed allocation it makes no further one.
 #[derive(Drop)]
 pub struct PlainEngine<'a> {
-    setting: Setting<'a>,
-    /// None after a failed allocation.
-    state: Option<State>,
-    ghost few_instants: { setting.limits.instants ≤ 1000000 },
-    ghost ready: { (s : StateOf) → state ≡ Some s → IsReady setting s },
+    engine: InstantEngine<Walker<'a>>,
 }
 
 impl<'a> PlainEngine<'a> {
@@ -46,29 +38,8 @@ impl<'a> PlainEngine<'a> {
         ensures machine { IfOk result (λ e. machine_of e ≡ empty (tree_of e) scheduler) }
         ensures works { IfOk result (λ e. has_failed e ≡ false) }
     {
-        let program = placed.program();
-        let mut own = Vec::new(alloc);
-        push_own(&mut own, scheduler, 0, program.heads.shared.as_slice())?;
-        let events = program.heads.events.len() as u32;
-        let setting = Setting {
-            program,
-            scheduler,
-            limits,
-            own,
-            events,
-        };
-        let state = State {
-            linked: Vec::new(alloc),
-            shared: shared_values(alloc, scheduler, program.heads.shared.as_slice())?,
-            known: Sequence::new(alloc),
-            board: Board::new(alloc, events)?,
-            made: 0,
-            number: 0,
-        };
-        Ok(PlainEngine {
-            setting,
-            state: Some(state),
-        })
+        let engine = InstantEngine::new(alloc, Walker { placed }, scheduler, limits)?;
+        Ok(PlainEngine { engine })
     }
 }
 
@@ -87,43 +58,23 @@ impl Engine for PlainEngine<'_> {
     ghost has_failed = { has_failed_of };
 
     fn take(&mut self, alloc: Global, batch: &Orders) -> Result<InstantNote, NoMemory> {
-        let Some(state) = self.state.take() else {
-            return Err(NoMemory);
-        };
-        let (state, note) = self.setting.instant(alloc, state, batch.as_slice())?;
-        self.state = Some(state);
-        Ok(note)
+        self.engine.take(alloc, batch)
     }
 
     fn resting(&self) -> bool {
-        match &self.state {
-            Some(state) => all_rest(state.linked.as_slice(), state.known.as_slice()),
-            None => true,
-        }
+        self.engine.resting()
     }
 
     fn spent(&self) -> bool {
-        match &self.state {
-            Some(state) => state.number >= self.setting.limits.instants,
-            None => true,
-        }
+        self.engine.spent()
     }
 
     fn instant(&self) -> u64 {
-        match &self.state {
-            Some(state) => state.number,
-            None => 0,
-        }
+        self.engine.instant()
     }
 
     fn last(&self, alloc: Global) -> Result<FinalState, NoMemory> {
-        let Some(state) = &self.state else {
-            return Err(NoMemory);
-        };
-        Ok(FinalState {
-            linked: standings(alloc, state.linked.as_slice())?,
-            shared: Sequence::from_slice(alloc, state.shared.as_slice())?,
-        })
+        self.engine.last(alloc)
     }
 
     ghost is_of_scheduler = { λ e. refl };

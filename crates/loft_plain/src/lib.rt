@@ -1,11 +1,7 @@
 //! Runs the instants of one scheduler by walking the statements of the program.
 #![tactic(auto)]
 
-mod batch;
-mod close;
 mod engine;
-mod instant;
-mod pass;
-mod rest;
+mod walker;
 
 pub use engine::PlainEngine;

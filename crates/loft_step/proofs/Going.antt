@@ -1,9 +1,8 @@
 -- Steps of a thread whose frames are in memory.
-use Rattle.std.proofs.Common.{◌≡◌, ◌≢◌, ℕ, ℤ, zero, suc, ◌+◌, ◌-◌, ◌<◌, ◌≤◌, List, [], ◌∷◌, ◌++◌, refl, sym, ap, subst, ◌∙◌, Bool, true, false, Option, Some, None, length, Result, Ok, Err, arith}
+use Rattle.std.proofs.Common.{◌≡◌, ◌≢◌, ℕ, ℤ, zero, suc, ◌+◌, ◌-◌, ◌<◌, ◌≤◌, List, [], ◌∷◌, ◌++◌, refl, sym, ap, subst, ◌∙◌, Bool, true, false, Option, Some, None, length, arith}
 use Rattle.std.proofs.lemmas.Bool.{le-ltb, lt-ltb}
 use Rattle.std.proofs.lemmas.List.{length-map, length-reverse}
-use Rattle.std.specs.Prelude.{reverse, nat_lt, slice_get, IfOk, if◌then◌else◌}
-use Rattle.loft_base.specs.declared.errors.NoMemory.{NoMemory}
+use Rattle.std.specs.Prelude.{reverse, nat_lt, slice_get}
 use Rattle.loft_base.specs.declared.ids.ModuleId.{ModuleId}
 use Rattle.loft_base.specs.declared.ids.Value.{Value}
 use Rattle.loft_tree.specs.declared.heads.Heads.{Heads}
@@ -26,12 +25,12 @@ use Rattle.loft_effect.specs.declared.around.Around.{Around as AroundInMemory}
 use Rattle.loft_effect.specs.declared.scope.Beside.{Beside as BesideInMemory}
 use Rattle.loft_effect.specs.declared.scope.Scope.{Scope}
 use Rattle.loft_effect.specs.View.{Pace, around_of, beside_of, pace_of, steps_left}
-use Rattle.loft_step.specs.declared.gone.Gone.{Gone}
 use Rattle.loft_step.specs.declared.running.Running.{Running}
 use Rattle.loft_step.specs.declared.step.Move.{Move}
 use Rattle.loft_step.specs.declared.step.Move.TheVariants as move
 use Rattle.loft_step.specs.Lines.{ends_at, op_after, StopsAreNumbered}
-use Rattle.loft_step.specs.Frames.{active, actives, advance_if, advance, Makes, Walks, Stands, IfCalls, IfEnters, gone_of}
+use Rattle.loft_step.specs.Frames.{active, actives, advance_if, advance, Makes, Walks, Stands, IfCalls, IfEnters}
+use Rattle.loft_effect.proofs.Runs.{run_enters, run_deep}
 use Rattle.loft_step.proofs.Kept.{actives-push, goes_on_there}
 
 -- the same beside the frames, but for what stands around the thread
@@ -181,15 +180,6 @@ walks_on c r r' new b b' b'' m before walks rs = before rs ∙ walks rs
 
 -- ---- all frames
 
--- an outcome that is another one
-pub gone_as : (r : Result Gone NoMemory) (x y : Outcome) → x ≡ y → IfOk r (λ g. gone_of g ≡ x) → IfOk r (λ g. gone_of g ≡ y)
-gone_as r x y e h = subst (λ (z : Outcome). IfOk r (λ g. gone_of g ≡ z)) e h
-
--- the same of one that is the same in all code
-pub gone_as_all : (r : Result Gone NoMemory) (x : Automata → Outcome) (y : Outcome) (c : Automata) → x c ≡ y → IfOk r (λ g. (d : Automata) → gone_of g ≡ x d) → IfOk r (λ g. gone_of g ≡ y)
-gone_as_all (Ok g) x y c e h = h c ∙ e
-gone_as_all (Err out) x y c e h = h
-
 how_many : (c : Automata) (r : Active Point) (outer : List Frame) → length (r ∷ actives c outer) ≡ length outer + 1
 how_many c r outer = grind (arith, length-map, length-reverse)
 
@@ -215,27 +205,26 @@ module _ (c : Automata) (top new : Running) (b b' : BesideInMemory) (outer : Lis
       ∙ sym (walked move.Return is ∙ (ap (λ (fs : List Frame). going (code c) left (beside_of b') (actives c fs)) popped ∙ ap (going (code c) left (beside_of b')) (actives-push c rest f)))
 
   module _ (called : ModuleId) (arguments : List Value) (is : m ≡ move.Enter called arguments) where
-    entered : (few : Bool) → nat_lt (length outer + 1) MAX_FRAMES ≡ few
-        → before ≡ (if few then going (code c) left (beside_of b') (begun_frame (code c) called arguments (beside_of b') ∷ active new ∷ actives c outer) else ends (Deep new.scope.at) (beside_of b') left)
-    entered few e =
-        walked (move.Enter called arguments) is
-        ∙ ap (λ (x : Bool). if x then going (code c) left (beside_of b') (begun_frame (code c) called arguments (beside_of b') ∷ active new ∷ actives c outer) else ends (Deep new.scope.at) (beside_of b') left)
-        (ap (λ (n : ℕ). nat_lt n MAX_FRAMES) (how_many c (active new) outer) ∙ e)
+    fits : (few : Bool) → nat_lt (length outer + 1) MAX_FRAMES ≡ few → nat_lt (length (active new ∷ actives c outer)) MAX_FRAMES ≡ few
+    fits few e = ap (λ (n : ℕ). nat_lt n MAX_FRAMES) (how_many c (active new) outer) ∙ e
 
     -- a frame more would be one too many
     pub run_too_deep : MAX_FRAMES ≤ length outer + 1 → ends (Deep new.scope.at) (beside_of b') left ≡ before
-    run_too_deep many = sym (entered false (le-ltb _ _ many))
+    run_too_deep many =
+        sym (walked (move.Enter called arguments) is
+        ∙ run_deep (code c) left (going (code c) left) arguments called (active new) (actives c outer) (beside_of b') (fits false (le-ltb _ _ many)))
 
     -- a module begins
-    pub run_enters : (first : Running) (kept : Frame) (pushed : List Frame) → length outer + 1 < MAX_FRAMES → active first ≡ begun_frame (code c) called arguments (beside_of b')
+    pub run_calls : (first : Running) (kept : Frame) (pushed : List Frame) → length outer + 1 < MAX_FRAMES → active first ≡ begun_frame (code c) called arguments (beside_of b')
         → kept ≡ frame_of (code c) (active new) → Stands c new → pushed ≡ outer ++ kept ∷ []
         → going (code c) left (beside_of b') (active first ∷ actives c pushed) ≡ before
-    run_enters first kept pushed few begins keeps stands is_pushed =
+    run_calls first kept pushed few begins keeps stands is_pushed =
+        let frames : actives c pushed ≡ active new ∷ actives c outer =
+        ap (actives c) is_pushed ∙ (actives-push c outer kept ∙ ap (λ (a : Active Point). a ∷ actives c outer) (ap (active_of (code c)) keeps ∙ goes_on_there c new stands)) in
         ap (λ (a : Active Point). going (code c) left (beside_of b') (a ∷ actives c pushed)) begins
-        ∙ (ap (λ (fs : List Frame). going (code c) left (beside_of b') (begun_frame (code c) called arguments (beside_of b') ∷ actives c fs)) is_pushed
-        ∙ (ap (λ (l : List (Active Point)). going (code c) left (beside_of b') (begun_frame (code c) called arguments (beside_of b') ∷ l)) (actives-push c outer kept)
-        ∙ (ap (λ (a : Active Point). going (code c) left (beside_of b') (begun_frame (code c) called arguments (beside_of b') ∷ a ∷ actives c outer)) (ap (active_of (code c)) keeps ∙ goes_on_there c new stands)
-        ∙ sym (entered true (lt-ltb _ _ few)))))
+        ∙ (ap (λ (l : List (Active Point)). going (code c) left (beside_of b') (begun_frame (code c) called arguments (beside_of b') ∷ l)) frames
+        ∙ sym (walked (move.Enter called arguments) is
+        ∙ run_enters (code c) left (going (code c) left) arguments called (active new) (actives c outer) (beside_of b') (fits true (lt-ltb _ _ few))))
 
   -- the thread stands, leaves or ends
   pub run_stops : (other : Move) → m ≡ other → advance other (code c) left (going (code c) left) (active new) (actives c outer) (beside_of b') ≡ before

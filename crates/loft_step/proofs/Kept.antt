@@ -3,18 +3,16 @@ use Rattle.std.proofs.Common.{◌≡◌, ◌≢◌, ℕ, ℤ, zero, suc, List, [
 use Rattle.std.specs.Prelude.{reverse, map}
 use Rattle.std.specs.List.{AllByRecursion}
 use Rattle.std.proofs.Math.Seq.{take-append_seam}
-use Rattle.std.proofs.lemmas.List.{length-map, map-append, reverse-append, reverse-reverse}
+use Rattle.std.proofs.lemmas.List.{length-map, reverse-append, reverse-reverse}
 use Rattle.std.proofs.lemmas.List.Elements.{All-map, All-pop, All-push, All-same, recursion_from_All}
 use Rattle.loft_base.specs.declared.ids.ModuleId.{ModuleId}
 use Rattle.loft_base.specs.Lists.{overwritten}
-use Rattle.loft_base.specs.declared.ids.ThreadId.{ThreadId}
 use Rattle.loft_base.specs.declared.ids.Value.{Value}
 use Rattle.loft_code.specs.Operations.{Automata}
 use Rattle.loft_sense.specs.declared.thread.Frame.{Frame}
-use Rattle.loft_sense.specs.declared.thread.Thread.{Thread}
-use Rattle.loft_sense.specs.declared.thread.Wait.{Wait}
 use Rattle.loft_sense.specs.Code.{Point, point, code, lines_at}
 use Rattle.loft_sense.specs.Run.{Active, active_of, frame_of, point_of}
+use Rattle.loft_effect.proofs.Runs.{reverse-cons, reverse-map}
 use Rattle.loft_step.specs.declared.running.Running.{Running}
 use Rattle.loft_step.specs.Kept.{counts_kept, settled, IsKept, AreKept}
 use Rattle.loft_step.specs.Lines.{op_after}
@@ -25,17 +23,6 @@ frame m k counts values = record { «module» = m; stop = k; counts = counts; va
 
 abbrev pub going_at : ModuleId → ℕ → List Value → Point → Active Point
 going_at m k values at = record { «module» = m; stop = k; values = values; at = at }
-
-abbrev pub thread_with : ThreadId → ℤ → ℤ → Wait → List Frame → Thread
-thread_with id code mask wait frames = record { id = id; code = code; mask = mask; wait = wait; frames = frames }
-
-reverse-cons : {A : Type 0} (x : A) (xs : List A) → reverse (x ∷ xs) ≡ reverse xs ++ x ∷ []
-reverse-cons x xs = reverse-append (x ∷ []) xs
-
-pub reverse-map : {A B : Type 0} (f : A → B) (xs : List A) → reverse (map f xs) ≡ map f (reverse xs)
-reverse-map f [] = refl
-reverse-map f (x ∷ xs) =
-    reverse-cons (f x) (map f xs) ∙ (ap (λ (l : List _). l ++ f x ∷ []) (reverse-map f xs) ∙ (sym (map-append f (reverse xs) (x ∷ [])) ∙ ap (map f) (sym (reverse-cons x xs))))
 
 -- ---- counts of frames that have stood at no stop
 

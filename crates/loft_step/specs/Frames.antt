@@ -4,16 +4,13 @@ use Rattle.loft_tree.specs.declared.heads.Heads.{Heads}
 use Rattle.loft_code.specs.Operations.{Operation, Line, Automata, stop_of}
 use Rattle.loft_sense.specs.declared.thread.Frame.{Frame}
 use Rattle.loft_sense.specs.declared.thread.Wait.TheVariants.{New}
-use Rattle.loft_sense.specs.Around.{Around, Beside}
-use Rattle.loft_sense.specs.Run.{Next, Control, Active, Outcome, Held, Left, Ended, active_of, thread_of, run_on, ends, step, going}
+use Rattle.loft_sense.specs.Around.{Beside}
+use Rattle.loft_sense.specs.Run.{Next, Control, Active, Outcome, Held, Left, active_of, thread_of, run_on, ends, step, going}
 use Rattle.loft_sense.specs.Code.{Point, point, code, lines_at, next_operation}
 use Rattle.loft_effect.specs.declared.effect.Effect.{Effect}
 use Rattle.loft_effect.specs.declared.effect.Effect.TheVariants as effect
 use Rattle.loft_effect.specs.declared.scope.Beside.{Beside as BesideInMemory}
-use Rattle.loft_effect.specs.View.{around_of, beside_of, pace_of, steps_left}
-use Rattle.loft_step.specs.declared.gone.Gone.{Gone}
-use Rattle.loft_step.specs.declared.gone.Outcome.{Outcome as OutcomeInMemory}
-use Rattle.loft_step.specs.declared.gone.Outcome.TheVariants as outcome
+use Rattle.loft_effect.specs.View.{beside_of, pace_of, steps_left}
 use Rattle.loft_step.specs.declared.running.Running.{Running}
 use Rattle.loft_step.specs.declared.step.Move.{Move}
 use Rattle.loft_step.specs.declared.step.Move.TheVariants as move
@@ -97,14 +94,3 @@ IfEnters (move.Enter m arguments) c r b b' = Stands c r × (b.around.steps < b'.
 IfEnters (move.Hold wait) c r b b' = Unit {0}
 IfEnters (move.Leave to) c r b b' = Unit {0}
 IfEnters (move.End end) c r b b' = Unit {0}
-
--- ---- runs
-
--- how a run ends, with what it leaves around the thread, and how many steps are left
-abbrev pub ended_by : OutcomeInMemory → Around → ℕ → Outcome
-ended_by (outcome.Held t) around left = Held t around left
-ended_by (outcome.Left t to) around left = Left t to around left
-ended_by (outcome.Ended end) around left = Ended end around left
-
-abbrev pub gone_of : Gone → Outcome
-gone_of g = ended_by g.outcome (around_of g.around) (steps_left g.around)

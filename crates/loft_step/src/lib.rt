@@ -2,7 +2,6 @@
 //! its end.
 #![tactic(auto)]
 
-mod gone;
 mod jump;
 mod operand;
 mod running;

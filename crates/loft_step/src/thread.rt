@@ -1,30 +1,27 @@
 //! A thread runs by its code (docs/SEMANTICS.md, "Run").
 
-ghost use Rattle.std.specs.Prelude.{◌≡◌, ℕ, ◌∷◌, ◌-◌, ◌+◌, ◌≤◌, IfOk, OnOk};
+ghost use Rattle.std.specs.Prelude.{◌≡◌, ◌∷◌, ◌-◌, ◌+◌, ◌≤◌, IfOk, OnOk};
 ghost use Rattle.loft_code.specs.Operations.{Automata};
 ghost use Rattle.loft_code.specs.View.{automata_of};
 ghost use Rattle.loft_sense.specs.declared.thread.Wait.TheVariants.{New as WaitNew};
 ghost use Rattle.loft_sense.specs.Machine.{Code as ByCode};
 ghost use Rattle.loft_sense.specs.Passes.{run_of};
-ghost use Rattle.loft_sense.specs.Around.{Around as AroundOf, Beside as BesideOf};
+ghost use Rattle.loft_sense.specs.Around.{Beside as BesideOf};
 ghost use Rattle.loft_sense.specs.Code.{code as control_of};
 ghost use Rattle.loft_sense.specs.Run.{thread_of, ends, going, go_on, no_step, Held, Left};
 ghost use Rattle.loft_effect.specs.View.{around_of, beside_of, pace_of, steps_left};
-ghost use Rattle.loft_step.specs.Frames.{active, actives, ended_by, gone_of};
+ghost use Rattle.loft_effect.specs.Outcomes.{gone_of, outcome_of};
+ghost use Rattle.loft_step.specs.Frames.{active, actives};
 ghost use Rattle.loft_step.specs.Kept.{AreKept};
-ghost use Rattle.loft_step.specs.Runs.{outcome_of};
 
-use crate::gone::{Gone, Outcome};
 use crate::running::{Running, settle_all};
 use crate::step::Move;
 use crate::steps::Steps;
 use crate::walk::count;
 use loft_base::{NoMemory, Sequence};
-use loft_board::Board;
 use loft_code::Code;
-use loft_effect::{Around, Beside};
+use loft_effect::{Around, Beside, Gone, Outcome, take_around};
 use loft_sense::{At, End, Frame, Frames, MAX_FRAMES, Stop, Thread, To, Wait};
-use loft_tree::Place;
 use std::alloc::Global;
 use std::mem;
 use std::sync::ledger::Ledger;
@@ -167,38 +164,6 @@ fn begin<L: Ledger>(
     run(alloc, code, top, frames, beside, steps)
 }
 
-/// Nothing around a thread.
-fn nothing(alloc: Global) -> Result<Around, NoMemory> {
-    Ok(Around {
-        place: Place::Unlinked,
-        board: Board::new(alloc, 0)?,
-        shared: Sequence::new(alloc),
-        known: Sequence::new(alloc),
-        made: 0,
-        entries: 0,
-        steps: 0,
-        bound: 0,
-        acts: Sequence::new(alloc),
-    })
-}
-
-/// How a run stops that ends so. Where the thread goes on later, it is as the run leaves it.
-fn stop_with(t: &mut Thread, outcome: Outcome) -> Stop
-    ensures { (around : AroundOf) (left : ℕ) → outcome_of result t.new around left ≡ ended_by outcome around left }
-{
-    match outcome {
-        Outcome::Held(thread) => {
-            *t = thread;
-            Stop::Holds
-        }
-        Outcome::Left(thread, to) => {
-            *t = thread;
-            Stop::Leaves(to)
-        }
-        Outcome::Ended(end) => Stop::Ends(end),
-    }
-}
-
 /// A thread that can go runs from where it stood to the stop that holds it or by which it leaves, or to its end, in as many
 /// steps as what stands around it still allows. Where it is out of memory, nothing is said of the thread and of what stands
 /// around it.
@@ -219,12 +184,8 @@ pub fn go<L: Ledger>(
         id: t.id,
         code: t.code,
         mask: t.mask,
-        around: mem::replace(around, nothing(alloc)?),
+        around: take_around(alloc, around)?,
     };
-    let Gone {
-        outcome,
-        around: left,
-    } = begin(alloc, c, frames, &t.wait, beside, steps)?;
-    *around = left;
-    Ok(stop_with(t, outcome))
+    let gone = begin(alloc, c, frames, &t.wait, beside, steps)?;
+    Ok(gone.put(t, around))
 }

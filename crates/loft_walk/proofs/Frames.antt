@@ -1,27 +1,15 @@
 -- Frames in memory, the last of which is the innermost.
-use Rattle.std.proofs.Common.{◌≡◌, ℤ, List, [], ◌∷◌, ◌++◌, refl, sym, ap, ◌∙◌, length, drop, get_or, ◌<◌, append_assoc, arith}
+use Rattle.std.proofs.Common.{◌≡◌, List, [], ◌∷◌, ◌++◌, sym, ap, ◌∙◌, length, drop, get_or, ◌<◌, append_assoc, arith}
 use Rattle.std.specs.Prelude.{reverse, map}
 use Rattle.std.proofs.lemmas.List.{reverse-append, reverse-reverse}
-use Rattle.loft_base.specs.declared.ids.ThreadId.{ThreadId}
-use Rattle.loft_sense.specs.declared.thread.Frame.{Frame}
-use Rattle.loft_sense.specs.declared.thread.Thread.{Thread}
-use Rattle.loft_sense.specs.declared.thread.Wait.{Wait}
 use Rattle.loft_sense.specs.Tree.{Work}
 use Rattle.loft_sense.specs.Run.{Active, Control, frame_of}
 use Rattle.loft_walk.specs.declared.running.Running.{Running}
+use Rattle.loft_effect.proofs.Runs.{reverse-map}
 use Rattle.loft_walk.specs.Frames.{active, actives}
 
 pub actives-push : (rs : List Running) (r : Running) → actives (rs ++ r ∷ []) ≡ active r ∷ actives rs
 actives-push rs r = ap (map active) (reverse-append rs (r ∷ []))
-
-map_append : {A B : Type 0} (f : A → B) (xs ys : List A) → map f (xs ++ ys) ≡ map f xs ++ map f ys
-map_append f [] ys = refl
-map_append f (x ∷ xs) ys = ap (λ (l : List _). f x ∷ l) (map_append f xs ys)
-
-pub reverse-map : {A B : Type 0} (f : A → B) (xs : List A) → reverse (map f xs) ≡ map f (reverse xs)
-reverse-map f [] = refl
-reverse-map f (x ∷ xs) =
-    reverse-append (f x ∷ []) (map f xs) ∙ (ap (λ (l : List _). l ++ f x ∷ []) (reverse-map f xs) ∙ (sym (map_append f (reverse xs) (x ∷ [])) ∙ ap (map f) (sym (reverse-append (x ∷ []) xs))))
 
 -- the frames of a thread that stands
 pub frames_kept : (c : Control (List Work)) (rs : List Running) → map (frame_of c) (map active rs) ≡ reverse (map (frame_of c) (actives rs))
@@ -38,6 +26,3 @@ pub first_off : {A B C : Type 0} (f : B → C) (g : A → B) (xs rest : List A) 
 first_off f g [] rest x done more y h d e m k = absurd (omega arith)
 first_off f g (a ∷ xs) rest x done more y h d e m k =
     ap (λ b. done ++ (b ∷ map f (map g xs))) (ap (λ z. f (g z)) (sym e) ∙ sym k) ∙ (sym (append_assoc done (y ∷ []) (map f (map g xs))) ∙ (ap (λ l. l ++ map f (map g xs)) (sym m) ∙ ap (λ l. more ++ map f (map g l)) (sym d)))
-
-abbrev pub thread_with : ThreadId → ℤ → ℤ → Wait → List Frame → Thread
-thread_with id code mask wait frames = record { id = id; code = code; mask = mask; wait = wait; frames = frames }

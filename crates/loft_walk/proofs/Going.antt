@@ -1,9 +1,8 @@
 -- One step of a thread whose frames are in memory.
-use Rattle.std.proofs.Common.{◌≡◌, ◌≢◌, ℕ, ℤ, zero, suc, ◌-◌, ◌<◌, ◌≤◌, List, [], ◌∷◌, ◌++◌, refl, sym, ap, subst, ◌∙◌, Bool, true, false, Option, Some, None, length, Result, Ok, Err, arith}
+use Rattle.std.proofs.Common.{◌≡◌, ◌≢◌, ℕ, ℤ, zero, suc, ◌-◌, ◌<◌, ◌≤◌, List, [], ◌∷◌, ◌++◌, refl, sym, ap, ◌∙◌, Option, Some, None, length, arith}
 use Rattle.std.proofs.lemmas.Bool.{le-ltb, lt-ltb}
 use Rattle.std.proofs.lemmas.List.{length-map, length-reverse}
-use Rattle.std.specs.Prelude.{reverse, map, nat_lt, IfOk, if◌then◌else◌}
-use Rattle.loft_base.specs.declared.errors.NoMemory.{NoMemory}
+use Rattle.std.specs.Prelude.{reverse, map, nat_lt}
 use Rattle.loft_base.specs.declared.ids.ModuleId.{ModuleId}
 use Rattle.loft_base.specs.declared.ids.Value.{Value}
 use Rattle.loft_tree.specs.declared.heads.Heads.{Heads}
@@ -21,9 +20,8 @@ use Rattle.loft_sense.specs.declared.thread.Wait.TheVariants.{New}
 use Rattle.loft_sense.specs.declared.order.At.{At}
 use Rattle.loft_sense.specs.Statements.{Now, now, target_of, answered}
 use Rattle.loft_sense.specs.Around.{Around, Beside}
-use Rattle.loft_sense.specs.Run.{Active, Control, Outcome, Held, Left, thread_of, begun_frame, run_on, live, ends, step_on, no_step, going, go_on, go, active_of}
+use Rattle.loft_sense.specs.Run.{Active, Control, Outcome, Held, Left, thread_of, begun_frame, live, ends, step_on, no_step, going, go_on, go, active_of}
 use Rattle.loft_sense.specs.Tree.{Work, tree, next_work, pause_at}
-use Rattle.loft_walk.specs.declared.gone.Gone.{Gone}
 use Rattle.loft_walk.specs.declared.running.Running.{Running}
 use Rattle.loft_effect.specs.declared.scope.Scope.{Scope}
 use Rattle.loft_effect.specs.declared.scope.Beside.{Beside as BesideInMemory}
@@ -32,28 +30,12 @@ use Rattle.loft_walk.specs.declared.step.Move.TheVariants as move
 use Rattle.loft_walk.specs.declared.work.Task.{Task}
 use Rattle.loft_effect.specs.View.{around_of, beside_of}
 use Rattle.loft_walk.specs.Pieces.{work_of, work_of_task}
-use Rattle.loft_walk.specs.Frames.{active, actives, live_of, advance, program_with, Steps, gone_of, top_target, Answers}
+use Rattle.loft_walk.specs.Frames.{active, actives, live_of, advance, program_with, Steps, top_target, Answers}
+use Rattle.loft_effect.proofs.Runs.{run_enters, run_deep}
 use Rattle.loft_walk.proofs.Frames.{actives-push, actives_woken}
-
--- an outcome that is another one
-pub gone_as : (r : Result Gone NoMemory) (x y : Outcome) → x ≡ y → IfOk r (λ g. gone_of g ≡ x) → IfOk r (λ g. gone_of g ≡ y)
-gone_as r x y e h = subst (λ (z : Outcome). IfOk r (λ g. gone_of g ≡ z)) e h
-
--- the same of one that is the same in every program
-pub gone_as_all : (r : Result Gone NoMemory) (x : Resolved → Outcome) (y : Outcome) (p : Resolved) → x p ≡ y → IfOk r (λ g. (q : Resolved) → gone_of g ≡ x q) → IfOk r (λ g. gone_of g ≡ y)
-gone_as_all (Ok g) x y p e h = h p ∙ e
-gone_as_all (Err out) x y p e h = h
 
 length_actives : (rs : List Running) → length (actives rs) ≡ length rs
 length_actives rs = grind (arith, length-map, length-reverse)
-
-run_enters : (c : Control (List Work)) (left : ℕ) (on : Beside → List (Active (List Work)) → Outcome) (arguments : List Value) (m : ModuleId) (r : Active (List Work)) (rs : List (Active (List Work))) (b : Beside)
-    → nat_lt (length (r ∷ rs)) MAX_FRAMES ≡ true → run_on c left on (Some arguments) m r rs b ≡ on b (begun_frame c m arguments b ∷ r ∷ rs)
-run_enters c left on arguments m r rs b e = ap (λ (q : Bool). if q then on b (begun_frame c m arguments b ∷ r ∷ rs) else ends (Deep (record { «module» = r.module; stop = r.stop })) b left) e
-
-run_deep : (c : Control (List Work)) (left : ℕ) (on : Beside → List (Active (List Work)) → Outcome) (arguments : List Value) (m : ModuleId) (r : Active (List Work)) (rs : List (Active (List Work))) (b : Beside)
-    → nat_lt (length (r ∷ rs)) MAX_FRAMES ≡ false → run_on c left on (Some arguments) m r rs b ≡ ends (Deep (record { «module» = r.module; stop = r.stop })) b left
-run_deep c left on arguments m r rs b e = ap (λ (q : Bool). if q then on b (begun_frame c m arguments b ∷ r ∷ rs) else ends (Deep (record { «module» = r.module; stop = r.stop })) b left) e
 
 module _ (h : Heads) (bodies : List Body) where
   abbrev code : Control (List Work)

@@ -7,20 +7,17 @@ use Rattle.loft_tree.specs.Resolved.{Target, Body, Resolved, target_of as target
 use Rattle.loft_sense.specs.declared.thread.Wait.{Wait}
 use Rattle.loft_sense.specs.declared.thread.Wait.TheVariants.{New}
 use Rattle.loft_sense.specs.Around.{Beside}
-use Rattle.loft_sense.specs.Run.{Next, Control, Active, Outcome, Held, Left, Ended, thread_of, run_on, ends, step, going, go_on}
+use Rattle.loft_sense.specs.Run.{Next, Control, Active, Outcome, Held, Left, thread_of, run_on, ends, step, going, go_on}
 use Rattle.loft_sense.specs.Tree.{Work, tree, pause_at}
 use Rattle.loft_sense.specs.Statements.{target_of}
 use Rattle.loft_effect.specs.declared.effect.Effect.{Effect as EffectInMemory}
 use Rattle.loft_effect.specs.declared.effect.Effect.TheVariants as effect
-use Rattle.loft_walk.specs.declared.gone.Gone.{Gone}
-use Rattle.loft_walk.specs.declared.gone.Outcome.{Outcome as OutcomeInMemory}
-use Rattle.loft_walk.specs.declared.gone.Outcome.TheVariants as outcome
 use Rattle.loft_walk.specs.declared.running.Running.{Running}
 use Rattle.loft_effect.specs.declared.scope.Beside.{Beside as BesideInMemory}
 use Rattle.loft_walk.specs.declared.step.Move.{Move}
 use Rattle.loft_walk.specs.declared.step.Move.TheVariants as move
 use Rattle.loft_walk.specs.declared.work.Task.{Task}
-use Rattle.loft_effect.specs.View.{around_of, beside_of, steps_left}
+use Rattle.loft_effect.specs.View.{beside_of}
 use Rattle.loft_walk.specs.Pieces.{work_of, work_of_task}
 
 abbrev pub active : Running → Active (List Work)
@@ -62,15 +59,6 @@ Steps h next old b move new b' =
     (bodies : List Body) (left : ℕ) (on : Beside → List (Active (List Work)) → Outcome) (w : List Work) (rs : List (Active (List Work)))
     → step (tree (program_with h bodies)) left on next (record (active old) { at = w }) rs (beside_of b)
     ≡ advance move (tree (program_with h bodies)) left on (active new) rs (beside_of b')
-
--- the outcome of a run, with what it leaves
-abbrev pub outcome_of : OutcomeInMemory → Gone → Outcome
-outcome_of (outcome.Held t) g = Held t (around_of g.around) (steps_left g.around)
-outcome_of (outcome.Left t to) g = Left t to (around_of g.around) (steps_left g.around)
-outcome_of (outcome.Ended end) g = Ended end (around_of g.around) (steps_left g.around)
-
-abbrev pub gone_of : Gone → Outcome
-gone_of g = outcome_of g.outcome g
 
 -- what a statement makes of its thread
 abbrev pub moved_by : EffectInMemory → Move

@@ -2,7 +2,6 @@
 //! its end.
 #![tactic(auto)]
 
-mod gone;
 mod resume;
 mod running;
 mod statement;
@@ -10,5 +9,5 @@ mod step;
 mod thread;
 mod work;
 
-pub use gone::{Gone, Outcome};
+pub use loft_effect::{Gone, Outcome};
 pub use thread::go;

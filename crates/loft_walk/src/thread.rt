@@ -11,14 +11,14 @@ ghost use Rattle.loft_sense.specs.Around.{Beside as BesideOf};
 ghost use Rattle.loft_sense.specs.Run.{active_of, frame_of, thread_of, live, ends, going, go_on, no_step, Held, Left};
 ghost use Rattle.loft_sense.specs.Tree.{tree};
 ghost use Rattle.loft_effect.specs.View.{around_of, beside_of, steps_left};
-ghost use Rattle.loft_walk.specs.Frames.{active, actives, live_of, gone_of, top_target, Answers};
+ghost use Rattle.loft_effect.specs.Outcomes.{gone_of};
+ghost use Rattle.loft_walk.specs.Frames.{active, actives, live_of, top_target, Answers};
 
-use crate::gone::{Gone, Outcome};
 use crate::running::Running;
 use crate::step::Move;
 use crate::work::{Task, take};
 use loft_base::{NoMemory, Sequence};
-use loft_effect::{Around, Beside};
+use loft_effect::{Around, Beside, Gone, Outcome};
 use loft_sense::{End, Frame, MAX_FRAMES, Thread, To, Wait};
 use loft_tree::{Heads, NamedProgram, Target};
 use std::alloc::Global;

@@ -9,7 +9,8 @@ use Rattle.loft_effect.specs.View.{beside_of, steps_left}
 use Rattle.loft_step.specs.Frames.{actives}
 use Rattle.loft_step.specs.Kept.{settled}
 use Rattle.loft_step.proofs.Kept.{all_settled, settled_back, settled_actives, actives-push, kept-pop}
-use Rattle.loft_step.proofs.Going.{beside_with, gone_as, starts_over, starts_empty, starts_on}
+use Rattle.loft_effect.proofs.Runs.{gone_as}
+use Rattle.loft_step.proofs.Going.{beside_with, starts_over, starts_empty, starts_on}
 use Rattle.loft_step.proofs.thread.begin.Goals as goal
 
 pub returns-then-beside-clause-gone : goal.returns-then-beside-clause-gone

@@ -11,7 +11,8 @@ use Rattle.loft_step.specs.declared.step.Move.TheVariants as move
 use Rattle.loft_step.specs.Frames.{active, IfEnters}
 use Rattle.loft_step.specs.Kept.{IsKept}
 use Rattle.loft_step.proofs.Kept.{kept-pop, kept-push, stands_kept}
-use Rattle.loft_step.proofs.Going.{gone_as, gone_as_all, run_done, run_returns, run_enters, run_stops}
+use Rattle.loft_effect.proofs.Runs.{gone_as, gone_as_all}
+use Rattle.loft_step.proofs.Going.{run_done, run_returns, run_calls, run_stops}
 use Rattle.loft_step.proofs.thread.run.Goals as goal
 
 pub returns-in_default-clause-gone : goal.returns-in_default-clause-gone
@@ -40,7 +41,7 @@ going-preserved g c =
     let keeps = c.keep.ensures a ∙ ap (λ (r : Running). frame_of (code a) (active r)) c.replace.ensures.value in
     let few : length c.going.outer + 1 < MAX_FRAMES = omega (arith, c.if-len-ge-MAX_FRAMES.false, c.len.ensures) in
     record {
-      goes = run_enters a c.going.top c.walk.new.self c.going.beside c.walk.new.beside c.going.outer c.in_ok-walk.field-0 c.in_ok-walk.ensures.walks c.in-Enter.module c.in-Enter.arguments c.in-Enter.is
+      goes = run_calls a c.going.top c.walk.new.self c.going.beside c.walk.new.beside c.going.outer c.in_ok-walk.field-0 c.in_ok-walk.ensures.walks c.in-Enter.module c.in-Enter.arguments c.in-Enter.is
           c.replace.new.dest c.keep.result c.push.new.self few (ap active c.replace.ensures.after ∙ c.in_ok-called-in-Enter.ensures (beside_of c.walk.new.beside) refl) keeps stands c.in_ok-push-in-Enter.ensures.ok ∙ c.going.invariant.goes;
       kept = kept-push c.going.outer c.push.new.self c.keep.result c.in_ok-push-in-Enter.ensures.ok c.going.invariant.kept (subst (λ (f : Frame). IsKept f) (sym keeps) (stands_kept a c.walk.new.self stands));
       bound = c.in_ok-walk.ensures.bound ∙ c.going.invariant.bound;

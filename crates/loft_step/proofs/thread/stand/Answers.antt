@@ -2,7 +2,8 @@ use Rattle.std.proofs.Common.{ℤ, ap, ◌∙◌, rules, to_z, of_z}
 use Rattle.std.specs.Int.{w64}
 use Rattle.std.specs.Prelude.{FitsSigned}
 use Rattle.std.proofs.lemmas.Int.{to_z-of_z}
-use Rattle.loft_step.proofs.Kept.{stood, thread_with}
+use Rattle.loft_effect.proofs.Runs.{thread_with}
+use Rattle.loft_step.proofs.Kept.{stood}
 use Rattle.loft_step.proofs.thread.stand.Goals as goal
 
 pub returns-clause-thread : goal.returns-clause-thread

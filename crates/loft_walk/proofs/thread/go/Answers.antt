@@ -5,7 +5,8 @@ use Rattle.std.proofs.lemmas.Int.{to_z-of_z}
 use Rattle.loft_tree.specs.ProgramView.{program_of}
 use Rattle.loft_tree.specs.Resolved.{resolved_of}
 use Rattle.loft_effect.specs.View.{around_of, steps_left}
-use Rattle.loft_walk.proofs.Going.{gone_as, goes}
+use Rattle.loft_effect.proofs.Runs.{gone_as}
+use Rattle.loft_walk.proofs.Going.{goes}
 use Rattle.loft_walk.proofs.thread.go.Goals as goal
 
 pub returns-clause-gone : goal.returns-clause-gone

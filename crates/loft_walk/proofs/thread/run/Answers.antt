@@ -2,7 +2,8 @@ use Rattle.std.proofs.Common.{◌∙◌, refl, arith}
 use Rattle.loft_tree.specs.ProgramView.{program_of}
 use Rattle.loft_tree.specs.Resolved.{resolved_of}
 use Rattle.loft_effect.specs.View.{beside_of}
-use Rattle.loft_walk.proofs.Going.{gone_as, gone_as_all, no_left, nothing_left, step_goes, step_enters, step_too_deep, step_holds, step_leaves, step_ends}
+use Rattle.loft_effect.proofs.Runs.{gone_as, gone_as_all}
+use Rattle.loft_walk.proofs.Going.{no_left, nothing_left, step_goes, step_enters, step_too_deep, step_holds, step_leaves, step_ends}
 use Rattle.loft_walk.proofs.thread.run.Goals as goal
 
 pub going-preserved-in-GoOn : goal.going-preserved-in-GoOn

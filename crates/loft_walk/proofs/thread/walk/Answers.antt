@@ -5,7 +5,8 @@ use Rattle.loft_sense.specs.Run.{no_step}
 use Rattle.loft_walk.specs.declared.running.Running.{Running}
 use Rattle.loft_effect.specs.View.{beside_of}
 use Rattle.loft_walk.specs.Frames.{actives}
-use Rattle.loft_walk.proofs.Going.{gone_as, starts_over, starts_on}
+use Rattle.loft_effect.proofs.Runs.{gone_as}
+use Rattle.loft_walk.proofs.Going.{starts_over, starts_on}
 use Rattle.loft_walk.proofs.thread.walk.Goals as goal
 
 pub returns-then-left-eq0-clause-gone : goal.returns-then-left-eq0-clause-gone

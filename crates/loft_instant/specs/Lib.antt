@@ -1,0 +1,4 @@
+pub mod View
+pub mod Positions
+pub mod Batches
+pub mod States

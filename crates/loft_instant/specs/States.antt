@@ -1,0 +1,26 @@
+-- A scheduler in memory between two instants.
+use Rattle.std.specs.Prelude.{◌≡◌, ℕ, ◌≤◌, ◌*◌, [], Option, Some, None}
+use Rattle.loft_base.specs.declared.ids.SchedId.{SchedId}
+use Rattle.loft_board.specs.Board.{no_events}
+use Rattle.loft_sense.specs.declared.limits.TheConstants.{MAX_ENTRIES}
+use Rattle.loft_sense.specs.Machine.{Mach}
+use Rattle.loft_instant.specs.declared.instant.State.{State}
+use Rattle.loft_instant.specs.View.{standings_of}
+
+abbrev pub machine_with : SchedId → State → Mach
+machine_with s e = record { s = s; linked = standings_of e.linked.items; shared = e.shared; known = e.known; made = e.made; number = e.number }
+
+-- nothing is said of the machine after an instant that ran out of memory
+abbrev pub machine_or_none : SchedId → Option State → Mach
+machine_or_none s None = record { s = s; linked = []; shared = []; known = []; made = 0; number = 0 }
+machine_or_none s (Some e) = machine_with s e
+
+abbrev pub machine_of : SchedId → Option State → Mach
+machine_of s e = record (machine_or_none s e) { s = s }
+
+-- For so many events and instants: no event is present, the creates are those of so many instants at most, and there are no
+-- more instants than allowed.
+pub record IsReady (events instants : ℕ) (e : State) : Type 0 where
+  pub no_event : e.board ≡ no_events events
+  pub few_made : e.made ≤ MAX_ENTRIES * e.number
+  pub few_instants : e.number ≤ instants

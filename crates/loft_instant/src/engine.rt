@@ -1,0 +1,133 @@
+//! The engine over whatever runs one thread.
+
+ghost use Rattle.std.specs.Prelude.{◌≡◌, ◌≤◌, false, is_none, IfOk, Some};
+ghost use Rattle.loft_sense.specs.Machine.{empty};
+ghost use Rattle.loft_sense.specs.Rest.{IsInRange};
+ghost use Rattle.loft_instant.specs.declared.instant.State.{State as StateOf};
+ghost use Rattle.loft_instant.specs.States.{machine_of, IsReady};
+
+use crate::instant::{Setting, State};
+use crate::interpreter::Interpreter;
+use crate::rest::{all_rest, standings};
+use crate::shared::{push_own, shared_values};
+use loft_base::{NoMemory, SchedId, Sequence};
+use loft_board::Board;
+use loft_sense::{Engine, FinalState, InstantNote, Limits, Orders};
+use std::alloc::Global;
+
+/// The engine of one scheduler: an instant changes what the definitions change, and after a failed allocation it makes no
+/// further one.
+#[derive(Drop)]
+pub struct InstantEngine<I: Interpreter> {
+    setting: Setting<I>,
+    /// None after a failed allocation.
+    state: Option<State>,
+    ghost few_instants: { setting.limits.instants ≤ 1000000 },
+    ghost ready: { (s : StateOf) → state ≡ Some s
+        → IsReady setting.events setting.limits.instants s },
+}
+
+impl<I: Interpreter> InstantEngine<I> {
+    /// An engine that has made no instant of this scheduler, over what runs the threads of its program. `NoMemory` comes
+    /// where an allocation fails.
+    pub fn new(
+        alloc: Global,
+        interpreter: I,
+        scheduler: SchedId,
+        limits: Limits,
+    ) -> Result<InstantEngine<I>, NoMemory>
+        requires range { IsInRange limits }
+        ensures program { IfOk result (λ e.
+            ⟦<InstantEngine<I> as Engine>⟧.program e ≡ I.program interpreter) }
+        ensures scheduler { IfOk result (λ e.
+            ⟦<InstantEngine<I> as Engine>⟧.scheduler e ≡ scheduler) }
+        ensures limits { IfOk result (λ e.
+            ⟦<InstantEngine<I> as Engine>⟧.limits e ≡ limits) }
+        ensures machine { IfOk result (λ e.
+            ⟦<InstantEngine<I> as Engine>⟧.machine e ≡ empty (I.program interpreter) scheduler) }
+        ensures works { IfOk result (λ e.
+            ⟦<InstantEngine<I> as Engine>⟧.has_failed e ≡ false) }
+    {
+        let heads = interpreter.heads();
+        let mut own = Vec::new(alloc);
+        push_own(&mut own, scheduler, 0, heads.shared.as_slice())?;
+        let shared = shared_values(alloc, scheduler, heads.shared.as_slice())?;
+        let events = heads.events.len() as u32;
+        let setting = Setting {
+            interpreter,
+            scheduler,
+            limits,
+            own,
+            events,
+        };
+        let state = State {
+            linked: Vec::new(alloc),
+            shared,
+            before: Sequence::new(alloc),
+            known: Sequence::new(alloc),
+            board: Board::new(alloc, events)?,
+            made: 0,
+            number: 0,
+        };
+        Ok(InstantEngine {
+            setting,
+            state: Some(state),
+        })
+    }
+}
+
+impl<I: Interpreter> Engine for InstantEngine<I> {
+    ghost use Rattle.std.specs.Prelude.{refl};
+
+    ghost program = { λ e. I.program e.setting.interpreter };
+
+    ghost scheduler = { λ e. e.setting.scheduler };
+
+    ghost limits = { λ e. e.setting.limits };
+
+    ghost machine = { λ e. machine_of e.setting.scheduler e.state };
+
+    ghost has_failed = { λ e. is_none e.state };
+
+    fn take(&mut self, alloc: Global, batch: &Orders) -> Result<InstantNote, NoMemory> {
+        let Some(state) = self.state.take() else {
+            return Err(NoMemory);
+        };
+        let (state, note) = self.setting.instant(alloc, state, batch.as_slice())?;
+        self.state = Some(state);
+        Ok(note)
+    }
+
+    fn resting(&self) -> bool {
+        match &self.state {
+            Some(state) => all_rest(state.linked.as_slice(), state.known.as_slice()),
+            None => true,
+        }
+    }
+
+    fn spent(&self) -> bool {
+        match &self.state {
+            Some(state) => state.number >= self.setting.limits.instants,
+            None => true,
+        }
+    }
+
+    fn instant(&self) -> u64 {
+        match &self.state {
+            Some(state) => state.number,
+            None => 0,
+        }
+    }
+
+    fn last(&self, alloc: Global) -> Result<FinalState, NoMemory> {
+        let Some(state) = &self.state else {
+            return Err(NoMemory);
+        };
+        Ok(FinalState {
+            linked: standings(alloc, state.linked.as_slice())?,
+            shared: Sequence::from_slice(alloc, state.shared.as_slice())?,
+        })
+    }
+
+    ghost is_of_scheduler = { λ e. refl };
+}

@@ -1,0 +1,194 @@
+//! One instant of a scheduler (docs/SEMANTICS.md, "Instant").
+
+ghost use Rattle.std.specs.Prelude.{◌≡◌, ◌≤◌, ◌<◌, ◌^◌, [], false, length, map, IfOk, OnOk};
+ghost use Rattle.loft_board.specs.Board.{no_events};
+ghost use Rattle.loft_sense.specs.Heads.{shared_of};
+ghost use Rattle.loft_sense.specs.Machine.{heads as heads_of};
+ghost use Rattle.loft_sense.specs.Apply.{apply_orders};
+ghost use Rattle.loft_sense.specs.Passes.{passes as passes_over};
+ghost use Rattle.loft_sense.specs.Instant.{runner_of as begin_of, instant as instant_of};
+
+use crate::batch::Batch;
+use crate::close::close_all;
+use crate::interpreter::Interpreter;
+use crate::pass::{begin_all, passes};
+use crate::runner::Runner;
+use crate::shared::{changes, keep_values};
+use crate::told::tell_all;
+use loft_base::{NoMemory, SchedId, Sequence, SharedId, ThreadId};
+use loft_board::Board;
+use loft_effect::Around;
+use loft_sense::{InstantNote, Limits, Numbers, Order};
+use loft_tree::Place;
+use std::alloc::Global;
+
+/// What stays as it is while a scheduler's instants are made.
+#[derive(Drop)]
+pub struct Setting<I: Interpreter> {
+    pub interpreter: I,
+    pub scheduler: SchedId,
+    pub limits: Limits,
+    /// The scheduler's shared variables, in the order of their declarations.
+    pub own: Vec<SharedId>,
+    /// How many events there are.
+    pub events: u32,
+    ghost own_ones: { own.items ≡ shared_of (heads_of (I.program interpreter)) scheduler },
+    ghost all_events: { events ≡ length (heads_of (I.program interpreter)).events },
+}
+
+/// A scheduler between two instants.
+#[derive(Debug, Drop)]
+pub struct State {
+    /// In the order in which they were linked.
+    pub linked: Vec<Runner>,
+    pub shared: Numbers,
+    /// The shared values before the last instant; the next one uses their room.
+    pub before: Numbers,
+    /// The threads known as ended.
+    pub known: Sequence<ThreadId>,
+    /// No event is present between two instants; the room of their values is kept.
+    pub board: Board,
+    /// The creates that it has sent.
+    pub made: u64,
+    /// The instants that it has made.
+    pub number: u64,
+}
+
+impl<I: Interpreter> Setting<I> {
+    ghost use Rattle.loft_effect.specs.View.{around_of};
+    ghost use Rattle.loft_instant.specs.View.{standings_of, walk_of};
+    ghost use Rattle.loft_instant.specs.Batches.{applied_of};
+    ghost use Rattle.loft_instant.specs.States.{machine_with};
+
+    /// The batch is applied to these threads.
+    fn apply(
+        &self,
+        alloc: Global,
+        linked: Vec<Runner>,
+        known: Sequence<ThreadId>,
+        board: Board,
+        orders: &[Order],
+    ) -> Result<Batch, NoMemory>
+        requires { board ≡ no_events self.now.events }
+        ensures { IfOk result (λ b. let h = heads_of (I.program self.now.interpreter) in
+            applied_of b ≡ apply_orders h self.now.scheduler (record {
+              linked = standings_of linked.items;
+              known = known;
+              board = no_events (length h.events);
+              marks = [];
+              stopped = [];
+              sent = [];
+            }) orders.now) }
+    {
+        let mut batch = Batch::new(alloc, linked, known, self.events, board);
+        batch.apply_all(alloc, self.interpreter.heads(), self.scheduler, orders)?;
+        Ok(batch)
+    }
+
+    /// Passes over these threads are made until one runs nobody.
+    fn pass(
+        &self,
+        alloc: Global,
+        linked: &mut Vec<Runner>,
+        around: &mut Around,
+    ) -> Result<(), NoMemory>
+        ensures { OnOk result (walk_of linked.new.items around.new false
+            ≡ passes_over (I.program self.now.interpreter)
+            (map (begin_of self.now.limits.budget) (standings_of linked.old.items))
+            (around_of around.old)) }
+    {
+        begin_all(linked, self.limits.budget);
+        passes(alloc, &self.interpreter, linked, around)
+    }
+
+    /// One instant of a scheduler in this state.
+    pub fn instant(
+        &self,
+        alloc: Global,
+        state: State,
+        orders: &[Order],
+    ) -> Result<(State, InstantNote), NoMemory>
+        requires board { state.board ≡ no_events self.now.events }
+        requires made { state.made ≤ 2 ^ 63 }
+        requires number { state.number < 2 ^ 63 }
+        ensures machine { IfOk result (λ did. machine_with self.now.scheduler did.0
+            ≡ (instant_of (I.program self.now.interpreter) self.now.limits
+            (machine_with self.now.scheduler state) orders.now).machine) }
+        ensures note { IfOk result (λ did. did.1
+            ≡ (instant_of (I.program self.now.interpreter) self.now.limits
+            (machine_with self.now.scheduler state) orders.now).note) }
+        ensures board { IfOk result (λ did. did.0.board ≡ no_events self.now.events) }
+    {
+        let State {
+            linked,
+            shared,
+            mut before,
+            known,
+            board,
+            made,
+            number,
+        } = state;
+        keep_values(&mut before, shared.as_slice())?;
+        let Batch {
+            mut linked,
+            known,
+            events: _,
+            board,
+            marks,
+            stopped,
+            mut sent,
+        } = self.apply(alloc, linked, known, board, orders)?;
+        let mut around = Around {
+            place: Place::Sched(self.scheduler),
+            board,
+            shared,
+            known,
+            made,
+            entries: 0,
+            steps: 0,
+            bound: 0,
+            acts: Sequence::new(alloc),
+        };
+        self.pass(alloc, &mut linked, &mut around)?;
+        let Around {
+            place: _,
+            mut board,
+            shared,
+            known,
+            made,
+            entries: _,
+            steps: _,
+            bound: _,
+            acts,
+        } = around;
+        board.reset();
+        tell_all(alloc, self.scheduler, &mut sent, acts.as_slice())?;
+        let stands = close_all(alloc, &mut linked, &mut sent)?;
+        let changed = changes(
+            alloc,
+            self.own.as_slice(),
+            before.as_slice(),
+            shared.as_slice(),
+        )?;
+        let number = number + 1;
+        let note = InstantNote {
+            number,
+            marks,
+            stopped,
+            acts,
+            sent,
+            stands,
+            changed,
+        };
+        let state = State {
+            linked,
+            shared,
+            before,
+            known,
+            board,
+            made,
+            number,
+        };
+        Ok((state, note))
+    }
+}

@@ -1,5 +1,0 @@
-use Rattle.std.proofs.Common.{length}
-use Rattle.loft_plain.proofs.close.+push_changes.Given as goal
-
-abbrev pub decreases-push_changes : goal.decreases-push_changes
-decreases-push_changes l = length l.own.now
