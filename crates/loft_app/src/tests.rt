@@ -1,6 +1,7 @@
 //! What the program answers to words and programs: once for each command, and for each kind of
 //! refusal but that of a file, which `outside` has.
 
+mod compiled;
 mod outside;
 
 use crate::app::loft_main;
