@@ -9,7 +9,9 @@ use Rattle.loft_app.specs.declared.refusal.Stopped.{Stopped}
 use Rattle.loft_app.specs.declared.refusal.Stopped.TheVariants as stopped
 use Rattle.loft_words.specs.Command.{Command}
 use Rattle.loft_app.specs.Written.{Appends, IsPrefix}
-use Rattle.loft_app.specs.Stops.{stop_of_write}
+use Rattle.loft_app.specs.declared.run_code.RunError.{RunError}
+use Rattle.loft_app.specs.declared.run_code.RunError.TheVariants as run
+use Rattle.loft_app.specs.Stops.{stop_of_write, stop_of_run}
 use Rattle.loft_app.specs.Refusals.{IsTextOf, IsRefusedFor, IsCause, Asks}
 use Rattle.loft_app.specs.Promise.{IsAnswerFor, IsAnswer}
 use Rattle.loft_app.specs.Found.{IsFault}
@@ -79,3 +81,8 @@ failed_does (inr is) part = record {
 pub write_stops : (w : WriteError) (result : Result (Unit {0}) Stopped) → result ≡ Err (stop_of_write w) → result ≡ Err stopped.SinkFault ⊎ result ≡ Err stopped.NoMemory
 write_stops write.Sink result is = inl is
 write_stops write.NoMemory result is = inr is
+
+-- what stops a command whose run stops
+pub run_stops : (e : RunError) (result : Result (Unit {0}) Stopped) → result ≡ Err (stop_of_run e) → result ≡ Err stopped.SinkFault ⊎ result ≡ Err stopped.NoMemory
+run_stops run.Sink result is = inl is
+run_stops run.NoMemory result is = inr is

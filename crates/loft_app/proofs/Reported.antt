@@ -1,22 +1,27 @@
 -- From the turns of a run to the promise of its report.
-use Rattle.std.proofs.Common.{◌≡◌, ℕ, ◌==◌, true, List, [], ◌∷◌, ◌++◌, length, refl, sym, ◌∙◌, ap, subst, append_assoc}
+use Rattle.std.proofs.Common.{◌≡◌, ℕ, ◌==◌, true, List, [], ◌∷◌, ◌++◌, length, Ok, refl, sym, ◌∙◌, ap, subst, append_assoc}
+use Rattle.std.specs.Prelude.{◌↔◌}
 use Rattle.std.proofs.lemmas.Bool.{and_parts, eqb-true}
 use Rattle.loft_base.specs.declared.ids.SchedId.{SchedId}
+use Rattle.loft_tree.specs.declared.heads.Heads.{Heads}
 use Rattle.loft_tree.specs.NamedTree.{NamedProgram}
-use Rattle.loft_tree.specs.Resolved.{resolved_of}
+use Rattle.loft_sense.specs.declared.entry.Entry.{Entry}
 use Rattle.loft_sense.specs.declared.limits.Limits.{Limits}
 use Rattle.loft_sense.specs.declared.limits.RunOptions.{RunOptions}
 use Rattle.loft_sense.specs.declared.turn.Finished.{Finished}
-use Rattle.loft_sense.specs.Machine.{Prog, Tree, heads}
+use Rattle.loft_sense.specs.Machine.{Prog, heads}
+use Rattle.loft_sense.specs.History.{Choice, hist, HasEnded}
+use Rattle.loft_sense.specs.Legal.{IsLegal}
 use Rattle.loft_sense.specs.Turns.{entries_of}
 use Rattle.loft_sense.specs.Lines.{text_of}
-use Rattle.loft_sense.specs.Report.{head_lines}
+use Rattle.loft_sense.specs.Report.{head_lines, report}
 use Rattle.loft_sense.proofs.LegalLemmas.{made_is_legal}
 use Rattle.loft_turns.specs.Running.{choices_of, IsWholeRun}
 use Rattle.loft_turns.specs.Built.{is_built}
 use Rattle.loft_log.specs.RunReport.{run_report}
 use Rattle.loft_log.proofs.RunReports.{report-run}
-use Rattle.loft_app.specs.Promise.{IsReport}
+use Rattle.loft_app.specs.Promise.{BeginsWith, IsReport}
+use Rattle.loft_app.specs.Alone.{RunsAlone}
 
 text_of-append : (xs ys : List (List ℕ)) → text_of (xs ++ ys) ≡ text_of xs ++ text_of ys
 text_of-append [] ys = refl
@@ -39,13 +44,38 @@ promised x o s run one zero whole = record {
 abbrev pub only : SchedId
 only = record { 0 = 0 }
 
--- a program that is built has one scheduler
-pub one_scheduler : (n : NamedProgram) → is_built n ≡ true → length n.heads.schedulers ≡ 1
-one_scheduler n built = eqb-true (length n.heads.schedulers) 1 (and_parts (length n.heads.schedulers == 1) _ built).0
+-- what a program declares that is built runs alone
+pub built_alone : (n : NamedProgram) → is_built n ≡ true → RunsAlone n.heads
+built_alone n built =
+    let parts = and_parts (length n.heads.schedulers == 1) _ built in record {
+      scheduler = eqb-true (length n.heads.schedulers) 1 parts.0;
+      clients = eqb-true (length n.heads.clients) 0 (and_parts (length n.heads.clients == 0) _ parts.1).0;
+    }
 
--- the report of a whole run of a program that is built
-pub whole_report : (n : NamedProgram) (x : Prog) (limits : Limits) (o : RunOptions) (run : Finished) → is_built n ≡ true
-    → x ≡ Tree (resolved_of n) → limits ≡ o.limits → ((q : RunOptions) → q.limits ≡ limits → IsWholeRun x q only run)
-    → IsReport (Tree (resolved_of n)) o (run_report n.heads o only run)
-whole_report n x limits o run built program bounds made =
-    promised (Tree (resolved_of n)) o only run (one_scheduler n built) refl (subst (λ (q : Prog). IsWholeRun q o only run) program (made o (sym bounds)))
+-- the report of a whole run of a program of one scheduler
+pub whole_report : (x y : Prog) (limits : Limits) (o : RunOptions) (run : Finished) → length (heads x).schedulers ≡ 1
+    → y ≡ x → limits ≡ o.limits → ((q : RunOptions) → q.limits ≡ limits → IsWholeRun y q only run)
+    → IsReport x o (run_report (heads x) o only run)
+whole_report x y limits o run one same bounds made =
+    promised x o only run one refl (subst (λ (q : Prog). IsWholeRun q o only run) same (made o (sym bounds)))
+
+-- nothing that is told of a run tells whether x or y was run
+pub record ToldAlike (x y : Prog) : Type 0 where
+  pub declared : heads y ≡ heads x
+  pub histories : (o : RunOptions) (choices : List Choice) → hist x o choices ≡ hist y o choices
+  pub legal : (o : RunOptions) (es : List Entry) → IsLegal x o es ↔ IsLegal y o es
+  pub ended : (o : RunOptions) (choices : List Choice) (es : List Entry) → hist x o choices ≡ Ok es → HasEnded x o es ↔ HasEnded y o es
+  pub reports : (o : RunOptions) (choices : List Choice) (es : List Entry) → hist x o choices ≡ Ok es → report x o es ≡ report y o es
+
+-- then a report of y is one of x
+pub report_told : (x y : Prog) (o : RunOptions) (text : List ℕ) → ToldAlike x y → IsReport y o text → IsReport x o text
+report_told x y o text alike is =
+    let made : hist x o is.choices ≡ Ok is.history = alike.histories o is.choices ∙ is.made in record {
+      choices = is.choices;
+      history = is.history;
+      named = subst (λ (h : Heads). BeginsWith h o is.choices text) alike.declared is.named;
+      made = made;
+      legal = (alike.legal o is.history).1 is.legal;
+      whole = is.whole ∙ sym (alike.reports o is.choices is.history made);
+      ended = (alike.ended o is.choices is.history made).1 is.ended;
+    }

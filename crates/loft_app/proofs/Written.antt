@@ -48,6 +48,10 @@ pub on_err : {A E P Q : Type 0} (r : Result A E) → OnErr r P → (P → Q) →
 on_err (Ok x) p f = tt
 on_err (Err e) p f = f p
 
+pub err_holds : {A E P : Type 0} (r : Result A E) → P → OnErr r P
+err_holds (Ok x) p = tt
+err_holds (Err e) p = p
+
 same_command : {o : Option Command} {a b : Command} → Some a ≡ o → o ≡ Some b → a ≡ b
 same_command p q = cc
 

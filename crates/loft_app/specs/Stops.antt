@@ -7,6 +7,8 @@ use Rattle.loft_parse.specs.declared.error.ParseError.{ParseError}
 use Rattle.loft_parse.specs.declared.error.ParseError.TheVariants as text
 use Rattle.loft_names.specs.declared.error.NameError.{NameError}
 use Rattle.loft_names.specs.declared.error.NameError.TheVariants as name
+use Rattle.loft_app.specs.declared.run_code.RunError.{RunError}
+use Rattle.loft_app.specs.declared.run_code.RunError.TheVariants as run
 use Rattle.loft_app.specs.declared.refusal.Refusal.TheVariants.{Text, Names}
 use Rattle.loft_app.specs.declared.refusal.Stopped.{Stopped}
 use Rattle.loft_app.specs.declared.refusal.Stopped.TheVariants.{Refused, FileFault, SinkFault, NoMemory}
@@ -35,3 +37,11 @@ stop_of_names name.NoMemory = NoMemory
 abbrev pub stop_of_write : WriteError → Stopped
 stop_of_write write.Sink = SinkFault
 stop_of_write write.NoMemory = NoMemory
+
+abbrev pub run_error_of_write : WriteError → RunError
+run_error_of_write write.Sink = run.Sink
+run_error_of_write write.NoMemory = run.NoMemory
+
+abbrev pub stop_of_run : RunError → Stopped
+stop_of_run run.Sink = SinkFault
+stop_of_run run.NoMemory = NoMemory

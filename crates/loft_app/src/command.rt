@@ -14,21 +14,20 @@ ghost use Rattle.loft_app.specs.Promise.{IsReport};
 ghost use Rattle.loft_app.specs.Answer.{Does};
 
 use crate::refusal::{Refusal, Stopped};
+use crate::run_code::{RunError, run_code};
 use crate::source::placed;
-use loft_base::{Gate, SchedId, Sink, WriteError, write_lines};
-use loft_log::write_report;
+use loft_base::{Gate, Sink, write_lines};
+use loft_compile::{compile, compiled_code_has_the_same_histories};
 use loft_place::Placed;
-use loft_plain::PlainEngine;
 use loft_sense::RunOptions;
 use loft_show::show;
-use loft_stand::waiting_orders_fit;
 use loft_tree::Program;
-use loft_turns::{is_built, run_alone};
+use loft_turns::is_built;
 use std::alloc::Global;
 use std::sync::Wait;
 use std::thread::Threads;
 
-/// Runs a program that can be run and writes its report.
+/// Runs a program that can be run, by its code, and writes its report.
 fn run_program<R: Threads + Wait + Sync, S: Sink, G: Gate>(
     rt: &R,
     alloc: Global,
@@ -36,22 +35,28 @@ fn run_program<R: Threads + Wait + Sync, S: Sink, G: Gate>(
     options: &RunOptions,
     sink: &mut S,
     gate: &G,
-) -> Result<(), WriteError>
+) -> Result<(), RunError>
     requires built { is_built (program_of placed.now) ≡ true }
     requires range { AreInRange options.now }
     ensures report { OnOk result (Appends (S.written sink.old) (S.written sink.new)
         (IsReport (Tree (resolved_of (program_of placed.now))) options.now)) }
     ensures failed { OnErr result (Appends (S.written sink.old) (S.written sink.new)
         (IsPrefix (IsReport (Tree (resolved_of (program_of placed.now))) options.now))) }
-    ensures sink { IsErrOf result WriteError.Sink → Rose (S.faults sink.old) (S.faults sink.new) }
+    ensures sink { IsErrOf result RunError.Sink → Rose (S.faults sink.old) (S.faults sink.new) }
     ensures never_falls { S.faults sink.old ≤ S.faults sink.new }
 {
-    waiting_orders_fit();
-    let heads = &placed.program().heads;
-    let scheduler = SchedId(0);
-    let engine = PlainEngine::new(alloc, placed, scheduler, options.limits)?;
-    let run = run_alone(rt, alloc, heads, engine, scheduler, gate)?;
-    write_report(alloc, heads, options, scheduler, &run, sink)
+    compiled_code_has_the_same_histories();
+    placed.program();
+    let code = compile(alloc, placed)?;
+    run_code(
+        rt,
+        alloc,
+        &code,
+        options.limits,
+        options.workers,
+        sink,
+        gate,
+    )
 }
 
 /// `run`: the report of a run with these options.

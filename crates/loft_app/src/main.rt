@@ -5,6 +5,7 @@ mod app;
 mod command;
 mod fault_line;
 mod refusal;
+mod run_code;
 mod source;
 mod status;
 #[cfg(test)]

@@ -1,5 +1,6 @@
 //! Why a source is refused, and what else stops a command.
 
+use crate::run_code::RunError;
 use loft_base::{Failed, FileError, NoMemory, WriteError};
 use loft_names::NameError;
 use loft_parse::ParseError;
@@ -80,6 +81,20 @@ impl From<WriteError> for Stopped {
         match error {
             WriteError::Sink => Stopped::SinkFault,
             WriteError::NoMemory => Stopped::NoMemory,
+        }
+    }
+}
+
+impl From<RunError> for Stopped {
+    ghost use Rattle.std.specs.Prelude.{◌≡◌};
+    ghost use Rattle.loft_app.specs.Stops.{stop_of_run};
+
+    ghost from_gives = { λ e stopped. stopped ≡ stop_of_run e };
+
+    fn from(error: RunError) -> Stopped {
+        match error {
+            RunError::Sink => Stopped::SinkFault,
+            RunError::NoMemory => Stopped::NoMemory,
         }
     }
 }

@@ -1,4 +1,4 @@
-//! The code of a program, operation by operation. No command makes it so far.
+//! The code of a program, operation by operation.
 
 use loft_base::SchedId;
 use loft_code::{Action, Op, Pause};

@@ -9,23 +9,23 @@ use Rattle.loft_names.specs.Numbers.{numbered}
 use Rattle.loft_turns.specs.Built.{is_built}
 use Rattle.loft_sense.specs.Machine.{Tree}
 use Rattle.loft_app.specs.declared.refusal.Stopped.{Stopped}
-use Rattle.loft_app.specs.Stops.{stop_of_write}
+use Rattle.loft_app.specs.Stops.{stop_of_run}
 use Rattle.loft_words.specs.Command.{Run}
 use Rattle.loft_app.specs.Promise.{IsReport, IsAnswerFor}
-use Rattle.loft_app.proofs.Doing.{failed_does, write_stops}
+use Rattle.loft_app.proofs.Doing.{failed_does, run_stops}
 use Rattle.loft_app.proofs.Written.{part_of}
 use Rattle.loft_app.proofs.command.run.Goals as goal
 
 pub returns-in_err-run_program-clause-does : goal.returns-in_err-run_program-clause-does
 returns-in_err-run_program-clause-does g c = λ file.
-    let w = c.in_err-run_program.field-0.0 in
+    let e = c.in_err-run_program.field-0.0 in
     let p = err_from_is_err_and c.from_residual-in_err-run_program.result c.from_residual-in_err-run_program.ensures.1 in
-    let is : c.from_residual-in_err-run_program.result ≡ Err (stop_of_write w) = p.1 ∙ ap (λ (e : Stopped). Err e) p.2 in
+    let is : c.from_residual-in_err-run_program.result ≡ Err (stop_of_run e) = p.1 ∙ ap (λ (s : Stopped). Err s) p.2 in
     let n = program_of c.in_ok-placed.placed in
     let same : n ≡ numbered (source_of c.args.program) = c.in_ok-placed.ensures.program in
     let o = c.args.options.now in
     let built : is_built n ≡ true = subst (λ (q : InMemory). is_built (program_of q) ≡ true) c.program.ensures.program (sym c.is_built.ensures ∙ c.if-not-is_built.false) in
-    failed_does (write_stops w c.from_residual-in_err-run_program.result is)
+    failed_does (run_stops e c.from_residual-in_err-run_program.result is)
     (part_of (IsReport (Tree (resolved_of n)) o) (IsAnswerFor (Run file o) (source_of c.args.program))
     (λ text holds. ((c.in_ok-placed.ensures.well, subst (λ (m : NamedProgram). is_built m ≡ true) same built), subst (λ (m : NamedProgram). IsReport (Tree (resolved_of m)) o text) same holds))
     c.in_err-run_program.ensures.failed)

@@ -1,0 +1,47 @@
+use Rattle.std.proofs.Common.{◌≡◌, sym, ap, subst, length}
+use Rattle.loft_tree.specs.declared.heads.Heads.{Heads}
+use Rattle.loft_code.specs.declared.raw.CodeProgram.{CodeProgram}
+use Rattle.loft_code.specs.View.{automata_of}
+use Rattle.loft_sense.specs.declared.limits.Limits.{Limits}
+use Rattle.loft_sense.specs.declared.limits.RunOptions.{RunOptions}
+use Rattle.loft_sense.specs.declared.turn.Finished.{Finished}
+use Rattle.loft_sense.specs.Machine.{Prog, Code, heads}
+use Rattle.loft_stand.specs.WellFormed.{IsValidCode}
+use Rattle.loft_engine.specs.CodeEngine.{limits_of}
+use Rattle.loft_log.specs.RunReport.{run_report}
+use Rattle.loft_turns.specs.Running.{AlwaysFits, IsWholeRun}
+use Rattle.loft_app.specs.Promise.{IsReport}
+use Rattle.loft_app.specs.Alone.{options_of}
+use Rattle.loft_app.proofs.Reported.{only, whole_report}
+use Rattle.loft_app.proofs.Written.{appends, begun, err_holds}
+use Rattle.loft_app.proofs.run_code.run_code.Goals as goal
+
+pub run_alone-requires-clause-fits : goal.run_alone-requires-clause-fits
+run_alone-requires-clause-fits g c κs within =
+    let well : IsValidCode (automata_of c.args.c.now) = record { limits = c.program.ensures.fits; valid = c.program.ensures.valid } in
+    subst (λ (x : Prog). AlwaysFits x (limits_of c.in_ok-engine.engine) only) (sym c.in_ok-engine.ensures.program)
+    (λ o choices es same made. c.waiting_orders_fit.ensures.waiting (Code (automata_of c.args.c.now)) well o choices es made only)
+
+-- the report of the run
+written : (x y : Prog) (h : Heads) (limits : Limits) (o : RunOptions) (run : Finished) → length (heads x).schedulers ≡ 1 → h ≡ heads x
+    → y ≡ x → limits ≡ o.limits → ((q : RunOptions) → q.limits ≡ limits → IsWholeRun y q only run)
+    → IsReport x o (run_report h o only run)
+written x y h limits o run one declared same bounds made =
+    subst (λ (q : Heads). IsReport x o (run_report q o only run)) (sym declared) (whole_report x y limits o run one same bounds made)
+
+pub returns-clause-report : goal.returns-clause-report
+returns-clause-report g c =
+    let x = Code (automata_of c.args.c.now) in
+    let o = options_of c.args.l c.args.workers in
+    let declared : c.program.result.now.heads ≡ heads x = ap (λ (q : CodeProgram). q.heads) c.program.ensures.program in
+    appends {P = IsReport x o} (run_report c.program.result.now.heads o only c.in_ok-run.run') c.in_ok-write_report.ensures.ok
+    (written x _ c.program.result.now.heads _ o c.in_ok-run.run' c.requires.alone.scheduler declared c.in_ok-engine.ensures.program c.in_ok-engine.ensures.limits c.in_ok-run.ensures)
+
+pub returns-in_err-write_report-clause-failed : goal.returns-in_err-write_report-clause-failed
+returns-in_err-write_report-clause-failed g c =
+    let x = Code (automata_of c.args.c.now) in
+    let o = options_of c.args.l c.args.workers in
+    let declared : c.program.result.now.heads ≡ heads x = ap (λ (q : CodeProgram). q.heads) c.program.ensures.program in
+    err_holds c.from_residual-in_err-write_report.result
+    (begun (IsReport x o) (run_report c.program.result.now.heads o only c.in_ok-run.run') c.in_err-write_report.ensures.failed
+    (written x _ c.program.result.now.heads _ o c.in_ok-run.run' c.requires.alone.scheduler declared c.in_ok-engine.ensures.program c.in_ok-engine.ensures.limits c.in_ok-run.ensures))

@@ -1,0 +1,86 @@
+//! Runs code, and writes the report.
+
+ghost use Rattle.std.specs.Prelude.{◌≤◌, IsErrOf, OnOk, OnErr};
+ghost use Rattle.loft_base.specs.Outside.{Rose};
+ghost use Rattle.loft_code.specs.View.{automata_of};
+ghost use Rattle.loft_sense.specs.Machine.{Code as ByCode};
+ghost use Rattle.loft_words.specs.Ranges.{AreInRange};
+ghost use Rattle.loft_app.specs.Written.{Appends, IsPrefix};
+ghost use Rattle.loft_app.specs.Promise.{IsReport};
+ghost use Rattle.loft_app.specs.Alone.{RunsAlone, options_of};
+
+use loft_base::{Gate, NoMemory, SchedId, Sink, WriteError};
+use loft_code::Code;
+use loft_engine::CodeEngine;
+use loft_log::write_report;
+use loft_sense::{Limits, RunOptions};
+use loft_stand::waiting_orders_fit;
+use loft_turns::run_alone;
+use std::alloc::Global;
+use std::sync::Wait;
+use std::thread::Threads;
+
+/// Why a run stops without its whole report.
+#[derive(Clone, Copy, Debug, PartialEq, Eq)]
+pub enum RunError {
+    /// The sink failed; its count of faults rose.
+    Sink,
+    /// Out of memory for the run or for its report.
+    NoMemory,
+}
+
+impl From<NoMemory> for RunError {
+    ghost use Rattle.std.specs.Prelude.{◌≡◌};
+    ghost use Rattle.loft_app.specs.declared.run_code.RunError.TheVariants.{NoMemory as no_memory};
+
+    ghost from_gives = { λ _ e. e ≡ no_memory };
+
+    fn from(_error: NoMemory) -> RunError {
+        RunError::NoMemory
+    }
+}
+
+impl From<WriteError> for RunError {
+    ghost use Rattle.std.specs.Prelude.{◌≡◌};
+    ghost use Rattle.loft_app.specs.Stops.{run_error_of_write};
+
+    ghost from_gives = { λ error e. e ≡ run_error_of_write error };
+
+    fn from(error: WriteError) -> RunError {
+        match error {
+            WriteError::Sink => RunError::Sink,
+            WriteError::NoMemory => RunError::NoMemory,
+        }
+    }
+}
+
+/// Runs valid code of one scheduler within these limits, 1 to `MAX_WORKERS` workers, and writes the
+/// report (docs/REPORT.md). `Sink` comes where the sink failed, and `NoMemory` where an allocation
+/// fails; then a prefix of a report was written.
+pub fn run_code<R: Threads + Wait + Sync, S: Sink, G: Gate>(
+    rt: &R,
+    alloc: Global,
+    c: &Code,
+    l: Limits,
+    workers: u32,
+    sink: &mut S,
+    gate: &G,
+) -> Result<(), RunError>
+    requires alone { RunsAlone c.now.heads }
+    requires range { AreInRange (options_of l workers) }
+    ensures report { OnOk result (Appends (S.written sink.old) (S.written sink.new)
+        (IsReport (ByCode (automata_of c.now)) (options_of l workers))) }
+    ensures failed { OnErr result (Appends (S.written sink.old) (S.written sink.new)
+        (IsPrefix (IsReport (ByCode (automata_of c.now)) (options_of l workers)))) }
+    ensures sink { IsErrOf result RunError.Sink → Rose (S.faults sink.old) (S.faults sink.new) }
+    ensures never_falls { S.faults sink.old ≤ S.faults sink.new }
+{
+    waiting_orders_fit();
+    let heads = &c.program().heads;
+    let scheduler = SchedId(0);
+    let options = RunOptions { limits: l, workers };
+    let engine = CodeEngine::new(alloc, c, scheduler, l)?;
+    let run = run_alone(rt, alloc, heads, engine, scheduler, gate)?;
+    write_report(alloc, heads, &options, scheduler, &run, sink)?;
+    Ok(())
+}
