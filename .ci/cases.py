@@ -17,7 +17,7 @@ import subprocess
 import sys
 
 TOP = pathlib.Path(__file__).resolve().parent.parent
-COMMANDS = ["run", "show", "check"]
+COMMANDS = ["run", "show", "check", "compile"]
 WORDS = TOP / "cases/words"
 TABLE = WORDS / "words.tsv"
 STATUSES = {b"source:": 3, b"loft:": 2, b"log:": 4, b"files:": 5}

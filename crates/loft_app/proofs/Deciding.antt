@@ -12,7 +12,7 @@ use Rattle.loft_parse.specs.declared.error.ParseError.{ParseError}
 use Rattle.loft_parse.specs.Source.{Reads, SourceFault}
 use Rattle.loft_app.specs.declared.refusal.Refusal.{Refusal}
 use Rattle.loft_app.specs.declared.refusal.Refusal.TheVariants as refusal
-use Rattle.loft_words.specs.Command.{Command, Run, Show, Check}
+use Rattle.loft_words.specs.Command.{Command, Run, Show, Check, Compile}
 use Rattle.loft_app.specs.Refusals.{IsTextOf, Well, Asks, IsCause, Takes}
 
 -- a text, names and links have one answer
@@ -40,11 +40,14 @@ taken_not_refused d c contents p (refusal.Text e) text takes asks (inr fault) = 
 taken_not_refused d (Run file o) contents p (refusal.Names e) text takes asks cause = well_named d contents p e text takes.0 cause
 taken_not_refused d (Show file) contents p (refusal.Names e) text takes asks cause = absurd asks
 taken_not_refused d (Check file) contents p (refusal.Names e) text takes asks cause = well_named d contents p e text takes cause
+taken_not_refused d (Compile file) contents p (refusal.Names e) text takes asks cause = well_named d contents p e text takes cause
 taken_not_refused d (Run file o) contents p (refusal.Links e schedulers) text takes asks cause = well_linked d contents p e schedulers text takes.0 cause
 taken_not_refused d (Show file) contents p (refusal.Links e schedulers) text takes asks cause = absurd asks
 taken_not_refused d (Check file) contents p (refusal.Links e schedulers) text takes asks cause = well_linked d contents p e schedulers text takes cause
+taken_not_refused d (Compile file) contents p (refusal.Links e schedulers) text takes asks cause = well_linked d contents p e schedulers text takes cause
 taken_not_refused d (Run file o) contents p refusal.NotBuilt text takes asks (q, other, (well, not)) =
     let built : is_built (numbered q) ≡ true = subst (λ (x : Source). is_built (numbered x) ≡ true) (same_program d contents p q text other) takes.1 in
     absurd cc
 taken_not_refused d (Show file) contents p refusal.NotBuilt text takes asks cause = absurd asks
 taken_not_refused d (Check file) contents p refusal.NotBuilt text takes asks cause = absurd asks
+taken_not_refused d (Compile file) contents p refusal.NotBuilt text takes asks cause = absurd asks

@@ -4,7 +4,7 @@ use Rattle.std.specs.Prelude.{OnOk, OnErr, IfSome}
 use Rattle.std.proofs.lemmas.List.{take-append-drop}
 use Rattle.loft_base.specs.Outside.{appended, GrowsByPrefix}
 use Rattle.loft_sense.specs.declared.limits.RunOptions.{RunOptions}
-use Rattle.loft_words.specs.Command.{Command, Run, Show, Check}
+use Rattle.loft_words.specs.Command.{Command, Run, Show, Check, Compile}
 use Rattle.loft_words.specs.Ranges.{AreInRange, KeepsRanges}
 use Rattle.loft_app.specs.Written.{Appends, IsPrefix}
 
@@ -65,3 +65,4 @@ pub keeps_ranges : {o : Option Command} (c : Command) → Some c ≡ o
 keeps_ranges (Run file options) is ranges = ranges file options (sym is)
 keeps_ranges (Show file) is ranges = tt
 keeps_ranges (Check file) is ranges = tt
+keeps_ranges (Compile file) is ranges = tt

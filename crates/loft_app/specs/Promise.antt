@@ -12,7 +12,9 @@ use Rattle.loft_sense.specs.History.{Choice, hist, HasEnded}
 use Rattle.loft_sense.specs.Legal.{IsLegal}
 use Rattle.loft_sense.specs.Lines.{text_of}
 use Rattle.loft_sense.specs.Report.{head_lines, report}
-use Rattle.loft_words.specs.Command.{Command, Run, Show, Check}
+use Rattle.loft_compile.specs.Compiled.{compiled}
+use Rattle.loft_listing.specs.Listing.{listing_text}
+use Rattle.loft_words.specs.Command.{Command, Run, Show, Check, Compile}
 use Rattle.loft_app.specs.Written.{IsLine}
 use Rattle.loft_app.specs.Refusals.{IsTextOf, Takes}
 
@@ -31,11 +33,12 @@ pub record IsReport (x : Prog) (o : RunOptions) (text : List ℕ) : Type 0 where
   pub whole : text ≡ report x o history
   pub ended : HasEnded x o history
 
--- what a command answers: the report of a run, the canonical text, or `ok`
+-- what a command answers: the report of a run, the canonical text, `ok`, or the listing of the program's code
 abbrev pub IsAnswerText : Command → Source → List ℕ → Type 0
 IsAnswerText (Run file o) p text = IsReport (Tree (resolved_of (numbered p))) o text
 IsAnswerText (Show file) p text = text ≡ Canon p
 IsAnswerText (Check file) p text = IsLine (codes "ok") text
+IsAnswerText (Compile file) p text = text ≡ listing_text (compiled (resolved_of (numbered p)))
 
 -- the command can be done for the program, and this is the answer
 abbrev pub IsAnswerFor : Command → Source → List ℕ → Type 0

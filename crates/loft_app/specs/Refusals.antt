@@ -20,7 +20,7 @@ use Rattle.loft_parse.specs.declared.error.ParseError.TheVariants.{Lex, Expected
 use Rattle.loft_parse.specs.Source.{Reads, SourceFault}
 use Rattle.loft_app.specs.declared.refusal.Refusal.{Refusal}
 use Rattle.loft_app.specs.declared.refusal.Refusal.TheVariants as refusal
-use Rattle.loft_words.specs.Command.{Command, Run, Show, Check}
+use Rattle.loft_words.specs.Command.{Command, Run, Show, Check, Compile}
 use Rattle.loft_app.specs.Written.{IsLine}
 
 -- ---- lines
@@ -113,18 +113,21 @@ IsCause contents refusal.NotBuilt = ProgramRefused contents refusal.NotBuilt
 
 -- ---- commands
 
--- what a command asks of a program: `show` nothing, `check` its names and links, `run` besides that it runs yet
+-- what a command asks of a program: `show` nothing, `check` and `compile` its names and links, `run` besides that it runs yet
 abbrev pub Asks : Command → Refusal → Type 0
 Asks c (refusal.Text e) = Unit {0}
 Asks (Run file o) (refusal.Names e) = Unit {0}
 Asks (Show file) (refusal.Names e) = ⊥
 Asks (Check file) (refusal.Names e) = Unit {0}
+Asks (Compile file) (refusal.Names e) = Unit {0}
 Asks (Run file o) (refusal.Links e schedulers) = Unit {0}
 Asks (Show file) (refusal.Links e schedulers) = ⊥
 Asks (Check file) (refusal.Links e schedulers) = Unit {0}
+Asks (Compile file) (refusal.Links e schedulers) = Unit {0}
 Asks (Run file o) refusal.NotBuilt = Unit {0}
 Asks (Show file) refusal.NotBuilt = ⊥
 Asks (Check file) refusal.NotBuilt = ⊥
+Asks (Compile file) refusal.NotBuilt = ⊥
 
 -- a command refuses contents by this line
 abbrev pub Refuses : Command → List ℕ → List ℕ → Type 0
@@ -134,8 +137,9 @@ Refuses c contents line = (r : Refusal) × Asks c r × IsCause contents r × (li
 abbrev pub IsRefusal : Command → List ℕ → List ℕ → Type 0
 IsRefusal c contents text = (line : List ℕ) × Refuses c contents line × IsLine line text
 
--- the command can be done for a program: each can be shown, well ones pass the check, and those of them that are built run
+-- the command can be done for a program: each can be shown, well ones pass the check and are compiled, and those of them that are built run
 abbrev pub Takes : Command → Source → Type 0
 Takes (Run file o) p = Well p × (is_built (numbered p) ≡ true)
 Takes (Show file) p = Unit {0}
 Takes (Check file) p = Well p
+Takes (Compile file) p = Well p

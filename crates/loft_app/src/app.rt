@@ -13,7 +13,7 @@ ghost use Rattle.loft_app.specs.Promise.{IsAnswer};
 ghost use Rattle.loft_app.specs.Status.{IsRefused, IsAccepted};
 ghost use Rattle.loft_app.specs.Answer.{IsText, Attempts, Answers};
 
-use crate::command::{check, run, show_text};
+use crate::command::{check, list_code, run, show_text};
 use crate::refusal::{Refusal, Stopped};
 use crate::source::read_program;
 use crate::status::Status;
@@ -82,6 +82,7 @@ fn attempt<R: Threads + Wait + Sync, F: Files, S: Sink, G: Gate>(
         Command::Run { options, .. } => run(rt, alloc, program, &options, sink, gate),
         Command::Show(_) => show_text(alloc, &program, sink),
         Command::Check(_) => check(alloc, program, sink),
+        Command::Compile(_) => list_code(alloc, program, sink),
     }
 }
 
@@ -127,7 +128,7 @@ pub fn loft_main<R: Threads + Wait + Sync, F: Files, S: Sink, G: Gate>(
     requires { (c : PlainCommand) → command (words_of words.now) ≡ Some c
         → IsTrue (F.may_ask files.old (file_of c)) }
 
-    // The promise of each command: the report of a run, the canonical text, `ok`.
+    // The promise of each command: the report of a run, the canonical text, `ok`, the listing.
     ensures done { (c : PlainCommand) (contents : List ℕ) → command (words_of words.now) ≡ Some c
         → F.contents files.old (file_of c) ≡ Some contents → result ≡ Status.Done
         → Appends (S.written sink.old) (S.written sink.new) (IsAnswer c contents) }

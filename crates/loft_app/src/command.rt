@@ -7,7 +7,7 @@ ghost use Rattle.loft_tree.specs.ProgramView.{program_of};
 ghost use Rattle.loft_tree.specs.View.{source_of};
 ghost use Rattle.loft_sense.specs.Machine.{Tree};
 ghost use Rattle.loft_turns.specs.Built.{is_built};
-ghost use Rattle.loft_words.specs.Command.{Run, Show, Check};
+ghost use Rattle.loft_words.specs.Command.{Run, Show, Check, Compile};
 ghost use Rattle.loft_words.specs.Ranges.{AreInRange};
 ghost use Rattle.loft_app.specs.Written.{Appends, IsPrefix};
 ghost use Rattle.loft_app.specs.Promise.{IsReport};
@@ -18,6 +18,7 @@ use crate::run_code::{RunError, run_code};
 use crate::source::placed;
 use loft_base::{Gate, Sink, write_lines};
 use loft_compile::{compile, compiled_code_has_the_same_histories};
+use loft_listing::write as write_listing;
 use loft_place::Placed;
 use loft_sense::RunOptions;
 use loft_show::show;
@@ -91,6 +92,20 @@ pub fn check<S: Sink>(alloc: Global, program: Program, sink: &mut S) -> Result<(
 {
     placed(alloc, program)?;
     sink.put(b"ok\n")?;
+    Ok(())
+}
+
+/// `compile`: the listing of the program's code, where names and links are correct.
+pub fn list_code<S: Sink>(alloc: Global, program: Program, sink: &mut S) -> Result<(), Stopped>
+    ensures does { (file : List ℕ) → Does (Compile file) (source_of program) result
+        (S.written sink.old) (S.written sink.new) }
+    ensures sink_fault { IsErrOf result Stopped.SinkFault → Rose (S.faults sink.old) (S.faults sink.new) }
+    ensures never_falls { S.faults sink.old ≤ S.faults sink.new }
+{
+    let placed = placed(alloc, program)?;
+    let code = compile(alloc, &placed)?;
+    let text = write_listing(alloc, &code)?;
+    write_lines(text.as_slice(), sink)?;
     Ok(())
 }
 

@@ -1,8 +1,8 @@
 //! What the program answers to words and programs: once for each command, and for each kind of
 //! refusal but that of a file, which `outside` has.
 
-mod compiled;
 mod outside;
+mod run_code;
 
 use crate::app::loft_main;
 use loft_base::{MemFiles, MemSink, OpenGate};

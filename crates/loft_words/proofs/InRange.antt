@@ -10,7 +10,7 @@ use Rattle.loft_sense.specs.declared.limits.TheConstants.{MAX_INSTANTS, MAX_BUDG
 use Rattle.loft_words.specs.declared.defaults.TheConstants.{DEFAULT_INSTANTS, DEFAULT_BUDGET, DEFAULT_BLOCK, DEFAULT_WORKERS}
 use Rattle.loft_words.specs.Words.{is_number, number_in}
 use Rattle.loft_words.specs.Arguments.{Argument, arguments, plain_words, values, has_only}
-use Rattle.loft_words.specs.Command.{Run, Show, Check, only_file, number_of, options_from, run_names, run_options, run_of, file_alone, command_named, command}
+use Rattle.loft_words.specs.Command.{Run, Show, Check, Compile, only_file, number_of, options_from, run_names, run_options, run_of, file_alone, command_named, command}
 use Rattle.loft_words.specs.Ranges.{AreInRange}
 
 number_in_range : (most n : ℕ) (word : List ℕ) → number_in most word ≡ Some n → (1 ≤ n) × (n ≤ most)
@@ -73,15 +73,20 @@ no_check : (o : Option (List ℕ)) (file : List ℕ) (options : RunOptions) → 
 no_check None file options is = absurd cc
 no_check (Some name) file options is = absurd cc
 
+no_compile : (o : Option (List ℕ)) (file : List ℕ) (options : RunOptions) → option_map Compile o ≡ Some (Run file options) → ⊥
+no_compile None file options is = absurd cc
+no_compile (Some name) file options is = absurd cc
+
 command_named_range : (word : List ℕ) (given : List Argument) (file : List ℕ) (options : RunOptions) → command_named word given ≡ Some (Run file options) → AreInRange options
-command_named_range word given file options is = go (bytes_eq word (codes "run")) (bytes_eq word (codes "show")) (bytes_eq word (codes "check")) is
+command_named_range word given file options is = go (bytes_eq word (codes "run")) (bytes_eq word (codes "show")) (bytes_eq word (codes "check")) (bytes_eq word (codes "compile")) is
   where
-    go : (a b c : Bool) → (if a then run_of given else (if b then option_map Show (file_alone given) else (if c then option_map Check (file_alone given) else None))) ≡ Some (Run file options)
+    go : (a b c d : Bool) → (if a then run_of given else (if b then option_map Show (file_alone given) else (if c then option_map Check (file_alone given) else (if d then option_map Compile (file_alone given) else None)))) ≡ Some (Run file options)
         → AreInRange options
-    go true b c is = run_range given file options is
-    go false true c is = absurd (no_show (file_alone given) file options is)
-    go false false true is = absurd (no_check (file_alone given) file options is)
-    go false false false is = absurd cc
+    go true b c d is = run_range given file options is
+    go false true c d is = absurd (no_show (file_alone given) file options is)
+    go false false true d is = absurd (no_check (file_alone given) file options is)
+    go false false false true is = absurd (no_compile (file_alone given) file options is)
+    go false false false false is = absurd cc
 
 -- whatever the words are
 pub command_range : (words : List (List ℕ)) (file : List ℕ) (options : RunOptions) → command words ≡ Some (Run file options) → AreInRange options

@@ -15,12 +15,15 @@ pub data Command : Type 0 where
   Show : (file : List ℕ) → Command
   -- check the source in this file
   Check : (file : List ℕ) → Command
+  -- compile the source in this file, and list its code
+  Compile : (file : List ℕ) → Command
 
 -- the file that it reads
 abbrev pub file_of : Command → List ℕ
 file_of (Run file options) = file
 file_of (Show file) = file
 file_of (Check file) = file
+file_of (Compile file) = file
 
 -- the file, where there is exactly one
 abbrev pub only_file : List (List ℕ) → Option (List ℕ)
@@ -66,7 +69,8 @@ abbrev pub command_named : List ℕ → List Argument → Option Command
 command_named word given =
     if bytes_eq word (codes "run") then run_of given
     else (if bytes_eq word (codes "show") then option_map Show (file_alone given)
-    else (if bytes_eq word (codes "check") then option_map Check (file_alone given) else None))
+    else (if bytes_eq word (codes "check") then option_map Check (file_alone given)
+    else (if bytes_eq word (codes "compile") then option_map Compile (file_alone given) else None)))
 
 -- the command of some words; all other words are refused
 abbrev pub command : List (List ℕ) → Option Command

@@ -26,6 +26,8 @@ pub enum Command<'a> {
     Show(&'a str),
     /// To check the source in this file.
     Check(&'a str),
+    /// To compile the source in this file, and to list its code.
+    Compile(&'a str),
 }
 
 impl<'a> Command<'a> {
@@ -34,7 +36,10 @@ impl<'a> Command<'a> {
         ensures { result.now ≡ file_of (command_of self.entry) }
     {
         match self {
-            Command::Run { file, .. } | Command::Show(file) | Command::Check(file) => file,
+            Command::Run { file, .. }
+            | Command::Show(file)
+            | Command::Check(file)
+            | Command::Compile(file) => file,
         }
     }
 }
@@ -119,13 +124,15 @@ fn command_named<'a>(word: &str, parts: Parts<'a>) -> Option<Command<'a>>
         Some(Command::Show(file_alone(parts)?))
     } else if word == "check" {
         Some(Command::Check(file_alone(parts)?))
+    } else if word == "compile" {
+        Some(Command::Compile(file_alone(parts)?))
     } else {
         None
     }
 }
 
-/// What the words after the program's name ask for (docs/COMMANDS.md, "Words"). The first is the command: `run`, `show`
-/// or `check`. After it stand one file and, for `run`, options in any order: `--instants N`, `--budget B`, `--block U` and
+/// What the words after the program's name ask for (docs/COMMANDS.md, "Words"). The first is the command: `run`, `show`,
+/// `check` or `compile`. After it stand one file and, for `run`, options in any order: `--instants N`, `--budget B`, `--block U` and
 /// `--workers W`, each once at most, as two words or as one with `=`. After `--` no word is an option. All other words
 /// are no command: None. It takes no memory.
 #[tactic(auto, using(crate::proofs::Commands::command_from_parts))]
