@@ -1,10 +1,10 @@
 #!/usr/bin/env python3
-"""Runs each case in cases/ through each of the programs that are named: cases.py PROGRAM ..
+"""Runs each case through each of the programs that are named: cases.py PROGRAM ..
 
-A folder of cases has the name of its command. NAME.loft is the source, NAME.loft.args has further
-words, one a line, where there are any, and NAME.loft.stdout is all that the command has to print;
-the status follows from the first word of that (docs/COMMANDS.md). A case passes where each program
-gives both exactly.
+A folder in cases/ has the name of its command; the sources in examples/ and docs/tutorial/ are run.
+NAME.loft is the source, NAME.loft.args has further words, one a line, where there are any, and
+NAME.loft.stdout is all that the command has to print; the status follows from the first word of
+that (docs/COMMANDS.md). A case passes where each program gives both exactly.
 
 The folder `words` has a table instead: words, the status, and the first line of the answer, between
 tabs. Its words are separated by a blank, and '' is the empty one; they are those of a program that
@@ -22,6 +22,7 @@ WORDS = TOP / "cases/words"
 TABLE = WORDS / "words.tsv"
 STATUSES = {b"source:": 3, b"loft:": 2, b"log:": 4, b"files:": 5}
 SECONDS = 300
+FOLDERS = {f"cases/{it}": it for it in COMMANDS} | {"examples": "run", "docs/tutorial": "run"}
 
 
 def status_of(answer):
@@ -44,10 +45,10 @@ def ended(program, words, folder):
 class Source:
     """A source with the answer of a command."""
 
-    def __init__(self, source):
+    def __init__(self, source, command):
         self.source = source
-        self.command = source.parent.name
-        self.name = f"{self.command} {source.name}"
+        self.command = command
+        self.name = str(source.relative_to(TOP))
 
     def beside(self, ending):
         return self.source.with_name(self.source.name + ending)
@@ -59,7 +60,7 @@ class Source:
             return f"there is no {expected.name}"
         wanted = expected.read_bytes()
         more = further.read_text().split("\n")[:-1] if further.is_file() else []
-        ran = ended(program, [self.command, str(self.source.relative_to(TOP)), *more], TOP)
+        ran = ended(program, [self.command, self.name, *more], TOP)
         if ran.stdout != wanted:
             return difference(ran.stdout, wanted)
         if ran.returncode != status_of(wanted):
@@ -87,9 +88,11 @@ class Row:
 
 def strays():
     """Files of the cases that belong to no case."""
-    for file in sorted(TOP.glob("cases/*/*")):
+    folders = [*TOP.glob("cases/*"), TOP / "examples", TOP / "docs/tutorial"]
+    for file in sorted(file for folder in folders for file in folder.glob("*")):
         name = file.name.removesuffix(".stdout").removesuffix(".args")
-        is_known = file.parent == WORDS or file.parent.name in COMMANDS and name.endswith(".loft")
+        is_source = str(file.parent.relative_to(TOP)) in FOLDERS and name.endswith(".loft")
+        is_known = file.parent == WORDS or file.name == "README.md" or is_source
         if not is_known or not file.with_name(name).is_file():
             yield f"{file.relative_to(TOP)}: it belongs to no case"
 
@@ -113,7 +116,7 @@ def main(programs):
     if lacking or not programs:
         print(*lacking, "0 passed, 1 failed", sep="\n")
         return 1
-    cases = [Source(it) for command in COMMANDS for it in sorted(TOP.glob(f"cases/{command}/*.loft"))]
+    cases = [Source(it, FOLDERS[folder]) for folder in FOLDERS for it in sorted(TOP.glob(f"{folder}/*.loft"))]
     cases += [Row(number, line) for number, line in enumerate(TABLE.read_text().split("\n")[:-1], 1)]
     with concurrent.futures.ThreadPoolExecutor(os.cpu_count()) as pool:
         found = list(pool.map(lambda case: failures_of(programs, case), cases))
