@@ -1,14 +1,17 @@
--- Expressions that are evaluated one after the other.
-use Rattle.std.proofs.Common.{◌≡◌, ℕ, ◌<◌, ◌+◌, List, [], ◌∷◌, ◌++◌, refl, sym, ap, ◌∙◌, Option, Some, None, length, drop, get_or, drop-cons, append_assoc, append-nil, arith, suc, add-one, length-drop}
+-- Expressions that are evaluated one after the other, and operators between numbers.
+use Rattle.std.proofs.Common.{◌≡◌, ◌≢◌, ℕ, ℤ, ◌<◌, ◌+◌, List, [], ◌∷◌, ◌++◌, refl, sym, ap, ◌∙◌, Option, Some, None, length, drop, get_or, drop-cons, append_assoc, append-nil, arith, suc, add-one, length-drop}
 use Rattle.std.specs.Prelude.{map}
 use Rattle.std.specs.Option.{option_map, option_and_then}
 use Rattle.loft_base.specs.declared.ids.Value.{Value}
+use Rattle.loft_base.specs.declared.ids.Value.TheVariants.{Int}
+use Rattle.loft_tree.specs.declared.kinds.BinaryOperator.{BinaryOperator}
+use Rattle.loft_tree.specs.declared.kinds.BinaryOperator.TheVariants as binary
 use Rattle.loft_tree.specs.declared.heads.Heads.{Heads}
 use Rattle.loft_tree.specs.declared.named.NamedExpr.{NamedExpr}
 use Rattle.loft_tree.specs.NamedView.{term_of}
 use Rattle.loft_tree.specs.Resolved.{Exp, exp_of, exps_of}
 use Rattle.loft_sense.specs.Around.{Beside}
-use Rattle.loft_sense.specs.Eval.{eval, eval_all}
+use Rattle.loft_sense.specs.Eval.{number_of, binary_value, eval, eval_all}
 
 -- what is seen is the same
 pub eval_same : (h k : Heads) (vs us : List Value) (b c : Beside) (e : Exp) → h ≡ k → vs ≡ us → b ≡ c → eval h vs b e ≡ eval k us c e
@@ -48,3 +51,40 @@ all_done h vs b es i at_end done = rest_of (drop i es) (omega (arith, at_end, le
     rest_of : (l : List NamedExpr) → length l ≡ 0 → onto done (eval_all h vs b (exps_of (map term_of l))) ≡ Some done
     rest_of [] e = ap Some (append-nil done)
     rest_of (x ∷ xs) e = absurd (omega arith)
+
+-- ---- operators between numbers
+
+-- all operators but two take their operands as numbers
+takes_numbers : (o : BinaryOperator) (a b : Value) → o ≢ binary.Equal → o ≢ binary.Unequal → binary_value o a b ≡ binary_value o (Int (number_of a)) (Int (number_of b))
+takes_numbers binary.Or a b e u = refl
+takes_numbers binary.And a b e u = refl
+takes_numbers binary.Equal a b e u = absurd (e refl)
+takes_numbers binary.Unequal a b e u = absurd (u refl)
+takes_numbers binary.Less a b e u = refl
+takes_numbers binary.LessOrEqual a b e u = refl
+takes_numbers binary.Greater a b e u = refl
+takes_numbers binary.GreaterOrEqual a b e u = refl
+takes_numbers binary.Plus a b e u = refl
+takes_numbers binary.Minus a b e u = refl
+takes_numbers binary.Times a b e u = refl
+takes_numbers binary.Divide a b e u = refl
+takes_numbers binary.Remainder a b e u = refl
+
+as_number : (x : Option ℤ) (v : Option Value) → option_map Int x ≡ v → x ≡ option_map number_of v
+as_number None v e = ap (option_map number_of) e
+as_number (Some n) v e = ap (option_map number_of) e
+
+-- the number of the whole, by those of its operands
+pub by_numbers : (o : BinaryOperator) (l r : Option Value) (m n : ℤ) (x : Option ℤ) → o ≢ binary.Equal → o ≢ binary.Unequal
+    → Some m ≡ option_map number_of l → Some n ≡ option_map number_of r → option_map Int x ≡ binary_value o (Int m) (Int n)
+    → x ≡ option_map number_of (option_and_then (λ a. option_and_then (binary_value o a) r) l)
+by_numbers o None r m n x e u left right is = absurd cc
+by_numbers o (Some a) None m n x e u left right is = absurd cc
+by_numbers o (Some a) (Some b) m n x e u left right is =
+    let m_is : m ≡ number_of a = cc in
+    let n_is : n ≡ number_of b = cc in
+    as_number x (binary_value o a b)
+    (is
+    ∙ (ap (λ (k : ℤ). binary_value o (Int k) (Int n)) m_is
+    ∙ (ap (λ (k : ℤ). binary_value o (Int (number_of a)) (Int k)) n_is
+    ∙ sym (takes_numbers o a b e u))))

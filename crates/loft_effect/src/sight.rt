@@ -1,16 +1,18 @@
 //! What expressions see (docs/SEMANTICS.md, "Expressions").
 
-ghost use Rattle.std.specs.Prelude.{◌≡◌, filter, length};
+ghost use Rattle.std.specs.Prelude.{◌≡◌, Some, filter, length};
+ghost use Rattle.std.specs.Option.{option_map, option_and_then};
+ghost use Rattle.loft_base.specs.declared.ids.Value.TheVariants as value;
 ghost use Rattle.loft_tree.specs.NamedView.{term_of};
 ghost use Rattle.loft_tree.specs.Resolved.{exp_of};
 ghost use Rattle.loft_sense.specs.Heads.{is_at, rank as rank_of};
 ghost use Rattle.loft_sense.specs.Around.{Around};
-ghost use Rattle.loft_sense.specs.Eval.{eval, slot_value, shared_value, special_value};
+ghost use Rattle.loft_sense.specs.Eval.{eval, number_of as number_in, same_value as same_value_as, slot_value, shared_value, special_value};
 ghost use Rattle.loft_effect.specs.View.{answer_of};
 
-use crate::value::{binary_value, number_of, unary_value};
+use crate::value::{binary_value, number_of, same_value, truth, unary_value};
 use loft_base::{Div, SchedId, SharedId, ThreadId, Value};
-use loft_tree::{Builtin, Heads, NamedExpr, SharedHead};
+use loft_tree::{BinaryOperator, Builtin, Heads, NamedExpr, SharedHead};
 
 /// What the expressions of a thread see in one of its frames: nothing of it is moved or copied.
 #[derive(Debug, Clone, Copy)]
@@ -51,7 +53,7 @@ pub fn rank(heads: &Heads, shared: SharedId) -> usize
 }
 
 impl Sight<'_> {
-    ghost use Rattle.loft_effect.specs.View.{beside_in};
+    ghost use Rattle.loft_effect.specs.View.{beside_in, value_in};
 
     /// A parameter or a local variable; 0 where there is none.
     fn slot(&self, slot: u32) -> Value
@@ -64,12 +66,13 @@ impl Sight<'_> {
     }
 
     /// A shared variable of the thread's place; 0 where there is none.
-    fn shared(&self, shared: SharedId) -> Value
-        ensures { result ≡ shared_value self.now.shared.now (rank_of self.now.heads.now shared) }
+    fn shared(&self, shared: SharedId) -> i64
+        ensures { value.Int result
+            ≡ shared_value self.now.shared.now (rank_of self.now.heads.now shared) }
     {
         match self.shared.get(rank(self.heads, shared)) {
-            Some(n) => Value::Int(*n),
-            None => Value::Int(0),
+            Some(n) => *n,
+            None => 0,
         }
     }
 
@@ -84,29 +87,68 @@ impl Sight<'_> {
         }
     }
 
-    /// The value of an expression, whatever else stands around the thread. `Div` comes exactly where a divisor is 0.
-    pub fn value(&self, e: &NamedExpr) -> Result<Value, Div>
-        ensures { (around : Around) → answer_of result
-            ≡ eval self.now.heads.now self.now.values.now (beside_in self.now around) (exp_of (term_of e.now)) }
+    /// The value of an expression that has this number: a thread where it gives one.
+    fn with_number(&self, e: &NamedExpr, n: i64) -> Value
+        ensures { (around : Around) → option_map number_in (value_in self.now around e.now) ≡ Some n
+            → value_in self.now around e.now ≡ Some result }
     {
         match e {
-            NamedExpr::Number(n) => Ok(Value::Int(*n)),
-            NamedExpr::Slot(slot) => Ok(self.slot(*slot)),
+            NamedExpr::Slot(slot) => self.slot(*slot),
+            NamedExpr::Builtin(builtin) => self.special(*builtin),
+            NamedExpr::Number(_)
+            | NamedExpr::Shared { .. }
+            | NamedExpr::Unary { .. }
+            | NamedExpr::Binary { .. } => Value::Int(n),
+        }
+    }
+
+    /// Whether two expressions with these numbers have the same value.
+    fn are_same(&self, left: &NamedExpr, m: i64, right: &NamedExpr, n: i64) -> bool
+        ensures { (around : Around)
+            → option_map number_in (value_in self.now around left.now) ≡ Some m
+            → option_map number_in (value_in self.now around right.now) ≡ Some n
+            → option_and_then
+            (λ a. option_map (same_value_as a) (value_in self.now around right.now))
+            (value_in self.now around left.now) ≡ Some result }
+    {
+        same_value(self.with_number(left, m), self.with_number(right, n))
+    }
+
+    /// The value of an expression as a number. `Div` comes exactly where a divisor is 0.
+    fn number(&self, e: &NamedExpr) -> Result<i64, Div>
+        ensures { (around : Around) → answer_of result
+            ≡ option_map number_in (value_in self.now around e.now) }
+    {
+        match e {
+            NamedExpr::Number(n) => Ok(*n),
+            NamedExpr::Slot(slot) => Ok(number_of(self.slot(*slot))),
             NamedExpr::Shared { at: _, shared } => Ok(self.shared(*shared)),
-            NamedExpr::Builtin(builtin) => Ok(self.special(*builtin)),
+            NamedExpr::Builtin(builtin) => Ok(number_of(self.special(*builtin))),
             NamedExpr::Unary { operator, operand } => {
-                let operand = self.value(operand)?;
-                Ok(unary_value(*operator, number_of(operand)))
+                Ok(unary_value(*operator, self.number(operand)?))
             }
             NamedExpr::Binary {
                 operator,
                 left,
                 right,
             } => {
-                let left = self.value(left)?;
-                let right = self.value(right)?;
-                binary_value(*operator, left, right)
+                let m = self.number(left)?;
+                let n = self.number(right)?;
+                match operator {
+                    BinaryOperator::Equal => Ok(truth(self.are_same(left, m, right, n))),
+                    BinaryOperator::Unequal => Ok(truth(!self.are_same(left, m, right, n))),
+                    _ => binary_value(*operator, m, n),
+                }
             }
         }
+    }
+
+    /// The value of an expression, whatever else stands around the thread. `Div` comes exactly where a divisor is 0.
+    pub fn value(&self, e: &NamedExpr) -> Result<Value, Div>
+        ensures { (around : Around) → answer_of result
+            ≡ eval self.now.heads.now self.now.values.now (beside_in self.now around) (exp_of (term_of e.now)) }
+    {
+        let n = self.number(e)?;
+        Ok(self.with_number(e, n))
     }
 }

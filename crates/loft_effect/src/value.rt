@@ -1,6 +1,7 @@
 //! Values and operators (docs/SEMANTICS.md, "Expressions").
 
 ghost use Rattle.std.specs.Prelude.{◌≡◌};
+ghost use Rattle.std.specs.Option.{option_map};
 ghost use Rattle.loft_base.specs.declared.ids.Value.TheVariants as value;
 ghost use Rattle.loft_sense.specs.Eval.{number_of as number_in, thread_or as thread_in, same_value as same_value_as, is_true as is_true_as, truth as truth_of, unary_value as unary_value_of, binary_value as binary_value_of};
 ghost use Rattle.loft_effect.specs.View.{answer_of};
@@ -30,7 +31,7 @@ pub fn thread_or(this: ThreadId, value: Value) -> ThreadId
 }
 
 /// Whether the two values are one.
-fn same_value(a: Value, b: Value) -> bool
+pub fn same_value(a: Value, b: Value) -> bool
     ensures { result ≡ same_value_as a b }
 {
     match (a, b) {
@@ -49,41 +50,40 @@ pub fn is_true(n: i64) -> bool
 }
 
 /// An answer as a number: 1 or 0.
-fn truth(answer: bool) -> Value
-    ensures { result ≡ truth_of answer }
+pub fn truth(answer: bool) -> i64
+    ensures { value.Int result ≡ truth_of answer }
 {
-    Value::Int(if answer { 1 } else { 0 })
+    if answer { 1 } else { 0 }
 }
 
 /// The value of an operator before its operand.
-pub fn unary_value(operator: UnaryOperator, n: i64) -> Value
-    ensures { result ≡ unary_value_of operator n }
+pub fn unary_value(operator: UnaryOperator, n: i64) -> i64
+    ensures { value.Int result ≡ unary_value_of operator n }
 {
     match operator {
-        UnaryOperator::Minus => Value::Int(sub(0, n)),
+        UnaryOperator::Minus => sub(0, n),
         UnaryOperator::Not => truth(!is_true(n)),
     }
 }
 
-/// The value of an operator between its operands. `Div` comes exactly where it divides by 0.
-pub fn binary_value(operator: BinaryOperator, a: Value, b: Value) -> Result<Value, Div>
-    ensures { answer_of result ≡ binary_value_of operator a b }
+/// The value of an operator between two numbers. `Div` comes exactly where it divides by 0.
+pub fn binary_value(operator: BinaryOperator, m: i64, n: i64) -> Result<i64, Div>
+    ensures { option_map value.Int (answer_of result)
+        ≡ binary_value_of operator (value.Int m) (value.Int n) }
 {
-    let m = number_of(a);
-    let n = number_of(b);
     Ok(match operator {
         BinaryOperator::Or => truth(is_true(m) || is_true(n)),
         BinaryOperator::And => truth(is_true(m) && is_true(n)),
-        BinaryOperator::Equal => truth(same_value(a, b)),
-        BinaryOperator::Unequal => truth(!same_value(a, b)),
+        BinaryOperator::Equal => truth(m == n),
+        BinaryOperator::Unequal => truth(!(m == n)),
         BinaryOperator::Less => truth(m < n),
         BinaryOperator::LessOrEqual => truth(m <= n),
         BinaryOperator::Greater => truth(m > n),
         BinaryOperator::GreaterOrEqual => truth(m >= n),
-        BinaryOperator::Plus => Value::Int(add(m, n)),
-        BinaryOperator::Minus => Value::Int(sub(m, n)),
-        BinaryOperator::Times => Value::Int(mul(m, n)),
-        BinaryOperator::Divide => Value::Int(quot(m, n)?),
-        BinaryOperator::Remainder => Value::Int(rem(m, n)?),
+        BinaryOperator::Plus => add(m, n),
+        BinaryOperator::Minus => sub(m, n),
+        BinaryOperator::Times => mul(m, n),
+        BinaryOperator::Divide => return quot(m, n),
+        BinaryOperator::Remainder => return rem(m, n),
     })
 }
