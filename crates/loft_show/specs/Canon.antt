@@ -243,9 +243,13 @@ head_line h =
     line 0 (tight (word w.Module) ∷ spaced (name h.name) ∷ (bracketed_pieces named_pieces h.parameters
     ++ spaced (word w.In) ∷ (place_pieces h.begin space ++ behind place_pieces (spaced (word w.To) ∷ []) h.end)))
 
+-- a local variable behind so many blanks
+abbrev pub local_line : ℕ → Named → Line
+local_line n v = word_line n w.Local (named_pieces v space)
+
 abbrev pub local_lines : List Named → List Line
 local_lines [] = []
-local_lines (v ∷ vs) = line 2 (tight (word w.Local) ∷ ended (named_pieces v space)) ∷ local_lines vs
+local_lines (v ∷ vs) = local_line 2 v ∷ local_lines vs
 
 abbrev pub argument_pieces : Argument → List ℕ → List Piece
 argument_pieces (ANumber at value) gap = signed_pieces value gap

@@ -115,6 +115,10 @@ fn binary_sign(operator: BinaryOperator) -> Sign
 }
 
 /// Appends blanks and an expression.
+///
+/// # Errors
+///
+/// `NoMemory` where there was no memory for the text.
 #[cycle(expression)]
 #[tactic(auto, using(crate::proofs::Texts::texts))]
 pub fn put_expression(out: &mut Vec<u8>, gap: &[u8], expression: &Expr) -> Result<(), NoMemory>

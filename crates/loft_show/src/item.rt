@@ -6,7 +6,7 @@ ghost use Rattle.loft_lex.specs.declared.word.Word.TheVariants as w;
 ghost use Rattle.loft_tree.specs.Source.{Event, Shared, Module, Start, Outside};
 ghost use Rattle.loft_tree.specs.View.{named_of, place_name_of, head_of, statements_of, argument_of, order_of, declaration_of};
 ghost use Rattle.loft_tree.specs.Fits.{StatementsFit, DeclarationFits};
-ghost use Rattle.loft_show.specs.Canon.{behind, declaration_lines, head_line, kind_word, lines_text, local_lines, name_pieces, named_pieces, pieces_text, place_pieces, space, spaced, word};
+ghost use Rattle.loft_show.specs.Canon.{behind, declaration_lines, head_line, kind_word, lines_text, local_line, local_lines, name_pieces, named_pieces, pieces_text, place_pieces, space, spaced, word};
 
 use crate::line::{begin_line, end_line, end_statement, put_bare_line, put_name_line};
 use crate::list::{Listed, put_list};
@@ -38,8 +38,12 @@ impl Listed for Variable {
 }
 
 /// Appends a blank and a place.
+///
+/// # Errors
+///
+/// `NoMemory` where there was no memory for the text.
 #[tactic(auto, using(crate::proofs::Items::items))]
-fn put_place(out: &mut Vec<u8>, place: &PlaceName) -> Result<(), NoMemory>
+pub fn put_place(out: &mut Vec<u8>, place: &PlaceName) -> Result<(), NoMemory>
     ensures { OnOk result (out.new.items ≡ out.old.items ++ pieces_text
         (place_pieces (place_name_of place.now) space)) }
 {
@@ -62,9 +66,13 @@ fn put_end_place(out: &mut Vec<u8>, end: &Option<PlaceName>) -> Result<(), NoMem
     put_place(out, end)
 }
 
-/// `module m(int x, thread t) in A to B`
+/// Appends the line `module m(int x, thread t) in A to B`.
+///
+/// # Errors
+///
+/// `NoMemory` where there was no memory for the text.
 #[tactic(auto, using(crate::proofs::Items::items))]
-fn put_head(out: &mut Vec<u8>, head: &ModuleHead) -> Result<(), NoMemory>
+pub fn put_head(out: &mut Vec<u8>, head: &ModuleHead) -> Result<(), NoMemory>
     ensures { OnOk result (out.new.items ≡ out.old.items ++ lines_text
         (head_line (head_of head.now) ∷ [])) }
 {
@@ -77,13 +85,17 @@ fn put_head(out: &mut Vec<u8>, head: &ModuleHead) -> Result<(), NoMemory>
     end_line(out)
 }
 
-/// `local int x;`
+/// Appends the line `local int x;`, with so many blanks at its front.
+///
+/// # Errors
+///
+/// `NoMemory` where there was no memory for the text.
 #[tactic(auto, using(crate::proofs::Items::items))]
-fn put_local(out: &mut Vec<u8>, local: &Variable) -> Result<(), NoMemory>
+pub fn put_local(out: &mut Vec<u8>, indent: usize, local: &Variable) -> Result<(), NoMemory>
     ensures { OnOk result (out.new.items ≡ out.old.items ++ lines_text
-        (local_lines (named_of local.now ∷ []))) }
+        (local_line indent (named_of local.now) ∷ [])) }
 {
-    begin_line(out, 2, Word::Local)?;
+    begin_line(out, indent, Word::Local)?;
     local.put(out, b" ")?;
     end_statement(out)
 }
@@ -94,14 +106,18 @@ fn put_locals(out: &mut Vec<u8>, locals: &[Variable]) -> Result<(), NoMemory>
         (local_lines (map named_of locals.now))) }
 {
     for local in locals {
-        put_local(out, local)?;
+        put_local(out, 2, local)?;
     }
     Ok(())
 }
 
-/// `event e in A;`
+/// Appends the line `event e in A;`.
+///
+/// # Errors
+///
+/// `NoMemory` where there was no memory for the text.
 #[tactic(auto, using(crate::proofs::Items::items))]
-fn put_event(out: &mut Vec<u8>, name: &Ident, scheduler: &Ident) -> Result<(), NoMemory>
+pub fn put_event_head(out: &mut Vec<u8>, name: &Ident, scheduler: &Ident) -> Result<(), NoMemory>
     ensures { OnOk result (out.new.items ≡ out.old.items ++ lines_text
         (declaration_lines (Event name.now scheduler.now))) }
 {
@@ -112,9 +128,13 @@ fn put_event(out: &mut Vec<u8>, name: &Ident, scheduler: &Ident) -> Result<(), N
     end_statement(out)
 }
 
-/// `shared x in A = 1;`
+/// Appends the line `shared x in A = 1;`.
+///
+/// # Errors
+///
+/// `NoMemory` where there was no memory for the text.
 #[tactic(auto, using(crate::proofs::Items::items))]
-fn put_shared(
+pub fn put_shared(
     out: &mut Vec<u8>,
     name: &Ident,
     scheduler: &Ident,
@@ -164,9 +184,13 @@ fn put_start_name(out: &mut Vec<u8>, name: &Option<Ident>) -> Result<(), NoMemor
     put_name(out, b" ", name)
 }
 
-/// `start A.m(1, t);` or `start A.m(1, t) as n;`
+/// Appends the line `start A.m(1, t);` or `start A.m(1, t) as n;`.
+///
+/// # Errors
+///
+/// `NoMemory` where there was no memory for the text.
 #[tactic(auto, using(crate::proofs::Items::items))]
-fn put_start(
+pub fn put_start(
     out: &mut Vec<u8>,
     scheduler: &Ident,
     called: &Ident,
@@ -183,9 +207,13 @@ fn put_start(
     end_statement(out)
 }
 
-/// An outside client: its name, and its orders between braces.
+/// Appends the lines of an outside client: its name, and its orders between braces.
+///
+/// # Errors
+///
+/// `NoMemory` where there was no memory for the text.
 #[tactic(auto, using(crate::proofs::Items::items))]
-fn put_outside(out: &mut Vec<u8>, name: &Ident, orders: &[OutsideOrder]) -> Result<(), NoMemory>
+pub fn put_outside(out: &mut Vec<u8>, name: &Ident, orders: &[OutsideOrder]) -> Result<(), NoMemory>
     ensures { OnOk result (out.new.items ≡ out.old.items ++ lines_text
         (declaration_lines (Outside name.now (map order_of orders.now)))) }
 {
@@ -207,7 +235,7 @@ pub fn put_item(out: &mut Vec<u8>, item: &Item) -> Result<(), NoMemory>
 {
     match item {
         Item::Scheduler(name) => put_name_line(out, 0, Word::Scheduler, name),
-        Item::Event { name, scheduler } => put_event(out, name, scheduler),
+        Item::Event { name, scheduler } => put_event_head(out, name, scheduler),
         Item::Shared {
             name,
             scheduler,

@@ -47,7 +47,11 @@ pub fn end_statement(out: &mut Vec<u8>) -> Result<(), NoMemory>
     end_line(out)
 }
 
-/// A line that is a word alone.
+/// Appends a line that is a word alone.
+///
+/// # Errors
+///
+/// `NoMemory` where there was no memory for the text.
 pub fn put_bare_line(out: &mut Vec<u8>, indent: usize, word: Word) -> Result<(), NoMemory>
     ensures { OnOk result (out.new.items ≡ out.old.items ++
         (replicate indent 32 ++ (word_spelling word ++ 10 ∷ []))) }
@@ -87,7 +91,11 @@ pub fn put_test_line(
     end_line(out)
 }
 
-/// A line that is a word, a blank and a name, and ends with a semicolon.
+/// Appends a line that is a word, a blank and a name, and ends with a semicolon.
+///
+/// # Errors
+///
+/// `NoMemory` where there was no memory for the text.
 #[tactic(auto, using(crate::proofs::Texts::texts))]
 pub fn put_name_line(
     out: &mut Vec<u8>,
@@ -103,7 +111,11 @@ pub fn put_name_line(
     end_statement(out)
 }
 
-/// A line that is a word, and ends with a semicolon.
+/// Appends a line that is a word, and ends with a semicolon.
+///
+/// # Errors
+///
+/// `NoMemory` where there was no memory for the text.
 #[tactic(auto, using(crate::proofs::Texts::texts))]
 pub fn put_word_line(out: &mut Vec<u8>, indent: usize, word: Word) -> Result<(), NoMemory>
     ensures { OnOk result (out.new.items ≡ out.old.items ++ lines_text

@@ -14,7 +14,11 @@ use loft_base::NoMemory;
 use loft_lex::Word;
 use loft_tree::{Control, Creation, EventName, Expr, Ident, Text};
 
-/// `x = E;`
+/// Appends the line `x = E;`.
+///
+/// # Errors
+///
+/// `NoMemory` where there was no memory for the text.
 #[tactic(auto, using(crate::proofs::Texts::texts))]
 pub fn put_assign(
     out: &mut Vec<u8>,
@@ -30,7 +34,11 @@ pub fn put_assign(
     end_statement(out)
 }
 
-/// `t = create S.m(E, F);`
+/// Appends the line `t = create S.m(E, F);`.
+///
+/// # Errors
+///
+/// `NoMemory` where there was no memory for the text.
 #[tactic(auto, using(crate::proofs::Texts::texts))]
 pub fn put_assign_create(
     out: &mut Vec<u8>,
@@ -47,7 +55,11 @@ pub fn put_assign_create(
     end_statement(out)
 }
 
-/// `create S.m(E, F);`
+/// Appends the line `create S.m(E, F);`.
+///
+/// # Errors
+///
+/// `NoMemory` where there was no memory for the text.
 #[tactic(auto, using(crate::proofs::Texts::texts))]
 pub fn put_create(out: &mut Vec<u8>, indent: usize, creation: &Creation) -> Result<(), NoMemory>
     ensures { OnOk result (out.new.items ≡ out.old.items ++ lines_text
@@ -58,7 +70,11 @@ pub fn put_create(out: &mut Vec<u8>, indent: usize, creation: &Creation) -> Resu
     end_statement(out)
 }
 
-/// `print "..";` or `print "..", E;`
+/// Appends the line `print "..";` or `print "..", E;`.
+///
+/// # Errors
+///
+/// `NoMemory` where there was no memory for the text.
 #[tactic(auto, using(crate::proofs::Texts::texts))]
 pub fn put_print_text(
     out: &mut Vec<u8>,
@@ -75,7 +91,11 @@ pub fn put_print_text(
     end_statement(out)
 }
 
-/// `print E;`
+/// Appends the line `print E;`.
+///
+/// # Errors
+///
+/// `NoMemory` where there was no memory for the text.
 #[tactic(auto, using(crate::proofs::Texts::texts))]
 pub fn put_print_value(out: &mut Vec<u8>, indent: usize, value: &Expr) -> Result<(), NoMemory>
     ensures { OnOk result (out.new.items ≡ out.old.items ++ lines_text
@@ -86,7 +106,11 @@ pub fn put_print_value(out: &mut Vec<u8>, indent: usize, value: &Expr) -> Result
     end_statement(out)
 }
 
-/// `cooperate;` or `cooperate E;`
+/// Appends the line `cooperate;` or `cooperate E;`.
+///
+/// # Errors
+///
+/// `NoMemory` where there was no memory for the text.
 #[tactic(auto, using(crate::proofs::Texts::texts))]
 pub fn put_cooperate(
     out: &mut Vec<u8>,
@@ -101,7 +125,11 @@ pub fn put_cooperate(
     end_statement(out)
 }
 
-/// `generate e;` or `generate e, E;`, and the same with `broadcast`.
+/// Appends the line `generate e;` or `generate e, E;`, or the same with `broadcast`.
+///
+/// # Errors
+///
+/// `NoMemory` where there was no memory for the text.
 #[tactic(auto, using(crate::proofs::Texts::texts))]
 pub fn put_event(
     out: &mut Vec<u8>,
@@ -119,7 +147,11 @@ pub fn put_event(
     end_statement(out)
 }
 
-/// `await e;` or `await e for E;`
+/// Appends the line `await e;` or `await e for E;`.
+///
+/// # Errors
+///
+/// `NoMemory` where there was no memory for the text.
 #[tactic(auto, using(crate::proofs::Texts::texts))]
 pub fn put_await(
     out: &mut Vec<u8>,
@@ -136,7 +168,11 @@ pub fn put_await(
     end_statement(out)
 }
 
-/// `select e, g;` or `select e, g for E;`
+/// Appends the line `select e, g;` or `select e, g for E;`.
+///
+/// # Errors
+///
+/// `NoMemory` where there was no memory for the text.
 #[tactic(auto, using(crate::proofs::Texts::texts))]
 pub fn put_select(
     out: &mut Vec<u8>,
@@ -156,7 +192,11 @@ pub fn put_select(
     end_statement(out)
 }
 
-/// `get e at E into x;`
+/// Appends the line `get e at E into x;`.
+///
+/// # Errors
+///
+/// `NoMemory` where there was no memory for the text.
 #[tactic(auto, using(crate::proofs::Texts::texts))]
 pub fn put_get(
     out: &mut Vec<u8>,
@@ -177,7 +217,11 @@ pub fn put_get(
     end_statement(out)
 }
 
-/// `join E;` or `join E for F;`
+/// Appends the line `join E;` or `join E for F;`.
+///
+/// # Errors
+///
+/// `NoMemory` where there was no memory for the text.
 #[tactic(auto, using(crate::proofs::Texts::texts))]
 pub fn put_join(
     out: &mut Vec<u8>,
@@ -205,7 +249,11 @@ pub fn control_word(control: Control) -> Word
     }
 }
 
-/// `stop E in S;`, `suspend E in S;` or `resume E in S;`
+/// Appends the line `stop E in S;`, `suspend E in S;` or `resume E in S;`.
+///
+/// # Errors
+///
+/// `NoMemory` where there was no memory for the text.
 #[tactic(auto, using(crate::proofs::Texts::texts))]
 pub fn put_control(
     out: &mut Vec<u8>,
@@ -225,7 +273,11 @@ pub fn put_control(
     end_statement(out)
 }
 
-/// `run m(E, F);`
+/// Appends the line `run m(E, F);`.
+///
+/// # Errors
+///
+/// `NoMemory` where there was no memory for the text.
 #[tactic(auto, using(crate::proofs::Texts::texts))]
 pub fn put_run(
     out: &mut Vec<u8>,

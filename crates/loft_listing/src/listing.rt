@@ -1,0 +1,29 @@
+//! The listing of code.
+
+ghost use Rattle.std.specs.Prelude.{◌≡◌, IfOk};
+ghost use Rattle.loft_code.specs.View.{automata_of};
+ghost use Rattle.loft_listing.specs.Listing.{listing_text};
+
+use crate::declaration::put_item;
+use crate::text::put;
+use loft_base::NoMemory;
+use loft_code::Code;
+use std::alloc::Global;
+
+/// The listing of code, to the byte (docs/CODE.md, "Listing").
+///
+/// # Errors
+///
+/// `NoMemory` where there was no memory for the text.
+pub fn write(alloc: Global, c: &Code) -> Result<Vec<u8>, NoMemory>
+    ensures { IfOk result (λ text. text.items ≡ listing_text (automata_of c.now)) }
+{
+    let mut out = Vec::new(alloc);
+    put(&mut out, b"loft-listing 1\n")?;
+    let program = c.program();
+    let heads = &program.heads;
+    for item in heads.items.as_slice() {
+        put_item(&mut out, heads, program.modules.as_slice(), *item)?;
+    }
+    Ok(out)
+}
