@@ -1,13 +1,15 @@
 //! The lines of statements, written with names in place of numbers.
 
-ghost use Rattle.std.specs.Prelude.{◌≡◌, ◌++◌, IfOk, OnOk};
+ghost use Rattle.std.specs.Prelude.{◌≡◌, ◌++◌, [], ◌∷◌, IfOk, OnOk};
+ghost use Rattle.loft_tree.specs.NamedView as view;
+ghost use Rattle.loft_tree.specs.Resolved.{exp_if};
 ghost use Rattle.loft_tree.specs.View.{value_of, creation_of};
 ghost use Rattle.loft_code.specs.View.{exps_in, target_in, action_of, pause_of};
-ghost use Rattle.loft_listing.specs.Called.{called_creation, called_make, called_action, called_wait, called_pause, called_run};
+ghost use Rattle.loft_show.specs.Canon.{comma_part, event_pieces, lines_text, space, word_line};
+ghost use Rattle.loft_listing.specs.Called.{called_event, called_value, called_creation, called_make, called_action, called_wait, called_pause, called_run};
 ghost use Rattle.loft_listing.specs.Listing.{statement_text};
 
-use crate::expression::{expression, expressions, target, value};
-use crate::name;
+use crate::{expression, name};
 use loft_base::{EventId, ModuleId, NoMemory, SchedId};
 use loft_code::{Action, Pause};
 use loft_lex::Word;
@@ -34,7 +36,7 @@ fn creation(
     Ok(Creation {
         scheduler: name::scheduler(alloc, heads, scheduler)?,
         called: name::module(alloc, heads, made)?,
-        arguments: expressions(alloc, heads, module, arguments)?,
+        arguments: expression::expressions(alloc, heads, module, arguments)?,
     })
 }
 
@@ -43,19 +45,39 @@ fn put_make(
     out: &mut Vec<u8>,
     heads: &Heads,
     module: &Signature,
-    set: Option<Target>,
+    target: Option<Target>,
     creation: &Creation,
 ) -> Result<(), NoMemory>
     ensures { OnOk result (out.new.items ≡ out.old.items ++ statement_text
-        (called_make heads.now «module».now (target_in set) (creation_of creation.now))) }
+        (called_make heads.now «module».now (target_in target) (creation_of creation.now))) }
 {
-    match set {
-        Some(set) => {
-            let set = target(*out.allocator(), heads, module, set)?;
-            put_assign_create(out, 0, &set, creation)
+    match target {
+        Some(target) => {
+            let target = expression::target(*out.allocator(), heads, module, target)?;
+            put_assign_create(out, 0, &target, creation)
         }
         None => put_create(out, 0, creation),
     }
+}
+
+/// `generate e;` or `generate e, E;`, or the same with `broadcast`.
+fn put_given(
+    out: &mut Vec<u8>,
+    heads: &Heads,
+    module: &Signature,
+    word: Word,
+    event: EventId,
+    value: &Option<NamedExpr>,
+) -> Result<(), NoMemory>
+    ensures { OnOk result (out.new.items ≡ out.old.items ++ lines_text (word_line 0 word
+        (event_pieces (called_event heads.now event) space
+        ++ comma_part (called_value heads.now «module».now (exp_if (view.value_of value.now))))
+        ∷ [])) }
+{
+    let alloc = *out.allocator();
+    let event = name::event(alloc, heads, event)?;
+    let value = expression::value(alloc, heads, module, value)?;
+    put_event(out, 0, word, &event, &value)
 }
 
 /// The line of an action.
@@ -70,59 +92,43 @@ pub fn put_action(
 {
     let alloc = *out.allocator();
     match action {
-        Action::Assign {
-            target: set,
-            value: assigned,
-        } => {
-            let set = target(alloc, heads, module, *set)?;
-            let assigned = expression(alloc, heads, module, assigned)?;
-            put_assign(out, 0, &set, &assigned)
+        Action::Assign { target, value } => {
+            let target = expression::target(alloc, heads, module, *target)?;
+            let value = expression::expression(alloc, heads, module, value)?;
+            put_assign(out, 0, &target, &value)
         }
         Action::Make {
-            target: set,
+            target,
             scheduler,
             module: made,
             arguments,
         } => {
             let arguments = arguments.as_slice();
             let creation = creation(alloc, heads, module, *scheduler, *made, arguments)?;
-            put_make(out, heads, module, *set, &creation)
+            put_make(out, heads, module, *target, &creation)
         }
-        Action::PrintText {
-            text,
-            value: printed,
-        } => {
-            let printed = value(alloc, heads, module, printed)?;
-            put_print_text(out, 0, text, &printed)
+        Action::PrintText { text, value } => {
+            let value = expression::value(alloc, heads, module, value)?;
+            put_print_text(out, 0, text, &value)
         }
-        Action::PrintValue(printed) => {
-            let printed = expression(alloc, heads, module, printed)?;
-            put_print_value(out, 0, &printed)
+        Action::PrintValue(value) => {
+            let value = expression::expression(alloc, heads, module, value)?;
+            put_print_value(out, 0, &value)
         }
-        Action::Generate {
-            event,
-            value: given,
-        } => {
-            let given = value(alloc, heads, module, given)?;
-            let event = name::event(alloc, heads, *event)?;
-            put_event(out, 0, Word::Generate, &event, &given)
+        Action::Generate { event, value } => {
+            put_given(out, heads, module, Word::Generate, *event, value)
         }
         Action::Control {
             control,
             thread,
             scheduler,
         } => {
-            let thread = expression(alloc, heads, module, thread)?;
+            let thread = expression::expression(alloc, heads, module, thread)?;
             let scheduler = name::scheduler(alloc, heads, *scheduler)?;
             put_control(out, 0, *control, &thread, &scheduler)
         }
-        Action::Broadcast {
-            event,
-            value: given,
-        } => {
-            let given = value(alloc, heads, module, given)?;
-            let event = name::event(alloc, heads, *event)?;
-            put_event(out, 0, Word::Broadcast, &event, &given)
+        Action::Broadcast { event, value } => {
+            put_given(out, heads, module, Word::Broadcast, *event, value)
         }
     }
 }
@@ -163,26 +169,26 @@ pub fn put_pause(
     let alloc = *out.allocator();
     match pause {
         Pause::Cooperate { instants } => {
-            let instants = value(alloc, heads, module, instants)?;
+            let instants = expression::value(alloc, heads, module, instants)?;
             put_cooperate(out, 0, &instants)
         }
         Pause::Await { events, limit } => {
-            let limit = value(alloc, heads, module, limit)?;
+            let limit = expression::value(alloc, heads, module, limit)?;
             put_wait(out, heads, events.as_slice(), &limit)
         }
         Pause::Get {
             event,
             index,
-            target: set,
+            target,
         } => {
             let event = name::event(alloc, heads, *event)?;
-            let index = expression(alloc, heads, module, index)?;
-            let set = target(alloc, heads, module, *set)?;
-            put_get(out, 0, &event, &index, &set)
+            let index = expression::expression(alloc, heads, module, index)?;
+            let target = expression::target(alloc, heads, module, *target)?;
+            put_get(out, 0, &event, &index, &target)
         }
         Pause::Join { thread, limit } => {
-            let thread = expression(alloc, heads, module, thread)?;
-            let limit = value(alloc, heads, module, limit)?;
+            let thread = expression::expression(alloc, heads, module, thread)?;
+            let limit = expression::value(alloc, heads, module, limit)?;
             put_join(out, 0, &thread, &limit)
         }
         Pause::Link(scheduler) => {
@@ -207,6 +213,6 @@ pub fn put_call(
 {
     let alloc = *out.allocator();
     let called = name::module(alloc, heads, called)?;
-    let arguments = expressions(alloc, heads, module, arguments)?;
+    let arguments = expression::expressions(alloc, heads, module, arguments)?;
     put_run(out, 0, &called, arguments.as_slice())
 }
