@@ -169,3 +169,29 @@ program_guarded = refl
 -- all that the general theorems ask of this grammar
 pub checked : Checked rules told program
 checked = record { fair = fair; rules_guarded = rule_guarded; form_clear = program_clear; form_guarded = program_guarded }
+
+-- ---- the same of parts of a source
+
+pub statement_checked : Checked rules told statement
+unfolding kinds every builtin bracketed atom negated inverted unary factor term summand sum equality ordering compared comparison conjunct conjunction disjunct expression whole argument arguments creation behind_comma time_limit assigned assignment printed print create cooperate generate await_event choice choices select get join control broadcast link unlink run halt conditional while_loop repeat value_statement event_statement thread_statement moving_statement statement body condition otherwise branches turns negative signed parameter parameters local place ending head module_item scheduler_item event_item shared_item outer_argument outer_arguments alias start_item create_order control_order value_behind_comma broadcast_order order outside_item item program
+statement_checked = record { fair = fair; rules_guarded = rule_guarded; form_clear = refl; form_guarded = refl }
+
+pub whole_checked : Checked rules told whole
+unfolding kinds every builtin bracketed atom negated inverted unary factor term summand sum equality ordering compared comparison conjunct conjunction disjunct expression whole argument arguments creation behind_comma time_limit assigned assignment printed print create cooperate generate await_event choice choices select get join control broadcast link unlink run halt conditional while_loop repeat value_statement event_statement thread_statement moving_statement statement body condition otherwise branches turns negative signed parameter parameters local place ending head module_item scheduler_item event_item shared_item outer_argument outer_arguments alias start_item create_order control_order value_behind_comma broadcast_order order outside_item item program
+whole_checked = record { fair = fair; rules_guarded = rule_guarded; form_clear = refl; form_guarded = refl }
+
+pub item_checked : Checked rules told item
+unfolding kinds every builtin bracketed atom negated inverted unary factor term summand sum equality ordering compared comparison conjunct conjunction disjunct expression whole argument arguments creation behind_comma time_limit assigned assignment printed print create cooperate generate await_event choice choices select get join control broadcast link unlink run halt conditional while_loop repeat value_statement event_statement thread_statement moving_statement statement body condition otherwise branches turns negative signed parameter parameters local place ending head module_item scheduler_item event_item shared_item outer_argument outer_arguments alias start_item create_order control_order value_behind_comma broadcast_order order outside_item item program
+item_checked = record { fair = fair; rules_guarded = rule_guarded; form_clear = refl; form_guarded = refl }
+
+pub head_checked : Checked rules told head
+unfolding kinds every builtin bracketed atom negated inverted unary factor term summand sum equality ordering compared comparison conjunct conjunction disjunct expression whole argument arguments creation behind_comma time_limit assigned assignment printed print create cooperate generate await_event choice choices select get join control broadcast link unlink run halt conditional while_loop repeat value_statement event_statement thread_statement moving_statement statement body condition otherwise branches turns negative signed parameter parameters local place ending head module_item scheduler_item event_item shared_item outer_argument outer_arguments alias start_item create_order control_order value_behind_comma broadcast_order order outside_item item program
+head_checked = record { fair = fair; rules_guarded = rule_guarded; form_clear = refl; form_guarded = refl }
+
+pub local_checked : Checked rules told local
+unfolding kinds every builtin bracketed atom negated inverted unary factor term summand sum equality ordering compared comparison conjunct conjunction disjunct expression whole argument arguments creation behind_comma time_limit assigned assignment printed print create cooperate generate await_event choice choices select get join control broadcast link unlink run halt conditional while_loop repeat value_statement event_statement thread_statement moving_statement statement body condition otherwise branches turns negative signed parameter parameters local place ending head module_item scheduler_item event_item shared_item outer_argument outer_arguments alias start_item create_order control_order value_behind_comma broadcast_order order outside_item item program
+local_checked = record { fair = fair; rules_guarded = rule_guarded; form_clear = refl; form_guarded = refl }
+
+pub order_checked : Checked rules told order
+unfolding kinds every builtin bracketed atom negated inverted unary factor term summand sum equality ordering compared comparison conjunct conjunction disjunct expression whole argument arguments creation behind_comma time_limit assigned assignment printed print create cooperate generate await_event choice choices select get join control broadcast link unlink run halt conditional while_loop repeat value_statement event_statement thread_statement moving_statement statement body condition otherwise branches turns negative signed parameter parameters local place ending head module_item scheduler_item event_item shared_item outer_argument outer_arguments alias start_item create_order control_order value_behind_comma broadcast_order order outside_item item program
+order_checked = record { fair = fair; rules_guarded = rule_guarded; form_clear = refl; form_guarded = refl }

@@ -32,3 +32,11 @@ flat_arguments ss c = read_flat rules limits nesting 0 outer_arguments refl ss c
 pub flat_orders : IsFlat (fresh count.Order (many order))
 unfolding order create_order control_order broadcast_order value_behind_comma outer_arguments outer_argument signed negative
 flat_orders ss c = read_flat rules limits nesting 0 (fresh count.Order (many order)) refl ss c
+
+pub flat_local : IsFlat local
+unfolding local
+flat_local ss c = read_flat rules limits nesting 0 local refl ss c
+
+pub flat_order : IsFlat order
+unfolding order create_order control_order broadcast_order value_behind_comma outer_arguments outer_argument signed negative
+flat_order ss c = read_flat rules limits nesting 0 order refl ss c

@@ -12,3 +12,4 @@ pub mod TextLaws
 pub mod LocalLaws
 pub mod LimitLaws
 pub mod Alone
+pub mod PartLaws

@@ -2,6 +2,7 @@ pub mod Counting
 pub mod Expressions
 pub mod Forms
 pub mod Items
+pub mod Lines
 pub mod Lists
 pub mod Parts
 pub mod Rules

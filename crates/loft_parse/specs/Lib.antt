@@ -9,3 +9,4 @@ pub mod Parsing
 pub mod SymbolPlaces
 pub mod Alike
 pub mod Unlimited
+pub mod Parts

@@ -14,13 +14,12 @@ use Rattle.loft_tree.specs.declared.program.Variable.{Variable}
 use Rattle.loft_tree.specs.declared.program.Argument.{Argument as ArgumentInMemory}
 use Rattle.loft_tree.specs.declared.program.OutsideOrder.{OutsideOrder as OrderInMemory}
 use Rattle.loft_tree.specs.declared.program.Item.{Item}
-use Rattle.loft_form.specs.Form.{State}
+use Rattle.loft_form.specs.Form.{Limits, State}
 use Rattle.loft_form.specs.Reading.{Place, Read, read}
 use Rattle.loft_parse.specs.declared.counts.Counted.{Counted}
 use Rattle.loft_parse.specs.declared.cursor.Cursor.{Cursor}
 use Rattle.loft_parse.specs.Language.{Language}
 use Rattle.loft_parse.specs.Grammar.{Form, rules}
-use Rattle.loft_parse.specs.Source.{limits}
 
 -- what is left to read
 abbrev pub symbols_at : Cursor → List Symbol
@@ -36,13 +35,13 @@ state_at at = record { counts = at.counts; due = due_of at.due }
 abbrev pub place_of : Cursor → Place Language
 place_of at = record { rest = symbols_at at; state = state_at at }
 
--- reading a form, where n nestings may still be opened
-abbrev pub reads : {A : Type 0} → ℕ → Form A → Cursor → Read Language A
-reads n f at = read rules limits n f (symbols_at at) (state_at at)
+-- reading a form, where these limits hold and n nestings may still be opened
+abbrev pub reads : {A : Type 0} → Limits Language → ℕ → Form A → Cursor → Read Language A
+reads lim n f at = read rules lim n f (symbols_at at) (state_at at)
 
 -- reading a form that opens no nesting, so that it doesn't matter how many may still be opened
-abbrev pub reads_flat : {A : Type 0} → Form A → Cursor → Read Language A
-reads_flat f at = reads 0 f at
+abbrev pub reads_flat : {A : Type 0} → Limits Language → Form A → Cursor → Read Language A
+reads_flat lim f at = reads lim 0 f at
 
 -- the next symbol counts as one more of these too, if of any
 abbrev pub owed : Option Counted → State Language → State Language

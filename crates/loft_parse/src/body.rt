@@ -10,6 +10,7 @@ ghost use Rattle.loft_parse.specs.View.{reads, viewed, statement_list_of, branch
 use crate::cursor::Cursor;
 use crate::event_statement::event_statement;
 use crate::expression::whole;
+use crate::limited::Limited;
 use crate::lookahead::{
     next_event_statement, next_is_word, next_statement, next_thread_statement, next_value_statement,
 };
@@ -23,23 +24,31 @@ use std::alloc::Global;
 
 /// The condition of an `if` or a loop, with its brackets.
 #[tactic(auto, unfolding(crate::specs::Grammar::condition))]
-fn condition<'a>(alloc: Global, deeper: u32, at: Cursor<'a>) -> Result<(Expr, Cursor<'a>), Stop>
-    ensures { Gives (viewed expression_of) result (reads deeper condition at.entry) }
+fn condition<'a, L: Limited>(
+    alloc: Global,
+    deeper: u32,
+    at: Cursor<'a>,
+) -> Result<(Expr, Cursor<'a>), Stop>
+    ensures { Gives (viewed expression_of) result (reads L.limits deeper condition at.entry) }
 {
-    let at = sign(Sign::Open, at)?;
-    let (e, at) = whole(alloc, deeper, at)?;
-    let at = sign(Sign::Close, at)?;
+    let at = sign::<L>(Sign::Open, at)?;
+    let (e, at) = whole::<L>(alloc, deeper, at)?;
+    let at = sign::<L>(Sign::Close, at)?;
     Ok((e, at))
 }
 
 #[cycle(statement)]
 #[tactic(auto, unfolding(crate::specs::Grammar::conditional), using(loft_tree::proofs::Trees::statements, crate::proofs::Inside::inside_is))]
-fn conditional<'a>(alloc: Global, deeper: u32, at: Cursor<'a>) -> Result<(Stmt, Cursor<'a>), Stop>
-    ensures { Gives (viewed statement_of) result (reads deeper conditional at.entry) }
+fn conditional<'a, L: Limited>(
+    alloc: Global,
+    deeper: u32,
+    at: Cursor<'a>,
+) -> Result<(Stmt, Cursor<'a>), Stop>
+    ensures { Gives (viewed statement_of) result (reads L.limits deeper conditional at.entry) }
 {
-    let (place, at) = opening_word(deeper, Word::If, at)?;
-    let ((test, first, second), at) = branches(alloc, deeper - 1, at)?;
-    let at = word(Word::End, at)?;
+    let (place, at) = opening_word::<L>(deeper, Word::If, at)?;
+    let ((test, first, second), at) = branches::<L>(alloc, deeper - 1, at)?;
+    let at = word::<L>(Word::End, at)?;
     let second = match second {
         Some(second) => second,
         None => Vec::new(alloc),
@@ -57,12 +66,16 @@ fn conditional<'a>(alloc: Global, deeper: u32, at: Cursor<'a>) -> Result<(Stmt, 
 
 #[cycle(statement)]
 #[tactic(auto, unfolding(crate::specs::Grammar::while_loop), using(loft_tree::proofs::Trees::statements, crate::proofs::Inside::inside_is))]
-fn while_loop<'a>(alloc: Global, deeper: u32, at: Cursor<'a>) -> Result<(Stmt, Cursor<'a>), Stop>
-    ensures { Gives (viewed statement_of) result (reads deeper while_loop at.entry) }
+fn while_loop<'a, L: Limited>(
+    alloc: Global,
+    deeper: u32,
+    at: Cursor<'a>,
+) -> Result<(Stmt, Cursor<'a>), Stop>
+    ensures { Gives (viewed statement_of) result (reads L.limits deeper while_loop at.entry) }
 {
-    let (place, at) = opening_word(deeper, Word::While, at)?;
-    let ((test, body), at) = turns(alloc, deeper - 1, at)?;
-    let at = word(Word::End, at)?;
+    let (place, at) = opening_word::<L>(deeper, Word::While, at)?;
+    let ((test, body), at) = turns::<L>(alloc, deeper - 1, at)?;
+    let at = word::<L>(Word::End, at)?;
     Ok((
         Stmt::While {
             at: place,
@@ -75,12 +88,16 @@ fn while_loop<'a>(alloc: Global, deeper: u32, at: Cursor<'a>) -> Result<(Stmt, C
 
 #[cycle(statement)]
 #[tactic(auto, unfolding(crate::specs::Grammar::repeat), using(loft_tree::proofs::Trees::statements, crate::proofs::Inside::inside_is))]
-fn repeat<'a>(alloc: Global, deeper: u32, at: Cursor<'a>) -> Result<(Stmt, Cursor<'a>), Stop>
-    ensures { Gives (viewed statement_of) result (reads deeper repeat at.entry) }
+fn repeat<'a, L: Limited>(
+    alloc: Global,
+    deeper: u32,
+    at: Cursor<'a>,
+) -> Result<(Stmt, Cursor<'a>), Stop>
+    ensures { Gives (viewed statement_of) result (reads L.limits deeper repeat at.entry) }
 {
-    let (place, at) = opening_word(deeper, Word::Repeat, at)?;
-    let ((count, body), at) = turns(alloc, deeper - 1, at)?;
-    let at = word(Word::End, at)?;
+    let (place, at) = opening_word::<L>(deeper, Word::Repeat, at)?;
+    let ((count, body), at) = turns::<L>(alloc, deeper - 1, at)?;
+    let at = word::<L>(Word::End, at)?;
     Ok((
         Stmt::Repeat {
             at: place,
@@ -93,52 +110,61 @@ fn repeat<'a>(alloc: Global, deeper: u32, at: Cursor<'a>) -> Result<(Stmt, Curso
 
 #[cycle(statement)]
 #[tactic(auto, unfolding(crate::specs::Grammar::moving_statement, crate::specs::Grammar::link, crate::specs::Grammar::unlink, crate::specs::Grammar::conditional, crate::specs::Grammar::while_loop))]
-fn moving_statement<'a>(
+fn moving_statement<'a, L: Limited>(
     alloc: Global,
     deeper: u32,
     at: Cursor<'a>,
 ) -> Result<(Stmt, Cursor<'a>), Stop>
-    ensures { Gives (viewed statement_of) result (reads deeper moving_statement at.entry) }
+    ensures { Gives (viewed statement_of) result (reads L.limits deeper moving_statement at.entry) }
 {
     if next_is_word(Word::Link, &at) {
-        link(alloc, at)
+        link::<L>(alloc, at)
     } else if next_is_word(Word::Unlink, &at) {
-        unlink(at)
+        unlink::<L>(at)
     } else if next_is_word(Word::If, &at) {
-        conditional(alloc, deeper, at)
+        conditional::<L>(alloc, deeper, at)
     } else if next_is_word(Word::While, &at) {
-        while_loop(alloc, deeper, at)
+        while_loop::<L>(alloc, deeper, at)
     } else {
-        repeat(alloc, deeper, at)
+        repeat::<L>(alloc, deeper, at)
     }
 }
 
+/// Reads a statement.
 #[cycle(statement)]
 #[tactic(auto, unfolding(crate::specs::Grammar::statement))]
-fn statement<'a>(alloc: Global, deeper: u32, at: Cursor<'a>) -> Result<(Stmt, Cursor<'a>), Stop>
-    ensures { Gives (viewed statement_of) result (reads deeper statement at.entry) }
+pub fn statement<'a, L: Limited>(
+    alloc: Global,
+    deeper: u32,
+    at: Cursor<'a>,
+) -> Result<(Stmt, Cursor<'a>), Stop>
+    ensures { Gives (viewed statement_of) result (reads L.limits deeper statement at.entry) }
 {
     if next_value_statement(&at) {
-        value_statement(alloc, deeper, at)
+        value_statement::<L>(alloc, deeper, at)
     } else if next_event_statement(&at) {
-        event_statement(alloc, deeper, at)
+        event_statement::<L>(alloc, deeper, at)
     } else if next_thread_statement(&at) {
-        thread_statement(alloc, deeper, at)
+        thread_statement::<L>(alloc, deeper, at)
     } else {
-        moving_statement(alloc, deeper, at)
+        moving_statement::<L>(alloc, deeper, at)
     }
 }
 
 /// Reads the statements of a body.
 #[cycle(statement)]
 #[tactic(auto, unfolding(crate::specs::Grammar::body))]
-pub fn body<'a>(alloc: Global, deeper: u32, at: Cursor<'a>) -> Result<(Vec<Stmt>, Cursor<'a>), Stop>
-    ensures { Gives (viewed statement_list_of) result (reads deeper body at.entry) }
+pub fn body<'a, L: Limited>(
+    alloc: Global,
+    deeper: u32,
+    at: Cursor<'a>,
+) -> Result<(Vec<Stmt>, Cursor<'a>), Stop>
+    ensures { Gives (viewed statement_list_of) result (reads L.limits deeper body at.entry) }
 {
     let mut statements = Vec::with_capacity(alloc, 1)?;
     let mut at = at;
     'all: while next_statement(&at) {
-        let (one, next) = statement(alloc, deeper, at)?;
+        let (one, next) = statement::<L>(alloc, deeper, at)?;
         statements.push(one)?;
         at = next;
     }
@@ -147,16 +173,16 @@ pub fn body<'a>(alloc: Global, deeper: u32, at: Cursor<'a>) -> Result<(Vec<Stmt>
 
 #[cycle(statement)]
 #[tactic(auto, unfolding(crate::specs::Grammar::otherwise))]
-fn otherwise<'a>(
+fn otherwise<'a, L: Limited>(
     alloc: Global,
     deeper: u32,
     at: Cursor<'a>,
 ) -> Result<(Option<Vec<Stmt>>, Cursor<'a>), Stop>
-    ensures { Gives (viewed (option_map statement_list_of)) result (reads deeper (maybe otherwise) at.entry) }
+    ensures { Gives (viewed (option_map statement_list_of)) result (reads L.limits deeper (maybe otherwise) at.entry) }
 {
     if next_is_word(Word::Else, &at) {
-        let at = word(Word::Else, at)?;
-        let (second, at) = body(alloc, deeper, at)?;
+        let at = word::<L>(Word::Else, at)?;
+        let (second, at) = body::<L>(alloc, deeper, at)?;
         Ok((Some(second), at))
     } else {
         Ok((None, at))
@@ -165,31 +191,31 @@ fn otherwise<'a>(
 
 #[cycle(statement)]
 #[tactic(auto, unfolding(crate::specs::Grammar::branches))]
-fn branches<'a>(
+fn branches<'a, L: Limited>(
     alloc: Global,
     deeper: u32,
     at: Cursor<'a>,
 ) -> Result<((Expr, Vec<Stmt>, Option<Vec<Stmt>>), Cursor<'a>), Stop>
-    ensures { Gives (viewed branches_of) result (reads deeper branches at.entry) }
+    ensures { Gives (viewed branches_of) result (reads L.limits deeper branches at.entry) }
 {
-    let (test, at) = condition(alloc, deeper, at)?;
-    let at = word(Word::Then, at)?;
-    let (first, at) = body(alloc, deeper, at)?;
-    let (second, at) = otherwise(alloc, deeper, at)?;
+    let (test, at) = condition::<L>(alloc, deeper, at)?;
+    let at = word::<L>(Word::Then, at)?;
+    let (first, at) = body::<L>(alloc, deeper, at)?;
+    let (second, at) = otherwise::<L>(alloc, deeper, at)?;
     Ok(((test, first, second), at))
 }
 
 #[cycle(statement)]
 #[tactic(auto, unfolding(crate::specs::Grammar::turns))]
-fn turns<'a>(
+fn turns<'a, L: Limited>(
     alloc: Global,
     deeper: u32,
     at: Cursor<'a>,
 ) -> Result<((Expr, Vec<Stmt>), Cursor<'a>), Stop>
-    ensures { Gives (viewed turns_of) result (reads deeper turns at.entry) }
+    ensures { Gives (viewed turns_of) result (reads L.limits deeper turns at.entry) }
 {
-    let (test, at) = condition(alloc, deeper, at)?;
-    let at = word(Word::Do, at)?;
-    let (body, at) = body(alloc, deeper, at)?;
+    let (test, at) = condition::<L>(alloc, deeper, at)?;
+    let at = word::<L>(Word::Do, at)?;
+    let (body, at) = body::<L>(alloc, deeper, at)?;
     Ok(((test, body), at))
 }

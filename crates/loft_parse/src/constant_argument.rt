@@ -4,11 +4,13 @@ ghost use Rattle.std.specs.Prelude.{◌≡◌, None};
 ghost use Rattle.loft_tree.specs.View.{argument_of};
 ghost use Rattle.loft_form.specs.Form.{many};
 ghost use Rattle.loft_form.specs.Reading.{Gives};
+ghost use Rattle.loft_parse.specs.Source.{limits};
 ghost use Rattle.loft_parse.specs.Grammar.{negative, signed, further, listed, outer_argument, outer_arguments};
 ghost use Rattle.loft_parse.specs.View.{reads_flat, viewed, itself, with_front, arguments_of};
 
 use crate::counts::Counted;
 use crate::cursor::Cursor;
+use crate::limited::SourceLimits;
 use crate::lookahead::{next_is_number, next_is_sign, next_outer_argument, next_signed};
 use crate::token::{name, numeral, sign, sign_place};
 use loft_base::sub;
@@ -19,20 +21,20 @@ use std::alloc::Global;
 
 #[tactic(auto, unfolding(crate::specs::Grammar::negative))]
 fn negative<'a>(at: Cursor<'a>) -> Result<((u32, i64), Cursor<'a>), Stop>
-    ensures { Gives itself result (reads_flat negative at.entry) }
+    ensures { Gives itself result (reads_flat limits negative at.entry) }
 {
-    let (place, at) = sign_place(Sign::Minus, at)?;
-    let ((_, value), at) = numeral(None, at)?;
+    let (place, at) = sign_place::<SourceLimits>(Sign::Minus, at)?;
+    let ((_, value), at) = numeral::<SourceLimits>(None, at)?;
     Ok(((place, sub(0, value)), at))
 }
 
 /// Reads a number, with a sign or without, and its place.
 #[tactic(auto, unfolding(crate::specs::Grammar::signed))]
 pub fn signed<'a>(at: Cursor<'a>) -> Result<((u32, i64), Cursor<'a>), Stop>
-    ensures { Gives itself result (reads_flat signed at.entry) }
+    ensures { Gives itself result (reads_flat limits signed at.entry) }
 {
     if next_is_number(&at) {
-        numeral(None, at)
+        numeral::<SourceLimits>(None, at)
     } else {
         negative(at)
     }
@@ -41,22 +43,22 @@ pub fn signed<'a>(at: Cursor<'a>) -> Result<((u32, i64), Cursor<'a>), Stop>
 #[tactic(auto, unfolding(crate::specs::Grammar::outer_argument, crate::specs::Grammar::signed, crate::specs::Grammar::negative))]
 fn outer_argument<'a>(alloc: Global, at: Cursor<'a>) -> Result<(Argument, Cursor<'a>), Stop>
     requires { at.due ≡ None }
-    ensures { Gives (viewed argument_of) result (reads_flat outer_argument at.entry) }
+    ensures { Gives (viewed argument_of) result (reads_flat limits outer_argument at.entry) }
 {
     let at = at.owing(Counted::Argument);
     if next_signed(&at) {
         let ((place, value), at) = signed(at)?;
         Ok((Argument::Number { at: place, value }, at))
     } else {
-        let (name, at) = name(alloc, None, at)?;
+        let (name, at) = name::<SourceLimits>(alloc, None, at)?;
         Ok((Argument::Name(name), at))
     }
 }
 
 fn further_argument<'a>(alloc: Global, at: Cursor<'a>) -> Result<(Argument, Cursor<'a>), Stop>
-    ensures { Gives (viewed argument_of) result (reads_flat (further outer_argument) at.entry) }
+    ensures { Gives (viewed argument_of) result (reads_flat limits (further outer_argument) at.entry) }
 {
-    let at = sign(Sign::Comma, at)?;
+    let at = sign::<SourceLimits>(Sign::Comma, at)?;
     outer_argument(alloc, at)
 }
 
@@ -66,7 +68,7 @@ fn further_arguments<'a>(
     arguments: Vec<Argument>,
     at: Cursor<'a>,
 ) -> Result<(Vec<Argument>, Cursor<'a>), Stop>
-    ensures { Gives (viewed arguments_of) result (with_front (arguments_of arguments) (reads_flat (many (further outer_argument)) at.entry)) }
+    ensures { Gives (viewed arguments_of) result (with_front (arguments_of arguments) (reads_flat limits (many (further outer_argument)) at.entry)) }
 {
     let mut arguments = arguments;
     let mut at = at;
@@ -81,7 +83,7 @@ fn further_arguments<'a>(
 #[tactic(auto, unfolding(crate::specs::Grammar::outer_argument))]
 fn listed<'a>(alloc: Global, at: Cursor<'a>) -> Result<(Vec<Argument>, Cursor<'a>), Stop>
     requires { at.due ≡ None }
-    ensures { Gives (viewed arguments_of) result (reads_flat (listed outer_argument) at.entry) }
+    ensures { Gives (viewed arguments_of) result (reads_flat limits (listed outer_argument) at.entry) }
 {
     let mut arguments = Vec::new(alloc);
     if next_outer_argument(&at) {
@@ -99,10 +101,10 @@ pub fn outer_arguments<'a>(
     alloc: Global,
     at: Cursor<'a>,
 ) -> Result<(Vec<Argument>, Cursor<'a>), Stop>
-    ensures { Gives (viewed arguments_of) result (reads_flat outer_arguments at.entry) }
+    ensures { Gives (viewed arguments_of) result (reads_flat limits outer_arguments at.entry) }
 {
-    let at = sign(Sign::Open, at)?;
+    let at = sign::<SourceLimits>(Sign::Open, at)?;
     let (arguments, at) = listed(alloc, at.anew(Counted::Argument))?;
-    let at = sign(Sign::Close, at)?;
+    let at = sign::<SourceLimits>(Sign::Close, at)?;
     Ok((arguments, at))
 }

@@ -1,6 +1,6 @@
 //! What a source has only so many of.
 
-ghost use Rattle.std.specs.Prelude.{◌≡◌};
+ghost use Rattle.std.specs.Prelude.{◌≡◌, ◌+◌, IfSome};
 ghost use Rattle.loft_parse.specs.Counts.{most, number, put, none};
 
 use loft_tree::limits::{
@@ -39,7 +39,8 @@ pub enum Counted {
     Choice,
 }
 
-/// How many of each there were so far.
+/// How many of each there were so far. What isn't always limited is counted in 32 bits, which no text of at most 4 MiB
+/// passes.
 #[derive(Clone, Copy)]
 pub struct Counts {
     pub schedulers: u16,
@@ -51,31 +52,31 @@ pub struct Counts {
     pub orders: u16,
     pub parameters: u16,
     pub locals: u16,
-    pub statements: u16,
+    pub statements: u32,
     pub operands: u16,
-    pub arguments: u16,
-    pub choices: u16,
+    pub arguments: u32,
+    pub choices: u32,
 }
 
 impl Counted {
     /// How many there may be (docs/LANGUAGE.md, "Limits").
-    pub fn most(self) -> u16
+    pub fn most(self) -> u32
         ensures { result ≡ most self }
     {
         match self {
-            Counted::Scheduler => MAX_SCHEDULERS as u16,
-            Counted::Event => MAX_EVENTS as u16,
-            Counted::Shared => MAX_SHARED as u16,
-            Counted::Module => MAX_MODULES as u16,
-            Counted::Start => MAX_STARTS as u16,
-            Counted::Client => MAX_CLIENTS as u16,
-            Counted::Order => MAX_ORDERS as u16,
-            Counted::Parameter => MAX_PARAMETERS as u16,
-            Counted::Local => MAX_LOCALS as u16,
-            Counted::Statement => MAX_STATEMENTS as u16,
-            Counted::Operand => MAX_OPERANDS as u16,
-            Counted::Argument => MAX_ARGUMENTS as u16,
-            Counted::Choice => MAX_CHOICES as u16,
+            Counted::Scheduler => MAX_SCHEDULERS as u32,
+            Counted::Event => MAX_EVENTS as u32,
+            Counted::Shared => MAX_SHARED as u32,
+            Counted::Module => MAX_MODULES as u32,
+            Counted::Start => MAX_STARTS as u32,
+            Counted::Client => MAX_CLIENTS as u32,
+            Counted::Order => MAX_ORDERS as u32,
+            Counted::Parameter => MAX_PARAMETERS as u32,
+            Counted::Local => MAX_LOCALS as u32,
+            Counted::Statement => MAX_STATEMENTS as u32,
+            Counted::Operand => MAX_OPERANDS as u32,
+            Counted::Argument => MAX_ARGUMENTS as u32,
+            Counted::Choice => MAX_CHOICES as u32,
         }
     }
 }
@@ -103,46 +104,69 @@ impl Counts {
     }
 
     /// How many of these there were.
-    pub fn number(self, what: Counted) -> u16
+    pub fn number(self, what: Counted) -> u32
         ensures { result ≡ number what self }
     {
         match what {
-            Counted::Scheduler => self.schedulers,
-            Counted::Event => self.events,
-            Counted::Shared => self.shared,
-            Counted::Module => self.modules,
-            Counted::Start => self.starts,
-            Counted::Client => self.clients,
-            Counted::Order => self.orders,
-            Counted::Parameter => self.parameters,
-            Counted::Local => self.locals,
+            Counted::Scheduler => u32::from(self.schedulers),
+            Counted::Event => u32::from(self.events),
+            Counted::Shared => u32::from(self.shared),
+            Counted::Module => u32::from(self.modules),
+            Counted::Start => u32::from(self.starts),
+            Counted::Client => u32::from(self.clients),
+            Counted::Order => u32::from(self.orders),
+            Counted::Parameter => u32::from(self.parameters),
+            Counted::Local => u32::from(self.locals),
             Counted::Statement => self.statements,
-            Counted::Operand => self.operands,
+            Counted::Operand => u32::from(self.operands),
             Counted::Argument => self.arguments,
             Counted::Choice => self.choices,
         }
     }
 
-    /// The same, but so many of these.
-    pub fn with(self, what: Counted, number: u16) -> Counts
-        ensures { result ≡ put what number self }
+    /// The same, with none of these.
+    pub fn without(self, what: Counted) -> Counts
+        ensures { result ≡ put what 0 self }
     {
         let mut counts = self;
         match what {
-            Counted::Scheduler => counts.schedulers = number,
-            Counted::Event => counts.events = number,
-            Counted::Shared => counts.shared = number,
-            Counted::Module => counts.modules = number,
-            Counted::Start => counts.starts = number,
-            Counted::Client => counts.clients = number,
-            Counted::Order => counts.orders = number,
-            Counted::Parameter => counts.parameters = number,
-            Counted::Local => counts.locals = number,
-            Counted::Statement => counts.statements = number,
-            Counted::Operand => counts.operands = number,
-            Counted::Argument => counts.arguments = number,
-            Counted::Choice => counts.choices = number,
+            Counted::Scheduler => counts.schedulers = 0,
+            Counted::Event => counts.events = 0,
+            Counted::Shared => counts.shared = 0,
+            Counted::Module => counts.modules = 0,
+            Counted::Start => counts.starts = 0,
+            Counted::Client => counts.clients = 0,
+            Counted::Order => counts.orders = 0,
+            Counted::Parameter => counts.parameters = 0,
+            Counted::Local => counts.locals = 0,
+            Counted::Statement => counts.statements = 0,
+            Counted::Operand => counts.operands = 0,
+            Counted::Argument => counts.arguments = 0,
+            Counted::Choice => counts.choices = 0,
         }
         counts
+    }
+
+    /// The same with one more of these, if so many can be counted.
+    pub fn one_more(self, what: Counted) -> Option<Counts>
+        ensures { IfSome result (λ more. more ≡ put what (number what self + 1) self) }
+    {
+        let mut counts = self;
+        match what {
+            Counted::Scheduler => counts.schedulers = self.schedulers.checked_add(1)?,
+            Counted::Event => counts.events = self.events.checked_add(1)?,
+            Counted::Shared => counts.shared = self.shared.checked_add(1)?,
+            Counted::Module => counts.modules = self.modules.checked_add(1)?,
+            Counted::Start => counts.starts = self.starts.checked_add(1)?,
+            Counted::Client => counts.clients = self.clients.checked_add(1)?,
+            Counted::Order => counts.orders = self.orders.checked_add(1)?,
+            Counted::Parameter => counts.parameters = self.parameters.checked_add(1)?,
+            Counted::Local => counts.locals = self.locals.checked_add(1)?,
+            Counted::Statement => counts.statements = self.statements.checked_add(1)?,
+            Counted::Operand => counts.operands = self.operands.checked_add(1)?,
+            Counted::Argument => counts.arguments = self.arguments.checked_add(1)?,
+            Counted::Choice => counts.choices = self.choices.checked_add(1)?,
+        }
+        Some(counts)
     }
 }

@@ -34,7 +34,7 @@ impl<'a> Cursor<'a> {
         ensures { result ≡ record self.entry { counts = put what 0 self.entry.counts } }
     {
         Cursor {
-            counts: self.counts.with(what, 0),
+            counts: self.counts.without(what),
             ..self
         }
     }

@@ -9,6 +9,7 @@ ghost use Rattle.loft_parse.specs.View.{reads, reads_flat, viewed, with_front, e
 use crate::counts::Counted;
 use crate::cursor::Cursor;
 use crate::expression::whole;
+use crate::limited::Limited;
 use crate::lookahead::{next_is_sign, next_is_word};
 use crate::optional::{optional_limit, optional_value};
 use crate::token::{first_word, name, sign, word};
@@ -19,25 +20,29 @@ use std::alloc::Global;
 
 /// Reads the name of an event.
 #[tactic(auto, using(crate::proofs::Leaves::counting_is))]
-pub fn event_name<'a>(
+pub fn event_name<'a, L: Limited>(
     alloc: Global,
     what: Option<Counted>,
     at: Cursor<'a>,
 ) -> Result<(EventName, Cursor<'a>), Stop>
-    ensures { Gives (viewed event_name_of) result (reads_flat (counting what event_name) at.entry) }
+    ensures { Gives (viewed event_name_of) result (reads_flat L.limits (counting what event_name) at.entry) }
 {
-    let (name, at) = name(alloc, what, at)?;
+    let (name, at) = name::<L>(alloc, what, at)?;
     Ok((EventName { name }, at))
 }
 
 #[tactic(auto, unfolding(crate::specs::Grammar::generate), using(loft_tree::proofs::Trees::statements))]
-fn generate<'a>(alloc: Global, deeper: u32, at: Cursor<'a>) -> Result<(Stmt, Cursor<'a>), Stop>
-    ensures { Gives (viewed statement_of) result (reads deeper generate at.entry) }
+fn generate<'a, L: Limited>(
+    alloc: Global,
+    deeper: u32,
+    at: Cursor<'a>,
+) -> Result<(Stmt, Cursor<'a>), Stop>
+    ensures { Gives (viewed statement_of) result (reads L.limits deeper generate at.entry) }
 {
-    let (place, at) = first_word(Counted::Statement, Word::Generate, at)?;
-    let (event, at) = event_name(alloc, None, at)?;
-    let (value, at) = optional_value(alloc, deeper, at)?;
-    let at = sign(Sign::Semicolon, at)?;
+    let (place, at) = first_word::<L>(Counted::Statement, Word::Generate, at)?;
+    let (event, at) = event_name::<L>(alloc, None, at)?;
+    let (value, at) = optional_value::<L>(alloc, deeper, at)?;
+    let at = sign::<L>(Sign::Semicolon, at)?;
     Ok((
         Stmt::Generate {
             at: place,
@@ -49,13 +54,17 @@ fn generate<'a>(alloc: Global, deeper: u32, at: Cursor<'a>) -> Result<(Stmt, Cur
 }
 
 #[tactic(auto, unfolding(crate::specs::Grammar::await_event), using(loft_tree::proofs::Trees::statements))]
-fn await_event<'a>(alloc: Global, deeper: u32, at: Cursor<'a>) -> Result<(Stmt, Cursor<'a>), Stop>
-    ensures { Gives (viewed statement_of) result (reads deeper await_event at.entry) }
+fn await_event<'a, L: Limited>(
+    alloc: Global,
+    deeper: u32,
+    at: Cursor<'a>,
+) -> Result<(Stmt, Cursor<'a>), Stop>
+    ensures { Gives (viewed statement_of) result (reads L.limits deeper await_event at.entry) }
 {
-    let (place, at) = first_word(Counted::Statement, Word::Await, at)?;
-    let (event, at) = event_name(alloc, None, at)?;
-    let (limit, at) = optional_limit(alloc, deeper, at)?;
-    let at = sign(Sign::Semicolon, at)?;
+    let (place, at) = first_word::<L>(Counted::Statement, Word::Await, at)?;
+    let (event, at) = event_name::<L>(alloc, None, at)?;
+    let (limit, at) = optional_limit::<L>(alloc, deeper, at)?;
+    let at = sign::<L>(Sign::Semicolon, at)?;
     Ok((
         Stmt::Await {
             at: place,
@@ -67,32 +76,35 @@ fn await_event<'a>(alloc: Global, deeper: u32, at: Cursor<'a>) -> Result<(Stmt, 
 }
 
 #[tactic(auto, unfolding(crate::specs::Grammar::choice))]
-fn choice<'a>(alloc: Global, at: Cursor<'a>) -> Result<(EventName, Cursor<'a>), Stop>
-    ensures { Gives (viewed event_name_of) result (reads_flat choice at.entry) }
+fn choice<'a, L: Limited>(alloc: Global, at: Cursor<'a>) -> Result<(EventName, Cursor<'a>), Stop>
+    ensures { Gives (viewed event_name_of) result (reads_flat L.limits choice at.entry) }
 {
-    event_name(alloc, Some(Counted::Choice), at)
+    event_name::<L>(alloc, Some(Counted::Choice), at)
 }
 
 #[tactic(auto, unfolding(crate::specs::Grammar::choice))]
-fn further_choice<'a>(alloc: Global, at: Cursor<'a>) -> Result<(EventName, Cursor<'a>), Stop>
-    ensures { Gives (viewed event_name_of) result (reads_flat (further choice) at.entry) }
+fn further_choice<'a, L: Limited>(
+    alloc: Global,
+    at: Cursor<'a>,
+) -> Result<(EventName, Cursor<'a>), Stop>
+    ensures { Gives (viewed event_name_of) result (reads_flat L.limits (further choice) at.entry) }
 {
-    let at = sign(Sign::Comma, at)?;
-    choice(alloc, at)
+    let at = sign::<L>(Sign::Comma, at)?;
+    choice::<L>(alloc, at)
 }
 
 /// Reads further events behind these.
-fn further_choices<'a>(
+fn further_choices<'a, L: Limited>(
     alloc: Global,
     events: Vec<EventName>,
     at: Cursor<'a>,
 ) -> Result<(Vec<EventName>, Cursor<'a>), Stop>
-    ensures { Gives (viewed event_names_of) result (with_front (event_names_of events) (reads_flat (many (further choice)) at.entry)) }
+    ensures { Gives (viewed event_names_of) result (with_front (event_names_of events) (reads_flat L.limits (many (further choice)) at.entry)) }
 {
     let mut events = events;
     let mut at = at;
     'all: while next_is_sign(Sign::Comma, &at) {
-        let (one, next) = further_choice(alloc, at)?;
+        let (one, next) = further_choice::<L>(alloc, at)?;
         events.push(one)?;
         at = next;
     }
@@ -100,25 +112,32 @@ fn further_choices<'a>(
 }
 
 #[tactic(auto, unfolding(crate::specs::Grammar::choices, crate::specs::Grammar::choice))]
-fn choices<'a>(alloc: Global, at: Cursor<'a>) -> Result<(Vec<EventName>, Cursor<'a>), Stop>
-    ensures { Gives (viewed event_names_of) result (reads_flat choices at.entry) }
+fn choices<'a, L: Limited>(
+    alloc: Global,
+    at: Cursor<'a>,
+) -> Result<(Vec<EventName>, Cursor<'a>), Stop>
+    ensures { Gives (viewed event_names_of) result (reads_flat L.limits choices at.entry) }
 {
     let mut events = Vec::new(alloc);
-    let (first, at) = choice(alloc, at)?;
+    let (first, at) = choice::<L>(alloc, at)?;
     events.push(first)?;
-    let (second, at) = further_choice(alloc, at)?;
+    let (second, at) = further_choice::<L>(alloc, at)?;
     events.push(second)?;
-    further_choices(alloc, events, at)
+    further_choices::<L>(alloc, events, at)
 }
 
 #[tactic(auto, unfolding(crate::specs::Grammar::select, crate::specs::Grammar::choices, crate::specs::Grammar::choice), using(loft_tree::proofs::Trees::statements))]
-fn select<'a>(alloc: Global, deeper: u32, at: Cursor<'a>) -> Result<(Stmt, Cursor<'a>), Stop>
-    ensures { Gives (viewed statement_of) result (reads deeper select at.entry) }
+fn select<'a, L: Limited>(
+    alloc: Global,
+    deeper: u32,
+    at: Cursor<'a>,
+) -> Result<(Stmt, Cursor<'a>), Stop>
+    ensures { Gives (viewed statement_of) result (reads L.limits deeper select at.entry) }
 {
-    let (place, at) = first_word(Counted::Statement, Word::Select, at)?;
-    let (events, at) = choices(alloc, at.anew(Counted::Choice))?;
-    let (limit, at) = optional_limit(alloc, deeper, at)?;
-    let at = sign(Sign::Semicolon, at)?;
+    let (place, at) = first_word::<L>(Counted::Statement, Word::Select, at)?;
+    let (events, at) = choices::<L>(alloc, at.anew(Counted::Choice))?;
+    let (limit, at) = optional_limit::<L>(alloc, deeper, at)?;
+    let at = sign::<L>(Sign::Semicolon, at)?;
     Ok((
         Stmt::Select {
             at: place,
@@ -130,16 +149,20 @@ fn select<'a>(alloc: Global, deeper: u32, at: Cursor<'a>) -> Result<(Stmt, Curso
 }
 
 #[tactic(auto, unfolding(crate::specs::Grammar::get), using(loft_tree::proofs::Trees::statements))]
-fn get<'a>(alloc: Global, deeper: u32, at: Cursor<'a>) -> Result<(Stmt, Cursor<'a>), Stop>
-    ensures { Gives (viewed statement_of) result (reads deeper get at.entry) }
+fn get<'a, L: Limited>(
+    alloc: Global,
+    deeper: u32,
+    at: Cursor<'a>,
+) -> Result<(Stmt, Cursor<'a>), Stop>
+    ensures { Gives (viewed statement_of) result (reads L.limits deeper get at.entry) }
 {
-    let (place, at) = first_word(Counted::Statement, Word::Get, at)?;
-    let (event, at) = event_name(alloc, None, at)?;
-    let at = word(Word::At, at)?;
-    let (index, at) = whole(alloc, deeper, at)?;
-    let at = word(Word::Into, at)?;
-    let (target, at) = name(alloc, None, at)?;
-    let at = sign(Sign::Semicolon, at)?;
+    let (place, at) = first_word::<L>(Counted::Statement, Word::Get, at)?;
+    let (event, at) = event_name::<L>(alloc, None, at)?;
+    let at = word::<L>(Word::At, at)?;
+    let (index, at) = whole::<L>(alloc, deeper, at)?;
+    let at = word::<L>(Word::Into, at)?;
+    let (target, at) = name::<L>(alloc, None, at)?;
+    let at = sign::<L>(Sign::Semicolon, at)?;
     Ok((
         Stmt::Get {
             at: place,
@@ -152,13 +175,17 @@ fn get<'a>(alloc: Global, deeper: u32, at: Cursor<'a>) -> Result<(Stmt, Cursor<'
 }
 
 #[tactic(auto, unfolding(crate::specs::Grammar::broadcast), using(loft_tree::proofs::Trees::statements))]
-fn broadcast<'a>(alloc: Global, deeper: u32, at: Cursor<'a>) -> Result<(Stmt, Cursor<'a>), Stop>
-    ensures { Gives (viewed statement_of) result (reads deeper broadcast at.entry) }
+fn broadcast<'a, L: Limited>(
+    alloc: Global,
+    deeper: u32,
+    at: Cursor<'a>,
+) -> Result<(Stmt, Cursor<'a>), Stop>
+    ensures { Gives (viewed statement_of) result (reads L.limits deeper broadcast at.entry) }
 {
-    let (place, at) = first_word(Counted::Statement, Word::Broadcast, at)?;
-    let (event, at) = event_name(alloc, None, at)?;
-    let (value, at) = optional_value(alloc, deeper, at)?;
-    let at = sign(Sign::Semicolon, at)?;
+    let (place, at) = first_word::<L>(Counted::Statement, Word::Broadcast, at)?;
+    let (event, at) = event_name::<L>(alloc, None, at)?;
+    let (value, at) = optional_value::<L>(alloc, deeper, at)?;
+    let at = sign::<L>(Sign::Semicolon, at)?;
     Ok((
         Stmt::Broadcast {
             at: place,
@@ -171,22 +198,22 @@ fn broadcast<'a>(alloc: Global, deeper: u32, at: Cursor<'a>) -> Result<(Stmt, Cu
 
 /// Reads a statement about events.
 #[tactic(auto, unfolding(crate::specs::Grammar::event_statement, crate::specs::Grammar::generate, crate::specs::Grammar::await_event, crate::specs::Grammar::select, crate::specs::Grammar::get), using(loft_tree::proofs::Trees::statements))]
-pub fn event_statement<'a>(
+pub fn event_statement<'a, L: Limited>(
     alloc: Global,
     deeper: u32,
     at: Cursor<'a>,
 ) -> Result<(Stmt, Cursor<'a>), Stop>
-    ensures { Gives (viewed statement_of) result (reads deeper event_statement at.entry) }
+    ensures { Gives (viewed statement_of) result (reads L.limits deeper event_statement at.entry) }
 {
     if next_is_word(Word::Generate, &at) {
-        generate(alloc, deeper, at)
+        generate::<L>(alloc, deeper, at)
     } else if next_is_word(Word::Await, &at) {
-        await_event(alloc, deeper, at)
+        await_event::<L>(alloc, deeper, at)
     } else if next_is_word(Word::Select, &at) {
-        select(alloc, deeper, at)
+        select::<L>(alloc, deeper, at)
     } else if next_is_word(Word::Get, &at) {
-        get(alloc, deeper, at)
+        get::<L>(alloc, deeper, at)
     } else {
-        broadcast(alloc, deeper, at)
+        broadcast::<L>(alloc, deeper, at)
     }
 }

@@ -10,6 +10,7 @@ ghost use Rattle.loft_parse.specs.View.{reads, reads_flat, viewed, operation_of}
 
 use crate::counts::Counted;
 use crate::cursor::Cursor;
+use crate::limited::Limited;
 use crate::lookahead::{
     next_builtin, next_compared, next_is_name, next_is_number, next_is_sign, next_is_word,
     next_operation, next_stands_alone,
@@ -38,63 +39,79 @@ fn binary(
     })
 }
 
-fn special<'a>(wanted: Word, builtin: Builtin, at: Cursor<'a>) -> Result<(Expr, Cursor<'a>), Stop>
-    ensures { Gives (viewed expression_of) result (reads_flat (special wanted builtin) at.entry) }
+fn special<'a, L: Limited>(
+    wanted: Word,
+    builtin: Builtin,
+    at: Cursor<'a>,
+) -> Result<(Expr, Cursor<'a>), Stop>
+    ensures { Gives (viewed expression_of) result (reads_flat L.limits (special wanted builtin) at.entry) }
 {
-    let (place, at) = first_word(Counted::Operand, wanted, at)?;
+    let (place, at) = first_word::<L>(Counted::Operand, wanted, at)?;
     Ok((Expr::Builtin { at: place, builtin }, at))
 }
 
 #[tactic(auto, unfolding(crate::specs::Grammar::builtin))]
-fn builtin<'a>(at: Cursor<'a>) -> Result<(Expr, Cursor<'a>), Stop>
-    ensures { Gives (viewed expression_of) result (reads_flat builtin at.entry) }
+fn builtin<'a, L: Limited>(at: Cursor<'a>) -> Result<(Expr, Cursor<'a>), Stop>
+    ensures { Gives (viewed expression_of) result (reads_flat L.limits builtin at.entry) }
 {
     if next_is_word(Word::SelfWord, &at) {
-        special(Word::SelfWord, Builtin::Itself, at)
+        special::<L>(Word::SelfWord, Builtin::Itself, at)
     } else if next_is_word(Word::Code, &at) {
-        special(Word::Code, Builtin::Code, at)
+        special::<L>(Word::Code, Builtin::Code, at)
     } else {
-        special(Word::Mask, Builtin::Mask, at)
+        special::<L>(Word::Mask, Builtin::Mask, at)
     }
 }
 
 #[cycle(expression)]
 #[tactic(auto, unfolding(crate::specs::Grammar::bracketed, crate::specs::Grammar::expression, crate::specs::Grammar::disjunct), using(crate::proofs::Inside::inside_is))]
-fn bracketed<'a>(alloc: Global, deeper: u32, at: Cursor<'a>) -> Result<(Expr, Cursor<'a>), Stop>
-    ensures { Gives (viewed expression_of) result (reads deeper bracketed at.entry) }
+fn bracketed<'a, L: Limited>(
+    alloc: Global,
+    deeper: u32,
+    at: Cursor<'a>,
+) -> Result<(Expr, Cursor<'a>), Stop>
+    ensures { Gives (viewed expression_of) result (reads L.limits deeper bracketed at.entry) }
 {
-    let (_, at) = opening_sign(deeper, Sign::Open, at)?;
-    let (e, at) = chain(alloc, deeper - 1, Level::Disjunction, at)?;
-    let at = sign(Sign::Close, at)?;
+    let (_, at) = opening_sign::<L>(deeper, Sign::Open, at)?;
+    let (e, at) = chain::<L>(alloc, deeper - 1, Level::Disjunction, at)?;
+    let at = sign::<L>(Sign::Close, at)?;
     Ok((e, at))
 }
 
 #[cycle(expression)]
 #[tactic(auto, unfolding(crate::specs::Grammar::atom, crate::specs::Grammar::builtin))]
 #[inline(always)]
-fn atom<'a>(alloc: Global, deeper: u32, at: Cursor<'a>) -> Result<(Expr, Cursor<'a>), Stop>
-    ensures { Gives (viewed expression_of) result (reads deeper atom at.entry) }
+fn atom<'a, L: Limited>(
+    alloc: Global,
+    deeper: u32,
+    at: Cursor<'a>,
+) -> Result<(Expr, Cursor<'a>), Stop>
+    ensures { Gives (viewed expression_of) result (reads L.limits deeper atom at.entry) }
 {
     if next_is_number(&at) {
-        let ((place, value), at) = numeral(Some(Counted::Operand), at)?;
+        let ((place, value), at) = numeral::<L>(Some(Counted::Operand), at)?;
         Ok((Expr::Number { at: place, value }, at))
     } else if next_is_name(&at) {
-        let (name, at) = name(alloc, Some(Counted::Operand), at)?;
+        let (name, at) = name::<L>(alloc, Some(Counted::Operand), at)?;
         Ok((Expr::Name(name), at))
     } else if next_builtin(&at) {
-        builtin(at)
+        builtin::<L>(at)
     } else {
-        bracketed(alloc, deeper, at)
+        bracketed::<L>(alloc, deeper, at)
     }
 }
 
 #[cycle(expression)]
 #[tactic(auto, unfolding(crate::specs::Grammar::negated), using(crate::proofs::Inside::inside_is))]
-fn negated<'a>(alloc: Global, deeper: u32, at: Cursor<'a>) -> Result<(Expr, Cursor<'a>), Stop>
-    ensures { Gives (viewed expression_of) result (reads deeper negated at.entry) }
+fn negated<'a, L: Limited>(
+    alloc: Global,
+    deeper: u32,
+    at: Cursor<'a>,
+) -> Result<(Expr, Cursor<'a>), Stop>
+    ensures { Gives (viewed expression_of) result (reads L.limits deeper negated at.entry) }
 {
-    let (place, at) = opening_sign(deeper, Sign::Minus, at)?;
-    let (operand, at) = unary(alloc, deeper - 1, at)?;
+    let (place, at) = opening_sign::<L>(deeper, Sign::Minus, at)?;
+    let (operand, at) = unary::<L>(alloc, deeper - 1, at)?;
     Ok((
         Expr::Unary {
             at: place,
@@ -107,11 +124,15 @@ fn negated<'a>(alloc: Global, deeper: u32, at: Cursor<'a>) -> Result<(Expr, Curs
 
 #[cycle(expression)]
 #[tactic(auto, unfolding(crate::specs::Grammar::inverted), using(crate::proofs::Inside::inside_is))]
-fn inverted<'a>(alloc: Global, deeper: u32, at: Cursor<'a>) -> Result<(Expr, Cursor<'a>), Stop>
-    ensures { Gives (viewed expression_of) result (reads deeper inverted at.entry) }
+fn inverted<'a, L: Limited>(
+    alloc: Global,
+    deeper: u32,
+    at: Cursor<'a>,
+) -> Result<(Expr, Cursor<'a>), Stop>
+    ensures { Gives (viewed expression_of) result (reads L.limits deeper inverted at.entry) }
 {
-    let (place, at) = opening_sign(deeper, Sign::Not, at)?;
-    let (operand, at) = unary(alloc, deeper - 1, at)?;
+    let (place, at) = opening_sign::<L>(deeper, Sign::Not, at)?;
+    let (operand, at) = unary::<L>(alloc, deeper - 1, at)?;
     Ok((
         Expr::Unary {
             at: place,
@@ -125,15 +146,19 @@ fn inverted<'a>(alloc: Global, deeper: u32, at: Cursor<'a>) -> Result<(Expr, Cur
 #[cycle(expression)]
 #[tactic(auto, unfolding(crate::specs::Grammar::unary, crate::specs::Grammar::negated, crate::specs::Grammar::inverted))]
 #[inline(always)]
-fn unary<'a>(alloc: Global, deeper: u32, at: Cursor<'a>) -> Result<(Expr, Cursor<'a>), Stop>
-    ensures { Gives (viewed expression_of) result (reads deeper unary at.entry) }
+fn unary<'a, L: Limited>(
+    alloc: Global,
+    deeper: u32,
+    at: Cursor<'a>,
+) -> Result<(Expr, Cursor<'a>), Stop>
+    ensures { Gives (viewed expression_of) result (reads L.limits deeper unary at.entry) }
 {
     if next_is_sign(Sign::Minus, &at) {
-        negated(alloc, deeper, at)
+        negated::<L>(alloc, deeper, at)
     } else if next_is_sign(Sign::Not, &at) {
-        inverted(alloc, deeper, at)
+        inverted::<L>(alloc, deeper, at)
     } else {
-        atom(alloc, deeper, at)
+        atom::<L>(alloc, deeper, at)
     }
 }
 
@@ -141,19 +166,19 @@ fn unary<'a>(alloc: Global, deeper: u32, at: Cursor<'a>) -> Result<(Expr, Cursor
 #[cycle(expression)]
 #[tactic(auto, unfolding(crate::specs::Grammar::term, crate::specs::Grammar::factor, crate::specs::Grammar::conjunction, crate::specs::Grammar::conjunct))]
 #[inline(always)]
-fn operand<'a>(
+fn operand<'a, L: Limited>(
     alloc: Global,
     deeper: u32,
     level: Level,
     at: Cursor<'a>,
 ) -> Result<(Expr, Cursor<'a>), Stop>
-    ensures { Gives (viewed expression_of) result (reads deeper (operand_at level) at.entry) }
+    ensures { Gives (viewed expression_of) result (reads L.limits deeper (operand_at level) at.entry) }
 {
     match level {
-        Level::Product => unary(alloc, deeper, at),
-        Level::Sum => chain(alloc, deeper, Level::Product, at),
-        Level::Conjunction => comparison(alloc, deeper, at),
-        Level::Disjunction => chain(alloc, deeper, Level::Conjunction, at),
+        Level::Product => unary::<L>(alloc, deeper, at),
+        Level::Sum => chain::<L>(alloc, deeper, Level::Product, at),
+        Level::Conjunction => comparison::<L>(alloc, deeper, at),
+        Level::Disjunction => chain::<L>(alloc, deeper, Level::Conjunction, at),
     }
 }
 
@@ -161,35 +186,35 @@ fn operand<'a>(
 #[cycle(expression)]
 #[tactic(auto, using(crate::proofs::Chains::flat_operator))]
 #[inline(always)]
-fn operation<'a>(
+fn operation<'a, L: Limited>(
     alloc: Global,
     deeper: u32,
     level: Level,
     at: Cursor<'a>,
 ) -> Result<((BinaryOperator, Expr), Cursor<'a>), Stop>
-    ensures { Gives (viewed operation_of) result (reads deeper (operation_at level) at.entry) }
+    ensures { Gives (viewed operation_of) result (reads L.limits deeper (operation_at level) at.entry) }
 {
-    let (operator, at) = operator_at(level, at)?;
-    let (right, at) = operand(alloc, deeper, level, at)?;
+    let (operator, at) = operator_at::<L>(level, at)?;
+    let (right, at) = operand::<L>(alloc, deeper, level, at)?;
     Ok(((operator, right), at))
 }
 
 /// Reads operands of the level with its operators between them, which group to the left.
 #[cycle(expression)]
-fn chain<'a>(
+fn chain<'a, L: Limited>(
     alloc: Global,
     deeper: u32,
     level: Level,
     at: Cursor<'a>,
 ) -> Result<(Expr, Cursor<'a>), Stop>
-    ensures { Gives (viewed expression_of) result (reads deeper (chain_at level) at.entry) }
+    ensures { Gives (viewed expression_of) result (reads L.limits deeper (chain_at level) at.entry) }
 {
     if next_stands_alone(level, &at) {
-        return unary(alloc, deeper, at);
+        return unary::<L>(alloc, deeper, at);
     }
-    let (mut left, mut at) = operand(alloc, deeper, level, at)?;
+    let (mut left, mut at) = operand::<L>(alloc, deeper, level, at)?;
     'chain: while next_operation(level, &at) {
-        let ((operator, right), next) = operation(alloc, deeper, level, at)?;
+        let ((operator, right), next) = operation::<L>(alloc, deeper, level, at)?;
         left = binary(alloc, operator, left, right)?;
         at = next;
     }
@@ -199,27 +224,31 @@ fn chain<'a>(
 #[cycle(expression)]
 #[tactic(auto, unfolding(crate::specs::Grammar::compared, crate::specs::Grammar::equality, crate::specs::Grammar::ordering, crate::specs::Grammar::sum, crate::specs::Grammar::summand))]
 #[inline(always)]
-fn compared<'a>(
+fn compared<'a, L: Limited>(
     alloc: Global,
     deeper: u32,
     at: Cursor<'a>,
 ) -> Result<((BinaryOperator, Expr), Cursor<'a>), Stop>
-    ensures { Gives (viewed operation_of) result (reads deeper compared at.entry) }
+    ensures { Gives (viewed operation_of) result (reads L.limits deeper compared at.entry) }
 {
-    let (operator, at) = comparing(at)?;
-    let (right, at) = chain(alloc, deeper, Level::Sum, at)?;
+    let (operator, at) = comparing::<L>(at)?;
+    let (right, at) = chain::<L>(alloc, deeper, Level::Sum, at)?;
     Ok(((operator, right), at))
 }
 
 #[cycle(expression)]
 #[tactic(auto, unfolding(crate::specs::Grammar::comparison, crate::specs::Grammar::sum, crate::specs::Grammar::summand))]
 #[inline(always)]
-fn comparison<'a>(alloc: Global, deeper: u32, at: Cursor<'a>) -> Result<(Expr, Cursor<'a>), Stop>
-    ensures { Gives (viewed expression_of) result (reads deeper comparison at.entry) }
+fn comparison<'a, L: Limited>(
+    alloc: Global,
+    deeper: u32,
+    at: Cursor<'a>,
+) -> Result<(Expr, Cursor<'a>), Stop>
+    ensures { Gives (viewed expression_of) result (reads L.limits deeper comparison at.entry) }
 {
-    let (left, at) = chain(alloc, deeper, Level::Sum, at)?;
+    let (left, at) = chain::<L>(alloc, deeper, Level::Sum, at)?;
     if next_compared(&at) {
-        let ((operator, right), at) = compared(alloc, deeper, at)?;
+        let ((operator, right), at) = compared::<L>(alloc, deeper, at)?;
         Ok((binary(alloc, operator, left, right)?, at))
     } else {
         Ok((left, at))
@@ -228,8 +257,12 @@ fn comparison<'a>(alloc: Global, deeper: u32, at: Cursor<'a>) -> Result<(Expr, C
 
 /// Reads an expression that is no part of another.
 #[tactic(auto, unfolding(crate::specs::Grammar::whole, crate::specs::Grammar::expression, crate::specs::Grammar::disjunct))]
-pub fn whole<'a>(alloc: Global, deeper: u32, at: Cursor<'a>) -> Result<(Expr, Cursor<'a>), Stop>
-    ensures { Gives (viewed expression_of) result (reads deeper whole at.entry) }
+pub fn whole<'a, L: Limited>(
+    alloc: Global,
+    deeper: u32,
+    at: Cursor<'a>,
+) -> Result<(Expr, Cursor<'a>), Stop>
+    ensures { Gives (viewed expression_of) result (reads L.limits deeper whole at.entry) }
 {
-    chain(alloc, deeper, Level::Disjunction, at.anew(Counted::Operand))
+    chain::<L>(alloc, deeper, Level::Disjunction, at.anew(Counted::Operand))
 }

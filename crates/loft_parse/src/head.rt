@@ -6,11 +6,13 @@ ghost use Rattle.loft_tree.specs.View.{named_of, place_name_of, head_of};
 ghost use Rattle.loft_tree.specs.Fits.{same_place};
 ghost use Rattle.loft_form.specs.Form.{maybe, many, fresh};
 ghost use Rattle.loft_form.specs.Reading.{Gives};
+ghost use Rattle.loft_parse.specs.Source.{limits};
 ghost use Rattle.loft_parse.specs.Grammar.{kind, parameter, further, listed, parameters, local, place, ending, end_of, head};
 ghost use Rattle.loft_parse.specs.View.{reads_flat, viewed, itself, with_front, variables_of};
 
 use crate::counts::Counted;
 use crate::cursor::Cursor;
+use crate::limited::SourceLimits;
 use crate::lookahead::{next_is_name, next_is_sign, next_is_word, next_local, next_parameter};
 use crate::token::{counted_word, first_word, name, sign, word};
 use loft_form::Stop;
@@ -21,31 +23,31 @@ use std::alloc::Global;
 /// Reads a kind, which is counted if `what` says so.
 #[tactic(auto, using(crate::proofs::Leaves::counting_begins))]
 fn kind<'a>(what: Option<Counted>, at: Cursor<'a>) -> Result<(Kind, Cursor<'a>), Stop>
-    ensures { Gives itself result (reads_flat (kind what) at.entry) }
+    ensures { Gives itself result (reads_flat limits (kind what) at.entry) }
 {
     if next_is_word(Word::Int, &at) {
-        let at = counted_word(what, Word::Int, at)?;
+        let at = counted_word::<SourceLimits>(what, Word::Int, at)?;
         Ok((Kind::Int, at))
     } else {
-        let at = counted_word(what, Word::Thread, at)?;
+        let at = counted_word::<SourceLimits>(what, Word::Thread, at)?;
         Ok((Kind::Thread, at))
     }
 }
 
 #[tactic(auto, unfolding(crate::specs::Grammar::parameter))]
 fn parameter<'a>(alloc: Global, at: Cursor<'a>) -> Result<(Variable, Cursor<'a>), Stop>
-    ensures { Gives (viewed named_of) result (reads_flat parameter at.entry) }
+    ensures { Gives (viewed named_of) result (reads_flat limits parameter at.entry) }
 {
     let (kind, at) = kind(Some(Counted::Parameter), at)?;
-    let (name, at) = name(alloc, None, at)?;
+    let (name, at) = name::<SourceLimits>(alloc, None, at)?;
     Ok((Variable { kind, name }, at))
 }
 
 #[tactic(auto, unfolding(crate::specs::Grammar::parameter))]
 fn further_parameter<'a>(alloc: Global, at: Cursor<'a>) -> Result<(Variable, Cursor<'a>), Stop>
-    ensures { Gives (viewed named_of) result (reads_flat (further parameter) at.entry) }
+    ensures { Gives (viewed named_of) result (reads_flat limits (further parameter) at.entry) }
 {
-    let at = sign(Sign::Comma, at)?;
+    let at = sign::<SourceLimits>(Sign::Comma, at)?;
     parameter(alloc, at)
 }
 
@@ -55,7 +57,7 @@ fn further_parameters<'a>(
     parameters: Vec<Variable>,
     at: Cursor<'a>,
 ) -> Result<(Vec<Variable>, Cursor<'a>), Stop>
-    ensures { Gives (viewed variables_of) result (with_front (variables_of parameters) (reads_flat (many (further parameter)) at.entry)) }
+    ensures { Gives (viewed variables_of) result (with_front (variables_of parameters) (reads_flat limits (many (further parameter)) at.entry)) }
 {
     let mut parameters = parameters;
     let mut at = at;
@@ -69,7 +71,7 @@ fn further_parameters<'a>(
 
 #[tactic(auto, unfolding(crate::specs::Grammar::parameter))]
 fn listed<'a>(alloc: Global, at: Cursor<'a>) -> Result<(Vec<Variable>, Cursor<'a>), Stop>
-    ensures { Gives (viewed variables_of) result (reads_flat (listed parameter) at.entry) }
+    ensures { Gives (viewed variables_of) result (reads_flat limits (listed parameter) at.entry) }
 {
     let mut parameters = Vec::new(alloc);
     if next_parameter(&at) {
@@ -83,28 +85,29 @@ fn listed<'a>(alloc: Global, at: Cursor<'a>) -> Result<(Vec<Variable>, Cursor<'a
 
 #[tactic(auto, unfolding(crate::specs::Grammar::parameters))]
 fn parameters<'a>(alloc: Global, at: Cursor<'a>) -> Result<(Vec<Variable>, Cursor<'a>), Stop>
-    ensures { Gives (viewed variables_of) result (reads_flat parameters at.entry) }
+    ensures { Gives (viewed variables_of) result (reads_flat limits parameters at.entry) }
 {
-    let at = sign(Sign::Open, at)?;
+    let at = sign::<SourceLimits>(Sign::Open, at)?;
     let (parameters, at) = listed(alloc, at.anew(Counted::Parameter))?;
-    let at = sign(Sign::Close, at)?;
+    let at = sign::<SourceLimits>(Sign::Close, at)?;
     Ok((parameters, at))
 }
 
+/// Reads the declaration of a local variable.
 #[tactic(auto, unfolding(crate::specs::Grammar::local))]
-fn local<'a>(alloc: Global, at: Cursor<'a>) -> Result<(Variable, Cursor<'a>), Stop>
-    ensures { Gives (viewed named_of) result (reads_flat local at.entry) }
+pub fn local<'a>(alloc: Global, at: Cursor<'a>) -> Result<(Variable, Cursor<'a>), Stop>
+    ensures { Gives (viewed named_of) result (reads_flat limits local at.entry) }
 {
-    let (_, at) = first_word(Counted::Local, Word::Local, at)?;
+    let (_, at) = first_word::<SourceLimits>(Counted::Local, Word::Local, at)?;
     let (kind, at) = kind(None, at)?;
-    let (name, at) = name(alloc, None, at)?;
-    let at = sign(Sign::Semicolon, at)?;
+    let (name, at) = name::<SourceLimits>(alloc, None, at)?;
+    let at = sign::<SourceLimits>(Sign::Semicolon, at)?;
     Ok((Variable { kind, name }, at))
 }
 
 /// Reads the local variables of a module.
 pub fn locals<'a>(alloc: Global, at: Cursor<'a>) -> Result<(Vec<Variable>, Cursor<'a>), Stop>
-    ensures { Gives (viewed variables_of) result (reads_flat (fresh Counted.Local (many local)) at.entry) }
+    ensures { Gives (viewed variables_of) result (reads_flat limits (fresh Counted.Local (many local)) at.entry) }
 {
     let mut locals = Vec::new(alloc);
     let mut at = at.anew(Counted::Local);
@@ -118,13 +121,13 @@ pub fn locals<'a>(alloc: Global, at: Cursor<'a>) -> Result<(Vec<Variable>, Curso
 
 #[tactic(auto, unfolding(crate::specs::Grammar::place))]
 fn place<'a>(alloc: Global, at: Cursor<'a>) -> Result<(PlaceName, Cursor<'a>), Stop>
-    ensures { Gives (viewed place_name_of) result (reads_flat place at.entry) }
+    ensures { Gives (viewed place_name_of) result (reads_flat limits place at.entry) }
 {
     if next_is_name(&at) {
-        let (name, at) = name(alloc, None, at)?;
+        let (name, at) = name::<SourceLimits>(alloc, None, at)?;
         Ok((PlaceName::Scheduler(name), at))
     } else {
-        let at = word(Word::Unlinked, at)?;
+        let at = word::<SourceLimits>(Word::Unlinked, at)?;
         Ok((PlaceName::Unlinked, at))
     }
 }
@@ -135,10 +138,10 @@ fn optional_ending<'a>(
     alloc: Global,
     at: Cursor<'a>,
 ) -> Result<(Option<PlaceName>, Cursor<'a>), Stop>
-    ensures { Gives (viewed (option_map place_name_of)) result (reads_flat (maybe ending) at.entry) }
+    ensures { Gives (viewed (option_map place_name_of)) result (reads_flat limits (maybe ending) at.entry) }
 {
     if next_is_word(Word::To, &at) {
-        let at = word(Word::To, at)?;
+        let at = word::<SourceLimits>(Word::To, at)?;
         let (end, at) = place(alloc, at)?;
         Ok((Some(end), at))
     } else {
@@ -176,12 +179,12 @@ fn other_end(begin: &PlaceName, end: Option<PlaceName>) -> Option<PlaceName>
 /// Reads the line of a module up to its local variables.
 #[tactic(auto, unfolding(crate::specs::Grammar::head))]
 pub fn head<'a>(alloc: Global, at: Cursor<'a>) -> Result<(ModuleHead, Cursor<'a>), Stop>
-    ensures { Gives (viewed head_of) result (reads_flat head at.entry) }
+    ensures { Gives (viewed head_of) result (reads_flat limits head at.entry) }
 {
-    let (_, at) = first_word(Counted::Module, Word::Module, at)?;
-    let (name, at) = name(alloc, None, at)?;
+    let (_, at) = first_word::<SourceLimits>(Counted::Module, Word::Module, at)?;
+    let (name, at) = name::<SourceLimits>(alloc, None, at)?;
     let (parameters, at) = parameters(alloc, at)?;
-    let at = word(Word::In, at)?;
+    let at = word::<SourceLimits>(Word::In, at)?;
     let (begin, at) = place(alloc, at)?;
     let (end, at) = optional_ending(alloc, at)?;
     let end = other_end(&begin, end);

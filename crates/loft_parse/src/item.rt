@@ -3,7 +3,7 @@
 ghost use Rattle.loft_tree.specs.View.{declaration_of};
 ghost use Rattle.loft_form.specs.Form.{maybe};
 ghost use Rattle.loft_form.specs.Reading.{Gives};
-ghost use Rattle.loft_parse.specs.Source.{nesting};
+ghost use Rattle.loft_parse.specs.Source.{limits, nesting};
 ghost use Rattle.loft_parse.specs.Grammar.{module_item, scheduler_item, event_item, shared_item, alias, start_item, outside_item, item, program};
 ghost use Rattle.loft_parse.specs.View.{reads, reads_flat, viewed, itself, declarations_of};
 
@@ -12,6 +12,7 @@ use crate::constant_argument::{outer_arguments, signed};
 use crate::counts::Counted;
 use crate::cursor::Cursor;
 use crate::head::{head, locals};
+use crate::limited::SourceLimits;
 use crate::lookahead::{next_is_word, next_item};
 use crate::order::orders;
 use crate::token::{first_word, name, sign, word};
@@ -22,38 +23,38 @@ use loft_tree::{Ident, Item};
 use std::alloc::Global;
 
 /// How many nestings may be open.
-const NESTING: u32 = MAX_NESTING as u32;
+pub const NESTING: u32 = MAX_NESTING as u32;
 
 #[tactic(auto, unfolding(crate::specs::Grammar::module_item), using(crate::proofs::Flat::flat_head))]
 fn module_item<'a>(alloc: Global, at: Cursor<'a>) -> Result<(Item, Cursor<'a>), Stop>
-    ensures { Gives (viewed declaration_of) result (reads nesting module_item at.entry) }
+    ensures { Gives (viewed declaration_of) result (reads limits nesting module_item at.entry) }
 {
     let (head, at) = head(alloc, at)?;
     let (locals, at) = locals(alloc, at)?;
-    let (body, at) = body(alloc, NESTING, at.anew(Counted::Statement))?;
-    let at = word(Word::End, at)?;
+    let (body, at) = body::<SourceLimits>(alloc, NESTING, at.anew(Counted::Statement))?;
+    let at = word::<SourceLimits>(Word::End, at)?;
     Ok((Item::Module { head, locals, body }, at))
 }
 
 #[tactic(auto, unfolding(crate::specs::Grammar::scheduler_item))]
 fn scheduler_item<'a>(alloc: Global, at: Cursor<'a>) -> Result<(Item, Cursor<'a>), Stop>
-    ensures { Gives (viewed declaration_of) result (reads nesting scheduler_item at.entry) }
+    ensures { Gives (viewed declaration_of) result (reads limits nesting scheduler_item at.entry) }
 {
-    let (_, at) = first_word(Counted::Scheduler, Word::Scheduler, at)?;
-    let (name, at) = name(alloc, None, at)?;
-    let at = sign(Sign::Semicolon, at)?;
+    let (_, at) = first_word::<SourceLimits>(Counted::Scheduler, Word::Scheduler, at)?;
+    let (name, at) = name::<SourceLimits>(alloc, None, at)?;
+    let at = sign::<SourceLimits>(Sign::Semicolon, at)?;
     Ok((Item::Scheduler(name), at))
 }
 
 #[tactic(auto, unfolding(crate::specs::Grammar::event_item))]
 fn event_item<'a>(alloc: Global, at: Cursor<'a>) -> Result<(Item, Cursor<'a>), Stop>
-    ensures { Gives (viewed declaration_of) result (reads nesting event_item at.entry) }
+    ensures { Gives (viewed declaration_of) result (reads limits nesting event_item at.entry) }
 {
-    let (_, at) = first_word(Counted::Event, Word::Event, at)?;
-    let (event, at) = name(alloc, None, at)?;
-    let at = word(Word::In, at)?;
-    let (scheduler, at) = name(alloc, None, at)?;
-    let at = sign(Sign::Semicolon, at)?;
+    let (_, at) = first_word::<SourceLimits>(Counted::Event, Word::Event, at)?;
+    let (event, at) = name::<SourceLimits>(alloc, None, at)?;
+    let at = word::<SourceLimits>(Word::In, at)?;
+    let (scheduler, at) = name::<SourceLimits>(alloc, None, at)?;
+    let at = sign::<SourceLimits>(Sign::Semicolon, at)?;
     Ok((
         Item::Event {
             name: event,
@@ -65,15 +66,15 @@ fn event_item<'a>(alloc: Global, at: Cursor<'a>) -> Result<(Item, Cursor<'a>), S
 
 #[tactic(auto, unfolding(crate::specs::Grammar::shared_item, crate::specs::Grammar::signed, crate::specs::Grammar::negative))]
 fn shared_item<'a>(alloc: Global, at: Cursor<'a>) -> Result<(Item, Cursor<'a>), Stop>
-    ensures { Gives (viewed declaration_of) result (reads nesting shared_item at.entry) }
+    ensures { Gives (viewed declaration_of) result (reads limits nesting shared_item at.entry) }
 {
-    let (_, at) = first_word(Counted::Shared, Word::Shared, at)?;
-    let (shared, at) = name(alloc, None, at)?;
-    let at = word(Word::In, at)?;
-    let (scheduler, at) = name(alloc, None, at)?;
-    let at = sign(Sign::Equals, at)?;
+    let (_, at) = first_word::<SourceLimits>(Counted::Shared, Word::Shared, at)?;
+    let (shared, at) = name::<SourceLimits>(alloc, None, at)?;
+    let at = word::<SourceLimits>(Word::In, at)?;
+    let (scheduler, at) = name::<SourceLimits>(alloc, None, at)?;
+    let at = sign::<SourceLimits>(Sign::Equals, at)?;
     let ((_, value), at) = signed(at)?;
-    let at = sign(Sign::Semicolon, at)?;
+    let at = sign::<SourceLimits>(Sign::Semicolon, at)?;
     Ok((
         Item::Shared {
             name: shared,
@@ -87,11 +88,11 @@ fn shared_item<'a>(alloc: Global, at: Cursor<'a>) -> Result<(Item, Cursor<'a>), 
 /// Reads the name of a thread, if `as` stands here.
 #[tactic(auto, unfolding(crate::specs::Grammar::alias))]
 fn optional_alias<'a>(alloc: Global, at: Cursor<'a>) -> Result<(Option<Ident>, Cursor<'a>), Stop>
-    ensures { Gives itself result (reads_flat (maybe alias) at.entry) }
+    ensures { Gives itself result (reads_flat limits (maybe alias) at.entry) }
 {
     if next_is_word(Word::As, &at) {
-        let at = word(Word::As, at)?;
-        let (alias, at) = name(alloc, None, at)?;
+        let at = word::<SourceLimits>(Word::As, at)?;
+        let (alias, at) = name::<SourceLimits>(alloc, None, at)?;
         Ok((Some(alias), at))
     } else {
         Ok((None, at))
@@ -100,15 +101,15 @@ fn optional_alias<'a>(alloc: Global, at: Cursor<'a>) -> Result<(Option<Ident>, C
 
 #[tactic(auto, unfolding(crate::specs::Grammar::start_item, crate::specs::Grammar::alias), using(crate::proofs::Flat::flat_arguments))]
 fn start_item<'a>(alloc: Global, at: Cursor<'a>) -> Result<(Item, Cursor<'a>), Stop>
-    ensures { Gives (viewed declaration_of) result (reads nesting start_item at.entry) }
+    ensures { Gives (viewed declaration_of) result (reads limits nesting start_item at.entry) }
 {
-    let (_, at) = first_word(Counted::Start, Word::Start, at)?;
-    let (scheduler, at) = name(alloc, None, at)?;
-    let at = sign(Sign::Dot, at)?;
-    let (called, at) = name(alloc, None, at)?;
+    let (_, at) = first_word::<SourceLimits>(Counted::Start, Word::Start, at)?;
+    let (scheduler, at) = name::<SourceLimits>(alloc, None, at)?;
+    let at = sign::<SourceLimits>(Sign::Dot, at)?;
+    let (called, at) = name::<SourceLimits>(alloc, None, at)?;
     let (arguments, at) = outer_arguments(alloc, at)?;
     let (name, at) = optional_alias(alloc, at)?;
-    let at = sign(Sign::Semicolon, at)?;
+    let at = sign::<SourceLimits>(Sign::Semicolon, at)?;
     Ok((
         Item::Start {
             scheduler,
@@ -122,19 +123,20 @@ fn start_item<'a>(alloc: Global, at: Cursor<'a>) -> Result<(Item, Cursor<'a>), S
 
 #[tactic(auto, unfolding(crate::specs::Grammar::outside_item))]
 fn outside_item<'a>(alloc: Global, at: Cursor<'a>) -> Result<(Item, Cursor<'a>), Stop>
-    ensures { Gives (viewed declaration_of) result (reads nesting outside_item at.entry) }
+    ensures { Gives (viewed declaration_of) result (reads limits nesting outside_item at.entry) }
 {
-    let (_, at) = first_word(Counted::Client, Word::Outside, at)?;
-    let (name, at) = name(alloc, None, at)?;
-    let at = sign(Sign::OpenBrace, at)?;
+    let (_, at) = first_word::<SourceLimits>(Counted::Client, Word::Outside, at)?;
+    let (name, at) = name::<SourceLimits>(alloc, None, at)?;
+    let at = sign::<SourceLimits>(Sign::OpenBrace, at)?;
     let (orders, at) = orders(alloc, at)?;
-    let at = sign(Sign::CloseBrace, at)?;
+    let at = sign::<SourceLimits>(Sign::CloseBrace, at)?;
     Ok((Item::Outside { name, orders }, at))
 }
 
+/// Reads a declaration.
 #[tactic(auto, unfolding(crate::specs::Grammar::item, crate::specs::Grammar::scheduler_item, crate::specs::Grammar::event_item, crate::specs::Grammar::shared_item, crate::specs::Grammar::module_item, crate::specs::Grammar::head, crate::specs::Grammar::start_item, crate::specs::Grammar::outside_item))]
-fn item<'a>(alloc: Global, at: Cursor<'a>) -> Result<(Item, Cursor<'a>), Stop>
-    ensures { Gives (viewed declaration_of) result (reads nesting item at.entry) }
+pub fn item<'a>(alloc: Global, at: Cursor<'a>) -> Result<(Item, Cursor<'a>), Stop>
+    ensures { Gives (viewed declaration_of) result (reads limits nesting item at.entry) }
 {
     if next_is_word(Word::Scheduler, &at) {
         scheduler_item(alloc, at)
@@ -154,7 +156,7 @@ fn item<'a>(alloc: Global, at: Cursor<'a>) -> Result<(Item, Cursor<'a>), Stop>
 /// Reads the declarations of a program.
 #[tactic(auto, unfolding(crate::specs::Grammar::program))]
 pub fn items<'a>(alloc: Global, at: Cursor<'a>) -> Result<(Vec<Item>, Cursor<'a>), Stop>
-    ensures { Gives (viewed declarations_of) result (reads nesting program at.entry) }
+    ensures { Gives (viewed declarations_of) result (reads limits nesting program at.entry) }
 {
     let mut items = Vec::new(alloc);
     let mut at = at;

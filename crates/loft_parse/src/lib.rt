@@ -1,4 +1,4 @@
-//! The parser: the program that a text is.
+//! The parser: the program that a text is, or the part of one.
 #![tactic(auto)]
 
 mod argument;
@@ -12,10 +12,12 @@ mod expression;
 mod head;
 mod item;
 mod law;
+mod limited;
 mod lookahead;
 mod operator;
 mod optional;
 mod order;
+mod part;
 mod source;
 mod symbol;
 mod thread_statement;
@@ -24,4 +26,7 @@ mod value_statement;
 
 pub use error::ParseError;
 pub use law::{faults_are_local, limits_come_before_stops, texts_are_decided};
+pub use part::{
+    read_declaration, read_expression, read_head, read_local, read_order, read_statement,
+};
 pub use source::parse;

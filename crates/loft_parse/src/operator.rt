@@ -7,6 +7,7 @@ ghost use Rattle.loft_parse.specs.Levels.{operator_at};
 ghost use Rattle.loft_parse.specs.View.{reads_flat, itself};
 
 use crate::cursor::Cursor;
+use crate::limited::Limited;
 use crate::lookahead::{next_equality, next_is_sign};
 use crate::token::sign;
 use loft_form::Stop;
@@ -27,85 +28,88 @@ pub enum Level {
     Disjunction,
 }
 
-fn operator<'a>(
+fn operator<'a, L: Limited>(
     wanted: Sign,
     meaning: BinaryOperator,
     at: Cursor<'a>,
 ) -> Result<(BinaryOperator, Cursor<'a>), Stop>
-    ensures { Gives itself result (reads_flat (operator wanted meaning) at.entry) }
+    ensures { Gives itself result (reads_flat L.limits (operator wanted meaning) at.entry) }
 {
-    let at = sign(wanted, at)?;
+    let at = sign::<L>(wanted, at)?;
     Ok((meaning, at))
 }
 
-fn multiplying<'a>(at: Cursor<'a>) -> Result<(BinaryOperator, Cursor<'a>), Stop>
-    ensures { Gives itself result (reads_flat multiplying at.entry) }
+fn multiplying<'a, L: Limited>(at: Cursor<'a>) -> Result<(BinaryOperator, Cursor<'a>), Stop>
+    ensures { Gives itself result (reads_flat L.limits multiplying at.entry) }
 {
     if next_is_sign(Sign::Star, &at) {
-        operator(Sign::Star, BinaryOperator::Times, at)
+        operator::<L>(Sign::Star, BinaryOperator::Times, at)
     } else if next_is_sign(Sign::Slash, &at) {
-        operator(Sign::Slash, BinaryOperator::Divide, at)
+        operator::<L>(Sign::Slash, BinaryOperator::Divide, at)
     } else {
-        operator(Sign::Percent, BinaryOperator::Remainder, at)
+        operator::<L>(Sign::Percent, BinaryOperator::Remainder, at)
     }
 }
 
-fn adding<'a>(at: Cursor<'a>) -> Result<(BinaryOperator, Cursor<'a>), Stop>
-    ensures { Gives itself result (reads_flat adding at.entry) }
+fn adding<'a, L: Limited>(at: Cursor<'a>) -> Result<(BinaryOperator, Cursor<'a>), Stop>
+    ensures { Gives itself result (reads_flat L.limits adding at.entry) }
 {
     if next_is_sign(Sign::Plus, &at) {
-        operator(Sign::Plus, BinaryOperator::Plus, at)
+        operator::<L>(Sign::Plus, BinaryOperator::Plus, at)
     } else {
-        operator(Sign::Minus, BinaryOperator::Minus, at)
+        operator::<L>(Sign::Minus, BinaryOperator::Minus, at)
     }
 }
 
 #[tactic(auto, unfolding(crate::specs::Grammar::equality))]
-fn equality<'a>(at: Cursor<'a>) -> Result<(BinaryOperator, Cursor<'a>), Stop>
-    ensures { Gives itself result (reads_flat equality at.entry) }
+fn equality<'a, L: Limited>(at: Cursor<'a>) -> Result<(BinaryOperator, Cursor<'a>), Stop>
+    ensures { Gives itself result (reads_flat L.limits equality at.entry) }
 {
     if next_is_sign(Sign::Same, &at) {
-        operator(Sign::Same, BinaryOperator::Equal, at)
+        operator::<L>(Sign::Same, BinaryOperator::Equal, at)
     } else {
-        operator(Sign::Differs, BinaryOperator::Unequal, at)
+        operator::<L>(Sign::Differs, BinaryOperator::Unequal, at)
     }
 }
 
 #[tactic(auto, unfolding(crate::specs::Grammar::ordering))]
-fn ordering<'a>(at: Cursor<'a>) -> Result<(BinaryOperator, Cursor<'a>), Stop>
-    ensures { Gives itself result (reads_flat ordering at.entry) }
+fn ordering<'a, L: Limited>(at: Cursor<'a>) -> Result<(BinaryOperator, Cursor<'a>), Stop>
+    ensures { Gives itself result (reads_flat L.limits ordering at.entry) }
 {
     if next_is_sign(Sign::Less, &at) {
-        operator(Sign::Less, BinaryOperator::Less, at)
+        operator::<L>(Sign::Less, BinaryOperator::Less, at)
     } else if next_is_sign(Sign::LessOrSame, &at) {
-        operator(Sign::LessOrSame, BinaryOperator::LessOrEqual, at)
+        operator::<L>(Sign::LessOrSame, BinaryOperator::LessOrEqual, at)
     } else if next_is_sign(Sign::Greater, &at) {
-        operator(Sign::Greater, BinaryOperator::Greater, at)
+        operator::<L>(Sign::Greater, BinaryOperator::Greater, at)
     } else {
-        operator(Sign::GreaterOrSame, BinaryOperator::GreaterOrEqual, at)
+        operator::<L>(Sign::GreaterOrSame, BinaryOperator::GreaterOrEqual, at)
     }
 }
 
 /// Reads an operator that compares.
 #[tactic(auto, unfolding(crate::specs::Grammar::equality, crate::specs::Grammar::ordering))]
-pub fn comparing<'a>(at: Cursor<'a>) -> Result<(BinaryOperator, Cursor<'a>), Stop>
-    ensures { Gives itself result (reads_flat (equality ∣ ordering) at.entry) }
+pub fn comparing<'a, L: Limited>(at: Cursor<'a>) -> Result<(BinaryOperator, Cursor<'a>), Stop>
+    ensures { Gives itself result (reads_flat L.limits (equality ∣ ordering) at.entry) }
 {
     if next_equality(&at) {
-        equality(at)
+        equality::<L>(at)
     } else {
-        ordering(at)
+        ordering::<L>(at)
     }
 }
 
 /// Reads an operator of the level.
-pub fn operator_at<'a>(level: Level, at: Cursor<'a>) -> Result<(BinaryOperator, Cursor<'a>), Stop>
-    ensures { Gives itself result (reads_flat (operator_at level) at.entry) }
+pub fn operator_at<'a, L: Limited>(
+    level: Level,
+    at: Cursor<'a>,
+) -> Result<(BinaryOperator, Cursor<'a>), Stop>
+    ensures { Gives itself result (reads_flat L.limits (operator_at level) at.entry) }
 {
     match level {
-        Level::Product => multiplying(at),
-        Level::Sum => adding(at),
-        Level::Conjunction => operator(Sign::And, BinaryOperator::And, at),
-        Level::Disjunction => operator(Sign::Or, BinaryOperator::Or, at),
+        Level::Product => multiplying::<L>(at),
+        Level::Sum => adding::<L>(at),
+        Level::Conjunction => operator::<L>(Sign::And, BinaryOperator::And, at),
+        Level::Disjunction => operator::<L>(Sign::Or, BinaryOperator::Or, at),
     }
 }

@@ -8,6 +8,7 @@ ghost use Rattle.loft_parse.specs.View.{reads, viewed};
 
 use crate::cursor::Cursor;
 use crate::expression::whole;
+use crate::limited::Limited;
 use crate::lookahead::{next_expression, next_is_sign, next_is_word};
 use crate::token::{sign, word};
 use loft_form::Stop;
@@ -16,15 +17,15 @@ use loft_tree::Expr;
 use std::alloc::Global;
 
 /// Reads an expression, if one begins here.
-pub fn optional_whole<'a>(
+pub fn optional_whole<'a, L: Limited>(
     alloc: Global,
     deeper: u32,
     at: Cursor<'a>,
 ) -> Result<(Option<Expr>, Cursor<'a>), Stop>
-    ensures { Gives (viewed value_of) result (reads deeper (maybe whole) at.entry) }
+    ensures { Gives (viewed value_of) result (reads L.limits deeper (maybe whole) at.entry) }
 {
     if next_expression(&at) {
-        let (value, at) = whole(alloc, deeper, at)?;
+        let (value, at) = whole::<L>(alloc, deeper, at)?;
         Ok((Some(value), at))
     } else {
         Ok((None, at))
@@ -33,16 +34,16 @@ pub fn optional_whole<'a>(
 
 /// Reads a comma and an expression, if a comma stands here.
 #[tactic(auto, unfolding(crate::specs::Grammar::behind_comma))]
-pub fn optional_value<'a>(
+pub fn optional_value<'a, L: Limited>(
     alloc: Global,
     deeper: u32,
     at: Cursor<'a>,
 ) -> Result<(Option<Expr>, Cursor<'a>), Stop>
-    ensures { Gives (viewed value_of) result (reads deeper (maybe behind_comma) at.entry) }
+    ensures { Gives (viewed value_of) result (reads L.limits deeper (maybe behind_comma) at.entry) }
 {
     if next_is_sign(Sign::Comma, &at) {
-        let at = sign(Sign::Comma, at)?;
-        let (value, at) = whole(alloc, deeper, at)?;
+        let at = sign::<L>(Sign::Comma, at)?;
+        let (value, at) = whole::<L>(alloc, deeper, at)?;
         Ok((Some(value), at))
     } else {
         Ok((None, at))
@@ -51,16 +52,16 @@ pub fn optional_value<'a>(
 
 /// Reads `for` and an expression, if `for` stands here.
 #[tactic(auto, unfolding(crate::specs::Grammar::time_limit))]
-pub fn optional_limit<'a>(
+pub fn optional_limit<'a, L: Limited>(
     alloc: Global,
     deeper: u32,
     at: Cursor<'a>,
 ) -> Result<(Option<Expr>, Cursor<'a>), Stop>
-    ensures { Gives (viewed value_of) result (reads deeper (maybe time_limit) at.entry) }
+    ensures { Gives (viewed value_of) result (reads L.limits deeper (maybe time_limit) at.entry) }
 {
     if next_is_word(Word::For, &at) {
-        let at = word(Word::For, at)?;
-        let (limit, at) = whole(alloc, deeper, at)?;
+        let at = word::<L>(Word::For, at)?;
+        let (limit, at) = whole::<L>(alloc, deeper, at)?;
         Ok((Some(limit), at))
     } else {
         Ok((None, at))

@@ -3,6 +3,7 @@
 ghost use Rattle.loft_tree.specs.View.{order_of};
 ghost use Rattle.loft_form.specs.Form.{maybe, many, fresh};
 ghost use Rattle.loft_form.specs.Reading.{Gives};
+ghost use Rattle.loft_parse.specs.Source.{limits};
 ghost use Rattle.loft_parse.specs.Grammar.{create_order, control_order, value_behind_comma, broadcast_order, order};
 ghost use Rattle.loft_parse.specs.View.{reads_flat, viewed, itself, orders_of};
 
@@ -10,6 +11,7 @@ use crate::constant_argument::{outer_arguments, signed};
 use crate::counts::Counted;
 use crate::cursor::Cursor;
 use crate::event_statement::event_name;
+use crate::limited::SourceLimits;
 use crate::lookahead::{next_control, next_is_sign, next_is_word, next_order};
 use crate::thread_statement::control_word;
 use crate::token::{first_word, name, sign, word};
@@ -20,14 +22,14 @@ use std::alloc::Global;
 
 #[tactic(auto, unfolding(crate::specs::Grammar::create_order))]
 fn create_order<'a>(alloc: Global, at: Cursor<'a>) -> Result<(OutsideOrder, Cursor<'a>), Stop>
-    ensures { Gives (viewed order_of) result (reads_flat create_order at.entry) }
+    ensures { Gives (viewed order_of) result (reads_flat limits create_order at.entry) }
 {
-    let (_, at) = first_word(Counted::Order, Word::Create, at)?;
-    let (scheduler, at) = name(alloc, None, at)?;
-    let at = sign(Sign::Dot, at)?;
-    let (called, at) = name(alloc, None, at)?;
+    let (_, at) = first_word::<SourceLimits>(Counted::Order, Word::Create, at)?;
+    let (scheduler, at) = name::<SourceLimits>(alloc, None, at)?;
+    let at = sign::<SourceLimits>(Sign::Dot, at)?;
+    let (called, at) = name::<SourceLimits>(alloc, None, at)?;
     let (arguments, at) = outer_arguments(alloc, at)?;
-    let at = sign(Sign::Semicolon, at)?;
+    let at = sign::<SourceLimits>(Sign::Semicolon, at)?;
     Ok((
         OutsideOrder::Create {
             scheduler,
@@ -40,13 +42,13 @@ fn create_order<'a>(alloc: Global, at: Cursor<'a>) -> Result<(OutsideOrder, Curs
 
 #[tactic(auto, unfolding(crate::specs::Grammar::control_order))]
 fn control_order<'a>(alloc: Global, at: Cursor<'a>) -> Result<(OutsideOrder, Cursor<'a>), Stop>
-    ensures { Gives (viewed order_of) result (reads_flat control_order at.entry) }
+    ensures { Gives (viewed order_of) result (reads_flat limits control_order at.entry) }
 {
-    let ((_, control), at) = control_word(Counted::Order, at)?;
-    let (thread, at) = name(alloc, None, at)?;
-    let at = word(Word::In, at)?;
-    let (scheduler, at) = name(alloc, None, at)?;
-    let at = sign(Sign::Semicolon, at)?;
+    let ((_, control), at) = control_word::<SourceLimits>(Counted::Order, at)?;
+    let (thread, at) = name::<SourceLimits>(alloc, None, at)?;
+    let at = word::<SourceLimits>(Word::In, at)?;
+    let (scheduler, at) = name::<SourceLimits>(alloc, None, at)?;
+    let at = sign::<SourceLimits>(Sign::Semicolon, at)?;
     Ok((
         OutsideOrder::Control {
             control,
@@ -60,10 +62,10 @@ fn control_order<'a>(alloc: Global, at: Cursor<'a>) -> Result<(OutsideOrder, Cur
 /// Reads a comma and a number, if a comma stands here.
 #[tactic(auto, unfolding(crate::specs::Grammar::value_behind_comma))]
 fn optional_value<'a>(at: Cursor<'a>) -> Result<(Option<i64>, Cursor<'a>), Stop>
-    ensures { Gives itself result (reads_flat (maybe value_behind_comma) at.entry) }
+    ensures { Gives itself result (reads_flat limits (maybe value_behind_comma) at.entry) }
 {
     if next_is_sign(Sign::Comma, &at) {
-        let at = sign(Sign::Comma, at)?;
+        let at = sign::<SourceLimits>(Sign::Comma, at)?;
         let ((_, value), at) = signed(at)?;
         Ok((Some(value), at))
     } else {
@@ -73,18 +75,19 @@ fn optional_value<'a>(at: Cursor<'a>) -> Result<(Option<i64>, Cursor<'a>), Stop>
 
 #[tactic(auto, unfolding(crate::specs::Grammar::broadcast_order))]
 fn broadcast_order<'a>(alloc: Global, at: Cursor<'a>) -> Result<(OutsideOrder, Cursor<'a>), Stop>
-    ensures { Gives (viewed order_of) result (reads_flat broadcast_order at.entry) }
+    ensures { Gives (viewed order_of) result (reads_flat limits broadcast_order at.entry) }
 {
-    let (_, at) = first_word(Counted::Order, Word::Broadcast, at)?;
-    let (event, at) = event_name(alloc, None, at)?;
+    let (_, at) = first_word::<SourceLimits>(Counted::Order, Word::Broadcast, at)?;
+    let (event, at) = event_name::<SourceLimits>(alloc, None, at)?;
     let (value, at) = optional_value(at)?;
-    let at = sign(Sign::Semicolon, at)?;
+    let at = sign::<SourceLimits>(Sign::Semicolon, at)?;
     Ok((OutsideOrder::Broadcast { event, value }, at))
 }
 
+/// Reads an order.
 #[tactic(auto, unfolding(crate::specs::Grammar::order, crate::specs::Grammar::create_order, crate::specs::Grammar::control_order))]
-fn order<'a>(alloc: Global, at: Cursor<'a>) -> Result<(OutsideOrder, Cursor<'a>), Stop>
-    ensures { Gives (viewed order_of) result (reads_flat order at.entry) }
+pub fn order<'a>(alloc: Global, at: Cursor<'a>) -> Result<(OutsideOrder, Cursor<'a>), Stop>
+    ensures { Gives (viewed order_of) result (reads_flat limits order at.entry) }
 {
     if next_is_word(Word::Create, &at) {
         create_order(alloc, at)
@@ -97,7 +100,7 @@ fn order<'a>(alloc: Global, at: Cursor<'a>) -> Result<(OutsideOrder, Cursor<'a>)
 
 /// Reads the orders of a client.
 pub fn orders<'a>(alloc: Global, at: Cursor<'a>) -> Result<(Vec<OutsideOrder>, Cursor<'a>), Stop>
-    ensures { Gives (viewed orders_of) result (reads_flat (fresh Counted.Order (many order)) at.entry) }
+    ensures { Gives (viewed orders_of) result (reads_flat limits (fresh Counted.Order (many order)) at.entry) }
 {
     let mut orders = Vec::new(alloc);
     let mut at = at.anew(Counted::Order);

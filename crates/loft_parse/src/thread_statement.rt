@@ -9,6 +9,7 @@ use crate::argument::arguments;
 use crate::counts::Counted;
 use crate::cursor::Cursor;
 use crate::expression::whole;
+use crate::limited::Limited;
 use crate::lookahead::{next_control, next_is_word};
 use crate::optional::{optional_limit, optional_whole};
 use crate::token::{first_word, name, sign, word};
@@ -18,12 +19,16 @@ use loft_tree::{Control, Stmt};
 use std::alloc::Global;
 
 #[tactic(auto, unfolding(crate::specs::Grammar::cooperate), using(loft_tree::proofs::Trees::statements))]
-fn cooperate<'a>(alloc: Global, deeper: u32, at: Cursor<'a>) -> Result<(Stmt, Cursor<'a>), Stop>
-    ensures { Gives (viewed statement_of) result (reads deeper cooperate at.entry) }
+fn cooperate<'a, L: Limited>(
+    alloc: Global,
+    deeper: u32,
+    at: Cursor<'a>,
+) -> Result<(Stmt, Cursor<'a>), Stop>
+    ensures { Gives (viewed statement_of) result (reads L.limits deeper cooperate at.entry) }
 {
-    let (place, at) = first_word(Counted::Statement, Word::Cooperate, at)?;
-    let (instants, at) = optional_whole(alloc, deeper, at)?;
-    let at = sign(Sign::Semicolon, at)?;
+    let (place, at) = first_word::<L>(Counted::Statement, Word::Cooperate, at)?;
+    let (instants, at) = optional_whole::<L>(alloc, deeper, at)?;
+    let at = sign::<L>(Sign::Semicolon, at)?;
     Ok((
         Stmt::Cooperate {
             at: place,
@@ -34,13 +39,17 @@ fn cooperate<'a>(alloc: Global, deeper: u32, at: Cursor<'a>) -> Result<(Stmt, Cu
 }
 
 #[tactic(auto, unfolding(crate::specs::Grammar::join), using(loft_tree::proofs::Trees::statements))]
-fn join<'a>(alloc: Global, deeper: u32, at: Cursor<'a>) -> Result<(Stmt, Cursor<'a>), Stop>
-    ensures { Gives (viewed statement_of) result (reads deeper join at.entry) }
+fn join<'a, L: Limited>(
+    alloc: Global,
+    deeper: u32,
+    at: Cursor<'a>,
+) -> Result<(Stmt, Cursor<'a>), Stop>
+    ensures { Gives (viewed statement_of) result (reads L.limits deeper join at.entry) }
 {
-    let (place, at) = first_word(Counted::Statement, Word::Join, at)?;
-    let (thread, at) = whole(alloc, deeper, at)?;
-    let (limit, at) = optional_limit(alloc, deeper, at)?;
-    let at = sign(Sign::Semicolon, at)?;
+    let (place, at) = first_word::<L>(Counted::Statement, Word::Join, at)?;
+    let (thread, at) = whole::<L>(alloc, deeper, at)?;
+    let (limit, at) = optional_limit::<L>(alloc, deeper, at)?;
+    let at = sign::<L>(Sign::Semicolon, at)?;
     Ok((
         Stmt::Join {
             at: place,
@@ -52,30 +61,37 @@ fn join<'a>(alloc: Global, deeper: u32, at: Cursor<'a>) -> Result<(Stmt, Cursor<
 }
 
 /// Reads `stop`, `suspend` or `resume`, which begins one more of these, with its place.
-pub fn control_word<'a>(what: Counted, at: Cursor<'a>) -> Result<((u32, Control), Cursor<'a>), Stop>
-    ensures { Gives itself result (reads_flat (control_word what) at.entry) }
+pub fn control_word<'a, L: Limited>(
+    what: Counted,
+    at: Cursor<'a>,
+) -> Result<((u32, Control), Cursor<'a>), Stop>
+    ensures { Gives itself result (reads_flat L.limits (control_word what) at.entry) }
 {
     if next_is_word(Word::Stop, &at) {
-        let (place, at) = first_word(what, Word::Stop, at)?;
+        let (place, at) = first_word::<L>(what, Word::Stop, at)?;
         Ok(((place, Control::Stop), at))
     } else if next_is_word(Word::Suspend, &at) {
-        let (place, at) = first_word(what, Word::Suspend, at)?;
+        let (place, at) = first_word::<L>(what, Word::Suspend, at)?;
         Ok(((place, Control::Suspend), at))
     } else {
-        let (place, at) = first_word(what, Word::Resume, at)?;
+        let (place, at) = first_word::<L>(what, Word::Resume, at)?;
         Ok(((place, Control::Resume), at))
     }
 }
 
 #[tactic(auto, unfolding(crate::specs::Grammar::control), using(loft_tree::proofs::Trees::statements))]
-fn control<'a>(alloc: Global, deeper: u32, at: Cursor<'a>) -> Result<(Stmt, Cursor<'a>), Stop>
-    ensures { Gives (viewed statement_of) result (reads deeper control at.entry) }
+fn control<'a, L: Limited>(
+    alloc: Global,
+    deeper: u32,
+    at: Cursor<'a>,
+) -> Result<(Stmt, Cursor<'a>), Stop>
+    ensures { Gives (viewed statement_of) result (reads L.limits deeper control at.entry) }
 {
-    let ((place, control), at) = control_word(Counted::Statement, at)?;
-    let (thread, at) = whole(alloc, deeper, at)?;
-    let at = word(Word::In, at)?;
-    let (scheduler, at) = name(alloc, None, at)?;
-    let at = sign(Sign::Semicolon, at)?;
+    let ((place, control), at) = control_word::<L>(Counted::Statement, at)?;
+    let (thread, at) = whole::<L>(alloc, deeper, at)?;
+    let at = word::<L>(Word::In, at)?;
+    let (scheduler, at) = name::<L>(alloc, None, at)?;
+    let at = sign::<L>(Sign::Semicolon, at)?;
     Ok((
         Stmt::Control {
             at: place,
@@ -88,13 +104,17 @@ fn control<'a>(alloc: Global, deeper: u32, at: Cursor<'a>) -> Result<(Stmt, Curs
 }
 
 #[tactic(auto, unfolding(crate::specs::Grammar::run), using(loft_tree::proofs::Trees::statements))]
-fn run<'a>(alloc: Global, deeper: u32, at: Cursor<'a>) -> Result<(Stmt, Cursor<'a>), Stop>
-    ensures { Gives (viewed statement_of) result (reads deeper run at.entry) }
+fn run<'a, L: Limited>(
+    alloc: Global,
+    deeper: u32,
+    at: Cursor<'a>,
+) -> Result<(Stmt, Cursor<'a>), Stop>
+    ensures { Gives (viewed statement_of) result (reads L.limits deeper run at.entry) }
 {
-    let (place, at) = first_word(Counted::Statement, Word::Run, at)?;
-    let (called, at) = name(alloc, None, at)?;
-    let (arguments, at) = arguments(alloc, deeper, at)?;
-    let at = sign(Sign::Semicolon, at)?;
+    let (place, at) = first_word::<L>(Counted::Statement, Word::Run, at)?;
+    let (called, at) = name::<L>(alloc, None, at)?;
+    let (arguments, at) = arguments::<L>(alloc, deeper, at)?;
+    let at = sign::<L>(Sign::Semicolon, at)?;
     Ok((
         Stmt::Run {
             at: place,
@@ -106,44 +126,44 @@ fn run<'a>(alloc: Global, deeper: u32, at: Cursor<'a>) -> Result<(Stmt, Cursor<'
 }
 
 #[tactic(auto, unfolding(crate::specs::Grammar::halt), using(loft_tree::proofs::Trees::statements))]
-fn halt<'a>(at: Cursor<'a>) -> Result<(Stmt, Cursor<'a>), Stop>
-    ensures { Gives (viewed statement_of) result (reads_flat halt at.entry) }
+fn halt<'a, L: Limited>(at: Cursor<'a>) -> Result<(Stmt, Cursor<'a>), Stop>
+    ensures { Gives (viewed statement_of) result (reads_flat L.limits halt at.entry) }
 {
-    let (place, at) = first_word(Counted::Statement, Word::Halt, at)?;
-    let at = sign(Sign::Semicolon, at)?;
+    let (place, at) = first_word::<L>(Counted::Statement, Word::Halt, at)?;
+    let at = sign::<L>(Sign::Semicolon, at)?;
     Ok((Stmt::Halt { at: place }, at))
 }
 
 /// Reads a statement about threads.
 #[tactic(auto, unfolding(crate::specs::Grammar::thread_statement, crate::specs::Grammar::cooperate, crate::specs::Grammar::join, crate::specs::Grammar::control, crate::specs::Grammar::run, crate::specs::Grammar::halt), using(loft_tree::proofs::Trees::statements))]
-pub fn thread_statement<'a>(
+pub fn thread_statement<'a, L: Limited>(
     alloc: Global,
     deeper: u32,
     at: Cursor<'a>,
 ) -> Result<(Stmt, Cursor<'a>), Stop>
-    ensures { Gives (viewed statement_of) result (reads deeper thread_statement at.entry) }
+    ensures { Gives (viewed statement_of) result (reads L.limits deeper thread_statement at.entry) }
 {
     if next_is_word(Word::Cooperate, &at) {
-        cooperate(alloc, deeper, at)
+        cooperate::<L>(alloc, deeper, at)
     } else if next_is_word(Word::Join, &at) {
-        join(alloc, deeper, at)
+        join::<L>(alloc, deeper, at)
     } else if next_control(&at) {
-        control(alloc, deeper, at)
+        control::<L>(alloc, deeper, at)
     } else if next_is_word(Word::Run, &at) {
-        run(alloc, deeper, at)
+        run::<L>(alloc, deeper, at)
     } else {
-        halt(at)
+        halt::<L>(at)
     }
 }
 
 /// Reads a `link`.
 #[tactic(auto, unfolding(crate::specs::Grammar::link), using(loft_tree::proofs::Trees::statements))]
-pub fn link<'a>(alloc: Global, at: Cursor<'a>) -> Result<(Stmt, Cursor<'a>), Stop>
-    ensures { Gives (viewed statement_of) result (reads_flat link at.entry) }
+pub fn link<'a, L: Limited>(alloc: Global, at: Cursor<'a>) -> Result<(Stmt, Cursor<'a>), Stop>
+    ensures { Gives (viewed statement_of) result (reads_flat L.limits link at.entry) }
 {
-    let (place, at) = first_word(Counted::Statement, Word::Link, at)?;
-    let (scheduler, at) = name(alloc, None, at)?;
-    let at = sign(Sign::Semicolon, at)?;
+    let (place, at) = first_word::<L>(Counted::Statement, Word::Link, at)?;
+    let (scheduler, at) = name::<L>(alloc, None, at)?;
+    let at = sign::<L>(Sign::Semicolon, at)?;
     Ok((
         Stmt::Link {
             at: place,
@@ -155,10 +175,10 @@ pub fn link<'a>(alloc: Global, at: Cursor<'a>) -> Result<(Stmt, Cursor<'a>), Sto
 
 /// Reads an `unlink`.
 #[tactic(auto, unfolding(crate::specs::Grammar::unlink), using(loft_tree::proofs::Trees::statements))]
-pub fn unlink<'a>(at: Cursor<'a>) -> Result<(Stmt, Cursor<'a>), Stop>
-    ensures { Gives (viewed statement_of) result (reads_flat unlink at.entry) }
+pub fn unlink<'a, L: Limited>(at: Cursor<'a>) -> Result<(Stmt, Cursor<'a>), Stop>
+    ensures { Gives (viewed statement_of) result (reads_flat L.limits unlink at.entry) }
 {
-    let (place, at) = first_word(Counted::Statement, Word::Unlink, at)?;
-    let at = sign(Sign::Semicolon, at)?;
+    let (place, at) = first_word::<L>(Counted::Statement, Word::Unlink, at)?;
+    let at = sign::<L>(Sign::Semicolon, at)?;
     Ok((Stmt::Unlink { at: place }, at))
 }

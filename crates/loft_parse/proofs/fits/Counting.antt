@@ -1,10 +1,9 @@
 -- What was counted, and what is due.
-use Rattle.std.proofs.Common.{◌≡◌, ℕ, ◌+◌, ◌≤◌, Bool, true, false, cond, ◌==◌, List, [], ◌∷◌, ◌++◌, refl, sym, ap, ◌∙◌, subst, arith}
-use Rattle.loft_form.specs.Form.{State}
-use Rattle.loft_form.specs.Spells.{Adds, Pays, owing, from_zero}
-use Rattle.loft_parse.specs.Counts.{most, number, put}
+use Rattle.std.proofs.Common.{◌≡◌, ℕ, ◌+◌, ◌≤◌, Bool, true, false, cond, ◌==◌, List, [], ◌∷◌, ◌++◌, Option, Some, None, refl, sym, ap, ◌∙◌, subst, arith}
+use Rattle.loft_form.specs.Form.{Limits, State}
+use Rattle.loft_form.specs.Spells.{Below, Adds, Pays, owing, from_zero}
+use Rattle.loft_parse.specs.Counts.{number, put, none}
 use Rattle.loft_parse.specs.Language.{Language}
-use Rattle.loft_parse.specs.Source.{limits}
 use Rattle.loft_parse.specs.declared.counts.Counted.{Counted}
 use Rattle.loft_parse.specs.declared.counts.Counted.TheVariants.{Scheduler, Event, Shared, Module, Start, Client, Order, Parameter, Local, Statement, Operand, Argument, Choice}
 use Rattle.loft_parse.specs.declared.counts.Counts.{Counts}
@@ -80,13 +79,26 @@ number_more v w c =
     number_put v w (number v c + 1) c
     ∙ by_same v w (λ b. cond b (number v c + 1) (number w c) ≡ number w c + one b) (λ e. ap (λ u. number u c + 1) e) (omega arith)
 
--- no count is above its limit
-pub record Within (c : Counts) : Type 0 where
-  pub each : (w : Counted) → number w c ≤ most w
+-- n is at most the limit, if there is one
+abbrev pub UpTo : Option ℕ → ℕ → Type 0
+UpTo None n = Unit {0}
+UpTo (Some limit) n = n ≤ limit
 
-within_put : (v : Counted) (n : ℕ) (c : Counts) → n ≤ most v → Within c → Within (put v n c)
-within_put v n c few h = record {
-  each = λ w. rw number_put (by_same v w (λ b. cond b n (number w c) ≤ most w) (λ e. subst (λ u. n ≤ most u) e few) (h.each w));
+up_to_none : (o : Option ℕ) → UpTo o 0
+up_to_none None = tt
+up_to_none (Some limit) = omega arith
+
+up_to_more : (o : Option ℕ) (n : ℕ) → Below o n → UpTo o (n + 1)
+up_to_more None n h = tt
+up_to_more (Some limit) n h = omega (arith, h)
+
+-- no count is above its limit
+pub record Within (lim : Limits Language) (c : Counts) : Type 0 where
+  pub each : (w : Counted) → UpTo (lim.most w) (number w c)
+
+within_put : (lim : Limits Language) (v : Counted) (n : ℕ) (c : Counts) → UpTo (lim.most v) n → Within lim c → Within lim (put v n c)
+within_put lim v n c few h = record {
+  each = λ w. rw number_put (by_same v w (λ b. UpTo (lim.most w) (cond b n (number w c))) (λ e. subst (λ u. UpTo (lim.most u) n) e few) (h.each w));
 }
 
 -- how many of these are due
@@ -102,22 +114,22 @@ owed_more w v (u ∷ us) = omega (arith, owed_more w v us)
 abbrev pub total : Counted → State Language → ℕ
 total w c = number w c.counts + owed w c.due
 
-adds_number : (w : Counted) (vs : List Counted) (c d : Counts) → Adds limits vs c d → number w d ≡ number w c + owed w vs
-adds_number w [] c d h = let e : number w d ≡ number w c = ap (number w) h in omega arith
-adds_number w (v ∷ vs) c d h = omega (arith, adds_number w vs _ d h.1, number_more v w c)
+adds_number : (lim : Limits Language) (w : Counted) (vs : List Counted) (c d : Counts) → Adds lim vs c d → number w d ≡ number w c + owed w vs
+adds_number lim w [] c d h = let e : number w d ≡ number w c = ap (number w) h in omega arith
+adds_number lim w (v ∷ vs) c d h = omega (arith, adds_number lim w vs _ d h.1, number_more v w c)
 
-adds_within : (vs : List Counted) (c d : Counts) → Adds limits vs c d → Within c → Within d
-adds_within [] c d h within = subst Within (sym h) within
-adds_within (v ∷ vs) c d h within = adds_within vs _ d h.1 (within_put v (number v c + 1) c (omega (arith, h.0)) within)
+adds_within : (lim : Limits Language) (vs : List Counted) (c d : Counts) → Adds lim vs c d → Within lim c → Within lim d
+adds_within lim [] c d h within = subst (Within lim) (sym h) within
+adds_within lim (v ∷ vs) c d h within = adds_within lim vs _ d h.1 (within_put lim v (number v c + 1) c (up_to_more (lim.most v) (number v c) h.0) within)
 
 -- nothing that is paid is lost
-pub pays_total : (w : Counted) (c d : State Language) → Pays limits c d → total w d ≡ total w c
-pays_total w c d h =
+pub pays_total : (lim : Limits Language) (w : Counted) (c d : State Language) → Pays lim c d → total w d ≡ total w c
+pays_total lim w c d h =
     let e : owed w d.due ≡ 0 = ap (owed w) h.1 in
-    omega (arith, adds_number w c.due c.counts d.counts h.0)
+    omega (arith, adds_number lim w c.due c.counts d.counts h.0)
 
-pub pays_within : (c d : State Language) → Pays limits c d → Within c.counts → Within d.counts
-pays_within c d h within = adds_within c.due c.counts d.counts h.0 within
+pub pays_within : (lim : Limits Language) (c d : State Language) → Pays lim c d → Within lim c.counts → Within lim d.counts
+pays_within lim c d h within = adds_within lim c.due c.counts d.counts h.0 within
 
 pub owing_total : (v w : Counted) (c : State Language) → total w (owing v c) ≡ total w c + one (same v w)
 owing_total v w c = omega (arith, owed_more w v c.due)
@@ -127,5 +139,24 @@ zero_total v w c other =
     let e : number w (put v 0 c.counts) ≡ number w c.counts = rw (number_put, other) refl in
     omega arith
 
-pub zero_within : (v : Counted) (c : State Language) → Within c.counts → Within (from_zero v c).counts
-zero_within v c within = within_put v 0 c.counts (omega arith) within
+pub zero_within : (lim : Limits Language) (v : Counted) (c : State Language) → Within lim c.counts → Within lim (from_zero v c).counts
+zero_within lim v c within = within_put lim v 0 c.counts (up_to_none (lim.most v)) within
+
+within_nothing : (w : Counted) → number w none ≡ 0
+within_nothing Scheduler = refl
+within_nothing Event = refl
+within_nothing Shared = refl
+within_nothing Module = refl
+within_nothing Start = refl
+within_nothing Client = refl
+within_nothing Order = refl
+within_nothing Parameter = refl
+within_nothing Local = refl
+within_nothing Statement = refl
+within_nothing Operand = refl
+within_nothing Argument = refl
+within_nothing Choice = refl
+
+-- where nothing is counted, no count is above its limit
+pub none_within : (lim : Limits Language) → Within lim none
+none_within lim = record { each = λ w. subst (UpTo (lim.most w)) (sym (within_nothing w)) (up_to_none (lim.most w)) }

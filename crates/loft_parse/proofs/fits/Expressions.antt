@@ -1,24 +1,24 @@
 -- Expressions that are spelled keep the limits.
 use Rattle.std.proofs.Common.{◌≡◌, ℕ, zero, suc, ◌+◌, ◌≤◌, Bool, true, false, nat_lt, nat_le, ◌==◌, ◌&&◌, ◌||◌, List, [], ◌∷◌, Option, Some, None, refl, sym, subst, arith}
 use Rattle.std.proofs.lemmas.Bool.Decides.{nat_tests}
-use Rattle.loft_form.specs.Form.{inside}
+use Rattle.loft_form.specs.Form.{inside, Limits}
 use Rattle.loft_tree.specs.declared.kinds.BinaryOperator.{BinaryOperator}
 use Rattle.loft_tree.specs.declared.kinds.Builtin.{Builtin}
 use Rattle.loft_tree.specs.Source.{Expression, Special, Binary}
 use Rattle.loft_tree.specs.Levels.{operator_level, level, left_bracketed, right_bracketed, sign_bracketed, in_brackets, nesting, operands}
 use Rattle.loft_tree.specs.Fits.{Each, IfThere, NameFits, NumberFits, WordsFit, ExpressionFits}
-use Rattle.loft_parse.specs.Language.{Bracketed, Signed}
+use Rattle.loft_parse.specs.Language.{Language, Bracketed, Signed}
 use Rattle.loft_parse.specs.Grammar.{name, numeral, chain, comparison_of, builtin, bracketed, atom, negated, inverted, unary, factor, term, summand, sum, equality, ordering, compared, comparison, conjunct, conjunction, disjunct, expression, whole}
 use Rattle.loft_parse.specs.declared.counts.Counted.TheVariants.{Operand}
 use Rattle.loft_parse.proofs.fits.Forms.{settles}
-use Rattle.loft_parse.proofs.fits.Parts.{Gives, Weighs, gives_any, gives_leaf, ◌▸◌, ◌or◌, gives_made, gives_counted, gives_fresh, gives_maybe, gives_many, gives_both, gives_so, gives_inside_none, gives_inside, weighs_none, weighs_one, weighs_then, weighs_either, weighs_made, weights, weighs_many, weighs_maybe, weighs_so, weighs_inside_none, weighs_inside, gives_few}
+use Rattle.loft_parse.proofs.fits.Parts.{Gives, Weighs, IsLimited, gives_any, gives_leaf, ◌▸◌, ◌or◌, gives_made, gives_counted, gives_fresh, gives_maybe, gives_many, gives_both, gives_so, gives_inside_none, gives_inside, weighs_none, weighs_one, weighs_then, weighs_either, weighs_made, weights, weighs_many, weighs_maybe, weighs_so, weighs_inside_none, weighs_inside, gives_few}
 use Rattle.loft_parse.proofs.fits.Rules.{expression_rules}
 use Rattle.loft_parse.proofs.fits.Symbols.{name_of_fits, value_of_fits}
 
-pub name_fits : {n : ℕ} → Gives n name NameFits
+pub name_fits : {lim : Limits Language} {n : ℕ} → Gives lim n name NameFits
 name_fits = gives_leaf (λ s h is. name_of_fits s.what is h)
 
-pub numeral_fits : {n : ℕ} → Gives n numeral (λ x. NumberFits x.1)
+pub numeral_fits : {lim : Limits Language} {n : ℕ} → Gives lim n numeral (λ x. NumberFits x.1)
 numeral_fits = gives_leaf (λ s h is. value_of_fits s.what is h)
 
 -- ---- nestings
@@ -94,22 +94,22 @@ InBrackets n e = WordsFit e × (nesting e + 1 ≤ n)
 abbrev BehindSign : ℕ → Expression → Type 0
 BehindSign n e = WordsFit e × (in_brackets (sign_bracketed e) (nesting e) + 1 ≤ n)
 
-module _ {n : ℕ} (bracketed_fits : Gives n (inside Bracketed) (InBrackets n)) (signed_fits : Gives n (inside Signed) (BehindSign n)) where
+module _ {lim : Limits Language} {n : ℕ} (bracketed_fits : Gives lim n (inside Bracketed) (InBrackets n)) (signed_fits : Gives lim n (inside Signed) (BehindSign n)) where
   special_binds : (at : ℕ) (special : Builtin) → Binds n 7 (Special at special)
   special_binds at special = record { words = tt; nests = omega arith }
 
-  builtin_binds : Gives n builtin (Binds n 7)
+  builtin_binds : Gives lim n builtin (Binds n 7)
   unfolding builtin
   builtin_binds =
       gives_made gives_any (λ at _. special_binds at _)
       or gives_made gives_any (λ at _. special_binds at _)
       or gives_made gives_any (λ at _. special_binds at _)
 
-  bracketed_binds : Gives n bracketed (Binds n 7)
+  bracketed_binds : Gives lim n bracketed (Binds n 7)
   unfolding bracketed
   bracketed_binds = gives_made (gives_any ▸ bracketed_fits ▸ gives_any) (λ x h. record { words = h.1.0.0; nests = at_most_bracketed _ (nesting x.1.0) n h.1.0.1 })
 
-  atom_binds : Gives n atom (Binds n 7)
+  atom_binds : Gives lim n atom (Binds n 7)
   unfolding atom
   atom_binds =
       gives_made (gives_counted numeral_fits) (λ x h. record { words = h; nests = omega arith })
@@ -117,62 +117,62 @@ module _ {n : ℕ} (bracketed_fits : Gives n (inside Bracketed) (InBrackets n)) 
       or builtin_binds
       or bracketed_binds
 
-  negated_binds : Gives n negated (Binds n 6)
+  negated_binds : Gives lim n negated (Binds n 6)
   unfolding negated
   negated_binds = gives_made (gives_any ▸ signed_fits) (λ x h. record { words = h.1.0; nests = h.1.1 })
 
-  inverted_binds : Gives n inverted (Binds n 6)
+  inverted_binds : Gives lim n inverted (Binds n 6)
   unfolding inverted
   inverted_binds = gives_made (gives_any ▸ signed_fits) (λ x h. record { words = h.1.0; nests = h.1.1 })
 
-  unary_binds : Gives n unary (Binds n 6)
+  unary_binds : Gives lim n unary (Binds n 6)
   unfolding unary
   unary_binds = negated_binds or inverted_binds or gives_so atom_binds (λ e h. binds_lower 6 7 e (omega arith) h)
 
-  factor_binds : Gives n factor (λ x. (operator_level x.0 ≡ 5) × Binds n 6 x.1)
+  factor_binds : Gives lim n factor (λ x. (operator_level x.0 ≡ 5) × Binds n 6 x.1)
   unfolding factor
   factor_binds = (gives_made gives_any (λ _ _. refl) or gives_made gives_any (λ _ _. refl) or gives_made gives_any (λ _ _. refl)) ▸ unary_binds
 
-  term_binds : Gives n term (Binds n 5)
+  term_binds : Gives lim n term (Binds n 5)
   unfolding term
   term_binds = gives_made (unary_binds ▸ gives_many factor_binds) (λ x h. chain_binds 5 refl x.0 x.1 (binds_lower 5 6 x.0 (omega arith) h.0) h.1)
 
-  summand_binds : Gives n summand (λ x. (operator_level x.0 ≡ 4) × Binds n 5 x.1)
+  summand_binds : Gives lim n summand (λ x. (operator_level x.0 ≡ 4) × Binds n 5 x.1)
   unfolding summand
   summand_binds = (gives_made gives_any (λ _ _. refl) or gives_made gives_any (λ _ _. refl)) ▸ term_binds
 
-  sum_binds : Gives n sum (Binds n 4)
+  sum_binds : Gives lim n sum (Binds n 4)
   unfolding sum
   sum_binds = gives_made (term_binds ▸ gives_many summand_binds) (λ x h. chain_binds 4 refl x.0 x.1 (binds_lower 4 5 x.0 (omega arith) h.0) h.1)
 
-  compared_binds : Gives n compared (λ x. (operator_level x.0 ≡ 3) × Binds n 4 x.1)
+  compared_binds : Gives lim n compared (λ x. (operator_level x.0 ≡ 3) × Binds n 4 x.1)
   unfolding compared equality ordering
   compared_binds =
       ((gives_made gives_any (λ _ _. refl) or gives_made gives_any (λ _ _. refl))
       or gives_made gives_any (λ _ _. refl) or gives_made gives_any (λ _ _. refl) or gives_made gives_any (λ _ _. refl) or gives_made gives_any (λ _ _. refl))
       ▸ sum_binds
 
-  comparison_binds : Gives n comparison (Binds n 3)
+  comparison_binds : Gives lim n comparison (Binds n 3)
   unfolding comparison
   comparison_binds = gives_made (sum_binds ▸ gives_maybe compared_binds) (λ x h. comparison_of_binds x.0 x.1 h.0 h.1)
 
-  conjunct_binds : Gives n conjunct (λ x. (operator_level x.0 ≡ 2) × Binds n 3 x.1)
+  conjunct_binds : Gives lim n conjunct (λ x. (operator_level x.0 ≡ 2) × Binds n 3 x.1)
   unfolding conjunct
   conjunct_binds = gives_made gives_any (λ _ _. refl) ▸ comparison_binds
 
-  conjunction_binds : Gives n conjunction (Binds n 2)
+  conjunction_binds : Gives lim n conjunction (Binds n 2)
   unfolding conjunction
   conjunction_binds = gives_made (comparison_binds ▸ gives_many conjunct_binds) (λ x h. chain_binds 2 refl x.0 x.1 (binds_lower 2 3 x.0 (omega arith) h.0) h.1)
 
-  disjunct_binds : Gives n disjunct (λ x. (operator_level x.0 ≡ 1) × Binds n 2 x.1)
+  disjunct_binds : Gives lim n disjunct (λ x. (operator_level x.0 ≡ 1) × Binds n 2 x.1)
   unfolding disjunct
   disjunct_binds = gives_made gives_any (λ _ _. refl) ▸ conjunction_binds
 
-  expression_binds : Gives n expression (Binds n 1)
+  expression_binds : Gives lim n expression (Binds n 1)
   unfolding expression
   expression_binds = gives_made (conjunction_binds ▸ gives_many disjunct_binds) (λ x h. chain_binds 1 refl x.0 x.1 (binds_lower 1 2 x.0 (omega arith) h.0) h.1)
 
-insides_bind : (n : ℕ) → Gives n (inside Bracketed) (InBrackets n) × Gives n (inside Signed) (BehindSign n)
+insides_bind : {lim : Limits Language} (n : ℕ) → Gives lim n (inside Bracketed) (InBrackets n) × Gives lim n (inside Signed) (BehindSign n)
 insides_bind zero = (gives_inside_none Bracketed (InBrackets 0), gives_inside_none Signed (BehindSign 0))
 insides_bind (suc n) =
     let h = insides_bind n in (
@@ -194,72 +194,72 @@ comparison_of_operands : (e : Expression) (x : Option (BinaryOperator × Express
 comparison_of_operands e None = omega arith
 comparison_of_operands e (Some x) = omega arith
 
-module _ {n : ℕ} (bracketed_weighs : Weighs n Operand (inside Bracketed) operands) (signed_weighs : Weighs n Operand (inside Signed) operands) where
-  builtin_operands : Weighs n Operand builtin operands
+module _ {lim : Limits Language} {n : ℕ} (bracketed_weighs : Weighs lim n Operand (inside Bracketed) operands) (signed_weighs : Weighs lim n Operand (inside Signed) operands) where
+  builtin_operands : Weighs lim n Operand builtin operands
   unfolding builtin
   builtin_operands =
       weighs_either (weighs_made (weighs_one refl refl) (λ at. omega arith))
       (weighs_either (weighs_made (weighs_one refl refl) (λ at. omega arith)) (weighs_made (weighs_one refl refl) (λ at. omega arith)))
 
-  bracketed_operands : Weighs n Operand bracketed operands
+  bracketed_operands : Weighs lim n Operand bracketed operands
   unfolding bracketed
   bracketed_operands = weighs_made (weighs_then (weighs_none refl) (weighs_then bracketed_weighs (weighs_none refl))) (λ x. omega arith)
 
-  atom_operands : Weighs n Operand atom operands
+  atom_operands : Weighs lim n Operand atom operands
   unfolding atom
   atom_operands =
       weighs_either (weighs_made (weighs_one refl refl) (λ x. omega arith))
       (weighs_either (weighs_made (weighs_one refl refl) (λ x. omega arith)) (weighs_either builtin_operands bracketed_operands))
 
-  unary_operands : Weighs n Operand unary operands
+  unary_operands : Weighs lim n Operand unary operands
   unfolding unary negated inverted
   unary_operands =
       weighs_either (weighs_made (weighs_then (weighs_none refl) signed_weighs) (λ x. omega arith))
       (weighs_either (weighs_made (weighs_then (weighs_none refl) signed_weighs) (λ x. omega arith)) atom_operands)
 
-  factor_operands : Weighs n Operand factor (λ x. operands x.1)
+  factor_operands : Weighs lim n Operand factor (λ x. operands x.1)
   unfolding factor
   factor_operands = weighs_so (weighs_then (weighs_none refl) unary_operands) (λ x. omega arith)
 
-  term_operands : Weighs n Operand term operands
+  term_operands : Weighs lim n Operand term operands
   unfolding term
   term_operands = weighs_made (weighs_then unary_operands (weighs_many factor_operands)) (λ x. chain_operands x.0 x.1)
 
-  summand_operands : Weighs n Operand summand (λ x. operands x.1)
+  summand_operands : Weighs lim n Operand summand (λ x. operands x.1)
   unfolding summand
   summand_operands = weighs_so (weighs_then (weighs_none refl) term_operands) (λ x. omega arith)
 
-  sum_operands : Weighs n Operand sum operands
+  sum_operands : Weighs lim n Operand sum operands
   unfolding sum
   sum_operands = weighs_made (weighs_then term_operands (weighs_many summand_operands)) (λ x. chain_operands x.0 x.1)
 
-  compared_operands : Weighs n Operand compared (λ x. operands x.1)
+  compared_operands : Weighs lim n Operand compared (λ x. operands x.1)
   unfolding compared equality ordering
   compared_operands = weighs_so (weighs_then (weighs_none refl) sum_operands) (λ x. omega arith)
 
-  comparison_operands : Weighs n Operand comparison operands
+  comparison_operands : Weighs lim n Operand comparison operands
   unfolding comparison
   comparison_operands =
       weighs_made (weighs_then sum_operands (weighs_maybe refl (λ x. omega arith) compared_operands))
       (λ x. comparison_of_operands x.0 x.1)
 
-  conjunct_operands : Weighs n Operand conjunct (λ x. operands x.1)
+  conjunct_operands : Weighs lim n Operand conjunct (λ x. operands x.1)
   unfolding conjunct
   conjunct_operands = weighs_so (weighs_then (weighs_none refl) comparison_operands) (λ x. omega arith)
 
-  conjunction_operands : Weighs n Operand conjunction operands
+  conjunction_operands : Weighs lim n Operand conjunction operands
   unfolding conjunction
   conjunction_operands = weighs_made (weighs_then comparison_operands (weighs_many conjunct_operands)) (λ x. chain_operands x.0 x.1)
 
-  disjunct_operands : Weighs n Operand disjunct (λ x. operands x.1)
+  disjunct_operands : Weighs lim n Operand disjunct (λ x. operands x.1)
   unfolding disjunct
   disjunct_operands = weighs_so (weighs_then (weighs_none refl) conjunction_operands) (λ x. omega arith)
 
-  expression_operands : Weighs n Operand expression operands
+  expression_operands : Weighs lim n Operand expression operands
   unfolding expression
   expression_operands = weighs_made (weighs_then conjunction_operands (weighs_many disjunct_operands)) (λ x. chain_operands x.0 x.1)
 
-insides_operands : (n : ℕ) → Weighs n Operand (inside Bracketed) operands × Weighs n Operand (inside Signed) operands
+insides_operands : {lim : Limits Language} (n : ℕ) → Weighs lim n Operand (inside Bracketed) operands × Weighs lim n Operand (inside Signed) operands
 insides_operands zero = (weighs_inside_none Operand Bracketed operands, weighs_inside_none Operand Signed operands)
 insides_operands (suc n) =
     let h = insides_operands n in
@@ -270,9 +270,9 @@ unfolding expression_rules
 expression_settles = refl
 
 -- An expression that is no part of another keeps the limits.
-pub whole_fits : (n : ℕ) → Gives n whole (ExpressionFits n)
+pub whole_fits : {lim : Limits Language} → IsLimited lim Operand → (n : ℕ) → Gives lim n whole (ExpressionFits n)
 unfolding whole
-whole_fits n =
+whole_fits limited n =
     let binds = insides_bind n in
     let counts = insides_operands n in
-    gives_fresh (gives_so (gives_both (expression_binds binds.0 binds.1) (gives_few (expression_operands counts.0 counts.1) expression_settles)) (λ e h. record { words = h.0.words; nests = unbracketed _ (nesting e) n h.0.nests; few = h.1 }))
+    gives_fresh (gives_so (gives_both (expression_binds binds.0 binds.1) (gives_few limited (expression_operands counts.0 counts.1) expression_settles)) (λ e h. record { words = h.0.words; nests = unbracketed _ (nesting e) n h.0.nests; few = h.1 }))

@@ -1,13 +1,12 @@
 -- What every form of the grammar keeps: how much it counts, that no count passes its limit, and that what is due is paid.
 use Rattle.std.proofs.Common.{◌≡◌, ℕ, zero, suc, ◌+◌, ◌≤◌, Bool, true, false, not, ◌&&◌, ◌||◌, List, [], ◌∷◌, Option, Some, None, refl, sym, subst, arith}
 use Rattle.std.proofs.Common.{⊎_elim}
-use Rattle.loft_form.specs.Form.{leaf, ◌▹◌, ◌∣◌, maybe, many, inside, counted, fresh, made, State}
+use Rattle.loft_form.specs.Form.{leaf, ◌▹◌, ◌∣◌, maybe, many, inside, counted, fresh, made, Limits, State}
 use Rattle.loft_form.specs.Spells.{Spelling, SpellsEach, SpellsMaybe, Spells, SpellsRule, owing, from_zero}
 use Rattle.loft_form.proofs.Disjoint.{and_true}
 use Rattle.loft_lex.specs.Symbol.{Symbol}
 use Rattle.loft_parse.specs.Grammar.{Form, rules}
 use Rattle.loft_parse.specs.Language.{Language, Rule, Bracketed, Signed, Conditional, Looped, Meaning}
-use Rattle.loft_parse.specs.Source.{limits}
 use Rattle.loft_parse.specs.declared.counts.Counted.{Counted}
 use Rattle.loft_parse.specs.declared.counts.Counted.TheVariants.{Scheduler, Event, Shared, Module, Start, Client, Order, Parameter, Local, Statement, Operand, Argument, Choice}
 use Rattle.loft_parse.proofs.fits.Counting.{same, one, total, Within, pays_total, pays_within, owing_total, zero_total, zero_within}
@@ -90,13 +89,13 @@ abbrev AtMost : Counted → State Language → State Language → Type 0
 AtMost w c d = total w c ≤ total w d
 
 -- where no count was past its limit before, none is behind
-abbrev Keeps : State Language → State Language → Type 0
-Keeps c d = Within c.counts → Within d.counts
+abbrev Keeps : Limits Language → State Language → State Language → Type 0
+Keeps lim c d = Within lim c.counts → Within lim d.counts
 
-module _ (n : ℕ) (Inner : (r : Rule) → Spelling Language (Meaning r)) where
+module _ (lim : Limits Language) (n : ℕ) (Inner : (r : Rule) → Spelling Language (Meaning r)) where
   module _ (w : Counted) (inner : (r : Rule) (ss : List Symbol) (c : State Language) (x : Meaning r) (d : State Language) → rule_spares w r ≡ true → Inner r ss c x d → total w c ≤ total w d) where
-    form_counts : {A : Type 0} (f : Form A) (ss : List Symbol) (c : State Language) (x : A) (d : State Language) → spares w f ≡ true → Spells limits n Inner f ss c x d → total w c + one (counts w f) ≤ total w d
-    form_counts (leaf passes value opens) ss c x d spared h = omega (arith, pays_total w c d h.5)
+    form_counts : {A : Type 0} (f : Form A) (ss : List Symbol) (c : State Language) (x : A) (d : State Language) → spares w f ≡ true → Spells lim n Inner f ss c x d → total w c + one (counts w f) ≤ total w d
+    form_counts (leaf passes value opens) ss c x d spared h = omega (arith, pays_total lim w c d h.5)
     form_counts (f ▹ g) ss c x d spared h =
         let both = and_true (spares w f) (spares w g) spared in
         or_counts (counts w f) (counts w g) (total w c) (total w h.2) (total w d)
@@ -107,10 +106,10 @@ module _ (n : ℕ) (Inner : (r : Rule) → Spelling Language (Meaning r)) where
         (λ k. left_counts (counts w f) (counts w g) (total w c) (total w d) (form_counts f ss c x d both.0 k))
         (λ k. right_counts (counts w f) (counts w g) (total w c) (total w d) (form_counts g ss c x d both.1 k)) h
     form_counts (maybe f) ss c x d spared h =
-        let kept : AtMost w c d = maybe_keeps (AtMost w) (λ a. omega arith) (λ a b e p q. omega arith) (Spells limits n Inner f) (λ ts a y b k. omega (arith, form_counts f ts a y b spared k)) ss c x d h in
+        let kept : AtMost w c d = maybe_keeps (AtMost w) (λ a. omega arith) (λ a b e p q. omega arith) (Spells lim n Inner f) (λ ts a y b k. omega (arith, form_counts f ts a y b spared k)) ss c x d h in
         omega arith
     form_counts (many f) ss c x d spared h =
-        let kept : AtMost w c d = each_keeps (AtMost w) (λ a. omega arith) (λ a b e p q. omega arith) (Spells limits n Inner f) (λ ts a y b k. omega (arith, form_counts f ts a y b spared k)) ss c x d h in
+        let kept : AtMost w c d = each_keeps (AtMost w) (λ a. omega arith) (λ a b e p q. omega arith) (Spells lim n Inner f) (λ ts a y b k. omega (arith, form_counts f ts a y b spared k)) ss c x d h in
         omega arith
     form_counts (inside r) ss c x d spared h = omega (arith, inner r ss c x d spared h)
     form_counts (counted v f) ss c x d spared h =
@@ -121,16 +120,16 @@ module _ (n : ℕ) (Inner : (r : Rule) → Spelling Language (Meaning r)) where
         omega (arith, zero_total v w c (not_true (same v w) both.0), form_counts f ss (from_zero v c) x d both.1 h)
     form_counts (made k f) ss c x d spared h = form_counts f ss c h.0 d spared h.2
 
-  module _ (inner : (r : Rule) (ss : List Symbol) (c : State Language) (x : Meaning r) (d : State Language) → Inner r ss c x d → Within c.counts → Within d.counts) where
-    form_keeps : {A : Type 0} (f : Form A) (ss : List Symbol) (c : State Language) (x : A) (d : State Language) → Spells limits n Inner f ss c x d → Within c.counts → Within d.counts
-    form_keeps (leaf passes value opens) ss c x d h within = pays_within c d h.5 within
+  module _ (inner : (r : Rule) (ss : List Symbol) (c : State Language) (x : Meaning r) (d : State Language) → Inner r ss c x d → Within lim c.counts → Within lim d.counts) where
+    form_keeps : {A : Type 0} (f : Form A) (ss : List Symbol) (c : State Language) (x : A) (d : State Language) → Spells lim n Inner f ss c x d → Within lim c.counts → Within lim d.counts
+    form_keeps (leaf passes value opens) ss c x d h within = pays_within lim c d h.5 within
     form_keeps (f ▹ g) ss c x d h within = form_keeps g h.1 h.2 x.1 d h.5 (form_keeps f h.0 c x.0 h.2 h.4 within)
     form_keeps (f ∣ g) ss c x d h within = ⊎_elim (λ k. form_keeps f ss c x d k within) (λ k. form_keeps g ss c x d k within) h
-    form_keeps (maybe f) ss c x d h within = maybe_keeps Keeps (λ a k. k) (λ a b e p q k. q (p k)) (Spells limits n Inner f) (form_keeps f) ss c x d h within
-    form_keeps (many f) ss c x d h within = each_keeps Keeps (λ a k. k) (λ a b e p q k. q (p k)) (Spells limits n Inner f) (form_keeps f) ss c x d h within
+    form_keeps (maybe f) ss c x d h within = maybe_keeps (Keeps lim) (λ a k. k) (λ a b e p q k. q (p k)) (Spells lim n Inner f) (form_keeps f) ss c x d h within
+    form_keeps (many f) ss c x d h within = each_keeps (Keeps lim) (λ a k. k) (λ a b e p q k. q (p k)) (Spells lim n Inner f) (form_keeps f) ss c x d h within
     form_keeps (inside r) ss c x d h within = inner r ss c x d h within
     form_keeps (counted v f) ss c x d h within = form_keeps f ss (owing v c) x d h within
-    form_keeps (fresh v f) ss c x d h within = form_keeps f ss (from_zero v c) x d h (zero_within v c within)
+    form_keeps (fresh v f) ss c x d h within = form_keeps f ss (from_zero v c) x d h (zero_within lim v c within)
     form_keeps (made k f) ss c x d h within = form_keeps f ss c h.0 d h.2 within
 
   -- what was paid stays so
@@ -142,7 +141,7 @@ module _ (n : ℕ) (Inner : (r : Rule) → Spelling Language (Meaning r)) where
   Paid b c = b ≡ true → c.due ≡ []
 
   module _ (inner : (r : Rule) (ss : List Symbol) (c : State Language) (x : Meaning r) (d : State Language) → Inner r ss c x d → d.due ≡ []) where
-    form_settles : {A : Type 0} (f : Form A) (b : Bool) (ss : List Symbol) (c : State Language) (x : A) (d : State Language) → Spells limits n Inner f ss c x d → Paid b c → Paid (settles b f) d
+    form_settles : {A : Type 0} (f : Form A) (b : Bool) (ss : List Symbol) (c : State Language) (x : A) (d : State Language) → Spells lim n Inner f ss c x d → Paid b c → Paid (settles b f) d
     form_settles (leaf passes value opens) b ss c x d h paid = λ e. h.5.1
     form_settles (f ▹ g) b ss c x d h paid = form_settles g (settles b f) h.1 h.2 x.1 d h.5 (form_settles f b h.0 c x.0 h.2 h.4 paid)
     form_settles (f ∣ g) b ss c x d h paid =
@@ -150,10 +149,10 @@ module _ (n : ℕ) (Inner : (r : Rule) → Spelling Language (Meaning r)) where
         ⊎_elim (λ k. form_settles f b ss c x d k paid both.0) (λ k. form_settles g b ss c x d k paid both.1) h
     form_settles (maybe f) b ss c x d h paid =
         λ e. let both = and_true b (settles b f) e in
-        maybe_keeps StaysPaid (λ a p. p) (λ a u e p q k. q (p k)) (Spells limits n Inner f) (λ ts a y u k p. form_settles f b ts a y u k (λ _. p) both.1) ss c x d h (paid both.0)
+        maybe_keeps StaysPaid (λ a p. p) (λ a u e p q k. q (p k)) (Spells lim n Inner f) (λ ts a y u k p. form_settles f b ts a y u k (λ _. p) both.1) ss c x d h (paid both.0)
     form_settles (many f) b ss c x d h paid =
         λ e. let both = and_true b (settles b f) e in
-        each_keeps StaysPaid (λ a p. p) (λ a u e p q k. q (p k)) (Spells limits n Inner f) (λ ts a y u k p. form_settles f b ts a y u k (λ _. p) both.1) ss c x d h (paid both.0)
+        each_keeps StaysPaid (λ a p. p) (λ a u e p q k. q (p k)) (Spells lim n Inner f) (λ ts a y u k p. form_settles f b ts a y u k (λ _. p) both.1) ss c x d h (paid both.0)
     form_settles (inside r) b ss c x d h paid = λ e. inner r ss c x d h
     form_settles (counted v f) b ss c x d h paid = form_settles f false ss (owing v c) x d h (λ e. absurd cc)
     form_settles (fresh v f) b ss c x d h paid = form_settles f b ss (from_zero v c) x d h paid
@@ -198,30 +197,30 @@ grammar_settles Signed = refl
 grammar_settles Conditional = refl
 grammar_settles Looped = refl
 
-rule_counts : (w : Counted) (n : ℕ) (r : Rule) (ss : List Symbol) (c : State Language) (x : Meaning r) (d : State Language) → rule_spares w r ≡ true → SpellsRule rules limits n r ss c x d → total w c ≤ total w d
-rule_counts w zero r ss c x d spared h = absurd h
-rule_counts w (suc n) r ss c x d spared h = omega (arith, form_counts n (SpellsRule rules limits n) w (rule_counts w n) (rules r) ss c x d (grammar_spares w r spared) h)
+rule_counts : (lim : Limits Language) (w : Counted) (n : ℕ) (r : Rule) (ss : List Symbol) (c : State Language) (x : Meaning r) (d : State Language) → rule_spares w r ≡ true → SpellsRule rules lim n r ss c x d → total w c ≤ total w d
+rule_counts lim w zero r ss c x d spared h = absurd h
+rule_counts lim w (suc n) r ss c x d spared h = omega (arith, form_counts lim n (SpellsRule rules lim n) w (rule_counts lim w n) (rules r) ss c x d (grammar_spares w r spared) h)
 
-rule_keeps : (n : ℕ) (r : Rule) (ss : List Symbol) (c : State Language) (x : Meaning r) (d : State Language) → SpellsRule rules limits n r ss c x d → Within c.counts → Within d.counts
-rule_keeps zero r ss c x d h within = absurd h
-rule_keeps (suc n) r ss c x d h within = form_keeps n (SpellsRule rules limits n) (rule_keeps n) (rules r) ss c x d h within
+rule_keeps : (lim : Limits Language) (n : ℕ) (r : Rule) (ss : List Symbol) (c : State Language) (x : Meaning r) (d : State Language) → SpellsRule rules lim n r ss c x d → Within lim c.counts → Within lim d.counts
+rule_keeps lim zero r ss c x d h within = absurd h
+rule_keeps lim (suc n) r ss c x d h within = form_keeps lim n (SpellsRule rules lim n) (rule_keeps lim n) (rules r) ss c x d h within
 
-rule_settles : (n : ℕ) (r : Rule) (ss : List Symbol) (c : State Language) (x : Meaning r) (d : State Language) → SpellsRule rules limits n r ss c x d → d.due ≡ []
-rule_settles zero r ss c x d h = absurd h
-rule_settles (suc n) r ss c x d h = form_settles n (SpellsRule rules limits n) (rule_settles n) (rules r) false ss c x d h (λ e. absurd cc) (grammar_settles r)
+rule_settles : (lim : Limits Language) (n : ℕ) (r : Rule) (ss : List Symbol) (c : State Language) (x : Meaning r) (d : State Language) → SpellsRule rules lim n r ss c x d → d.due ≡ []
+rule_settles lim zero r ss c x d h = absurd h
+rule_settles lim (suc n) r ss c x d h = form_settles lim n (SpellsRule rules lim n) (rule_settles lim n) (rules r) false ss c x d h (λ e. absurd cc) (grammar_settles r)
 
 -- which symbols spell which value, where n nestings may still be opened
-abbrev pub Spelled : {A : Type 0} → ℕ → Form A → Spelling Language A
-Spelled n f = Spells limits n (SpellsRule rules limits n) f
+abbrev pub Spelled : {A : Type 0} → Limits Language → ℕ → Form A → Spelling Language A
+Spelled lim n f = Spells lim n (SpellsRule rules lim n) f
 
 -- What a form counts is counted behind it, unless it counts it from 0 somewhere.
-pub spelled_counts : {A : Type 0} (n : ℕ) (w : Counted) (f : Form A) (ss : List Symbol) (c : State Language) (x : A) (d : State Language) → spares w f ≡ true → Spelled n f ss c x d → total w c + one (counts w f) ≤ total w d
-spelled_counts n w f ss c x d spared h = form_counts n (SpellsRule rules limits n) w (rule_counts w n) f ss c x d spared h
+pub spelled_counts : {A : Type 0} (lim : Limits Language) (n : ℕ) (w : Counted) (f : Form A) (ss : List Symbol) (c : State Language) (x : A) (d : State Language) → spares w f ≡ true → Spelled lim n f ss c x d → total w c + one (counts w f) ≤ total w d
+spelled_counts lim n w f ss c x d spared h = form_counts lim n (SpellsRule rules lim n) w (rule_counts lim w n) f ss c x d spared h
 
 -- No count passes its limit.
-pub spelled_keeps : {A : Type 0} (n : ℕ) (f : Form A) (ss : List Symbol) (c : State Language) (x : A) (d : State Language) → Spelled n f ss c x d → Within c.counts → Within d.counts
-spelled_keeps n f ss c x d h within = form_keeps n (SpellsRule rules limits n) (rule_keeps n) f ss c x d h within
+pub spelled_keeps : {A : Type 0} (lim : Limits Language) (n : ℕ) (f : Form A) (ss : List Symbol) (c : State Language) (x : A) (d : State Language) → Spelled lim n f ss c x d → Within lim c.counts → Within lim d.counts
+spelled_keeps lim n f ss c x d h within = form_keeps lim n (SpellsRule rules lim n) (rule_keeps lim n) f ss c x d h within
 
 -- Nothing is due behind a form that settles it.
-pub spelled_settles : {A : Type 0} (n : ℕ) (f : Form A) (b : Bool) (ss : List Symbol) (c : State Language) (x : A) (d : State Language) → (b ≡ true → c.due ≡ []) → settles b f ≡ true → Spelled n f ss c x d → d.due ≡ []
-spelled_settles n f b ss c x d paid settled h = form_settles n (SpellsRule rules limits n) (rule_settles n) f b ss c x d h paid settled
+pub spelled_settles : {A : Type 0} (lim : Limits Language) (n : ℕ) (f : Form A) (b : Bool) (ss : List Symbol) (c : State Language) (x : A) (d : State Language) → (b ≡ true → c.due ≡ []) → settles b f ≡ true → Spelled lim n f ss c x d → d.due ≡ []
+spelled_settles lim n f b ss c x d paid settled h = form_settles lim n (SpellsRule rules lim n) (rule_settles lim n) f b ss c x d h paid settled

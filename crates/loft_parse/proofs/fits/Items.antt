@@ -4,15 +4,17 @@ use Rattle.std.proofs.lemmas.Int.{ints, int_wrap_fits}
 use Rattle.std.proofs.lemmas.List.Recursion.{is_count_by}
 use Rattle.loft_base.specs.Arithmetic.{wrapped}
 use Rattle.loft_lex.specs.Bytes.{max_number}
-use Rattle.loft_tree.specs.Source.{PlaceName, ModuleHead, Declaration}
+use Rattle.loft_tree.specs.Source.{PlaceName, Declaration}
 use Rattle.loft_tree.specs.Fits.{Each, IfThere, NameFits, NumberFits, SignedFits, PlaceFits, same_place, EndFits, ArgumentFits, OrderFits, DeclarationFits, is_scheduler, is_event, is_shared, is_module, is_start, is_outside}
 use Rattle.loft_parse.specs.Grammar.{end_of, negative, signed, parameter, parameters, local, place, ending, head, module_item, scheduler_item, event_item, shared_item, outer_argument, outer_arguments, alias, start_item, create_order, control_order, value_behind_comma, broadcast_order, order, outside_item, item, program}
+use Rattle.loft_parse.specs.Source.{limits}
+use Rattle.loft_parse.specs.Parts.{NamedFits, HeadFits}
 use Rattle.loft_parse.specs.declared.counts.Counted.{Counted}
-use Rattle.loft_parse.specs.declared.counts.Counted.TheVariants.{Scheduler, Event, Shared, Module, Start, Client, Order, Parameter, Local, Argument}
+use Rattle.loft_parse.specs.declared.counts.Counted.TheVariants.{Scheduler, Event, Shared, Module, Start, Client, Order, Parameter, Local, Statement, Argument}
 use Rattle.loft_parse.proofs.fits.Counting.{one}
 use Rattle.loft_parse.proofs.fits.Expressions.{name_fits, numeral_fits}
 use Rattle.loft_parse.proofs.fits.Lists.{many_counts, in_brackets_gives}
-use Rattle.loft_parse.proofs.fits.Parts.{Gives, Weighs, gives_any, ◌▸◌, ◌or◌, gives_made, gives_counted, gives_fresh, gives_maybe, gives_many, gives_both, gives_so, weighs_none, weighs_one, weighs_either, weighs_made, weights, weighs_many, weighs_so, gives_few_fresh}
+use Rattle.loft_parse.proofs.fits.Parts.{Gives, Weighs, limited, gives_any, ◌▸◌, ◌or◌, gives_made, gives_counted, gives_fresh, gives_maybe, gives_many, gives_both, gives_so, weighs_none, weighs_one, weighs_either, weighs_made, weights, weighs_many, weighs_so, gives_few_fresh}
 use Rattle.loft_parse.proofs.fits.Statements.{event_name_fits, statements_fit, statements_count}
 use Rattle.loft_parse.proofs.fits.Rules.{program_rules}
 
@@ -26,25 +28,25 @@ negative_signed : (value : ℤ) → NumberFits value → SignedFits (wrapped (po
 negative_signed value h = (h.0, h.1, inr (ap (λ v. wrapped (pos 0 -ℤ v)) h.2 ∙ int_wrap_fits w64 (pos 0 -ℤ pos h.0) (small_fits h.0 h.1)))
 
 module _ {n : ℕ} where
-  signed_fits : Gives n signed (λ x. SignedFits x.1)
+  signed_fits : Gives limits n signed (λ x. SignedFits x.1)
   unfolding signed negative
   signed_fits = gives_so numeral_fits (λ x h. (h.0, h.1, inl h.2)) or gives_made (gives_any ▸ numeral_fits) (λ x h. negative_signed x.1.1 h.1)
 
-  outer_argument_fits : Gives n outer_argument ArgumentFits
+  outer_argument_fits : Gives limits n outer_argument ArgumentFits
   unfolding outer_argument
   outer_argument_fits = gives_counted (gives_made signed_fits (λ x h. h) or gives_made name_fits (λ x h. h))
 
-  outer_argument_counts : Weighs n Argument outer_argument (λ _. 1)
+  outer_argument_counts : Weighs limits n Argument outer_argument (λ _. 1)
   unfolding outer_argument signed negative
   outer_argument_counts = weighs_one refl refl
 
-  outer_arguments_fit : Gives n outer_arguments (λ xs. Each ArgumentFits xs × (length xs ≤ 8))
+  outer_arguments_fit : Gives limits n outer_arguments (λ xs. Each ArgumentFits xs × (length xs ≤ 8))
   unfolding outer_arguments
-  outer_arguments_fit = in_brackets_gives outer_argument_fits outer_argument_counts
+  outer_arguments_fit = in_brackets_gives (limited Argument) outer_argument_fits outer_argument_counts
 
   -- ---- orders
 
-  order_fits : Gives n order OrderFits
+  pub order_fits : Gives limits n order OrderFits
   unfolding order create_order control_order broadcast_order value_behind_comma
   order_fits =
       gives_made (gives_any ▸ name_fits ▸ gives_any ▸ name_fits ▸ outer_arguments_fit ▸ gives_any)
@@ -52,35 +54,35 @@ module _ {n : ℕ} where
       or gives_made (gives_any ▸ name_fits ▸ gives_any ▸ name_fits ▸ gives_any) (λ x h. (h.1.0, h.1.1.1.0))
       or gives_made (gives_any ▸ event_name_fits ▸ gives_maybe (gives_made {Q = SignedFits} (gives_any ▸ signed_fits) (λ x h. h.1)) ▸ gives_any) (λ x h. (h.1.0, h.1.1.0))
 
-  order_counts : Weighs n Order order (λ _. 1)
+  order_counts : Weighs limits n Order order (λ _. 1)
   unfolding program_rules
   order_counts = weighs_one refl refl
 
-  outside_fits : Gives n outside_item DeclarationFits
+  outside_fits : Gives limits n outside_item DeclarationFits
   unfolding outside_item
   outside_fits =
-      gives_made (gives_any ▸ name_fits ▸ gives_any ▸ gives_both (gives_fresh (gives_many order_fits) ▸ gives_any) (gives_few_fresh (many_counts order_counts) refl refl))
+      gives_made (gives_any ▸ name_fits ▸ gives_any ▸ gives_both (gives_fresh (gives_many order_fits) ▸ gives_any) (gives_few_fresh (limited Order) (many_counts order_counts) refl refl))
       (λ x h. (h.1.0, h.1.1.1.0.0, h.1.1.1.1))
 
   -- ---- schedulers, events, shared variables and starts
 
-  scheduler_fits : Gives n scheduler_item DeclarationFits
+  scheduler_fits : Gives limits n scheduler_item DeclarationFits
   unfolding scheduler_item
   scheduler_fits = gives_made (gives_any ▸ name_fits ▸ gives_any) (λ x h. h.1.0)
 
-  event_fits : Gives n event_item DeclarationFits
+  event_fits : Gives limits n event_item DeclarationFits
   unfolding event_item
   event_fits = gives_made (gives_any ▸ name_fits ▸ gives_any ▸ name_fits ▸ gives_any) (λ x h. (h.1.0, h.1.1.1.0))
 
-  shared_fits : Gives n shared_item DeclarationFits
+  shared_fits : Gives limits n shared_item DeclarationFits
   unfolding shared_item
   shared_fits = gives_made (gives_any ▸ name_fits ▸ gives_any ▸ name_fits ▸ gives_any ▸ signed_fits ▸ gives_any) (λ x h. (h.1.0, h.1.1.1.0, h.1.1.1.1.1.0))
 
-  alias_fits : Gives n alias NameFits
+  alias_fits : Gives limits n alias NameFits
   unfolding alias
   alias_fits = gives_made (gives_any ▸ name_fits) (λ x h. h.1)
 
-  start_fits : Gives n start_item DeclarationFits
+  start_fits : Gives limits n start_item DeclarationFits
   unfolding start_item
   start_fits =
       gives_made (gives_any ▸ name_fits ▸ gives_any ▸ name_fits ▸ outer_arguments_fit ▸ gives_maybe alias_fits ▸ gives_any)
@@ -88,31 +90,31 @@ module _ {n : ℕ} where
 
   -- ---- modules
 
-  place_fits : Gives n place PlaceFits
+  place_fits : Gives limits n place PlaceFits
   unfolding place
   place_fits = gives_made name_fits (λ x h. h) or gives_made gives_any (λ x h. tt)
 
-  ending_fits : Gives n ending PlaceFits
+  ending_fits : Gives limits n ending PlaceFits
   unfolding ending
   ending_fits = gives_made (gives_any ▸ place_fits) (λ x h. h.1)
 
-  parameter_fits : Gives n parameter (λ v. NameFits v.name)
+  parameter_fits : Gives limits n parameter (λ v. NameFits v.name)
   unfolding parameter
   parameter_fits = gives_made (gives_any ▸ name_fits) (λ x h. h.1)
 
-  parameter_counts : Weighs n Parameter parameter (λ _. 1)
+  parameter_counts : Weighs limits n Parameter parameter (λ _. 1)
   unfolding parameter
   parameter_counts = weighs_one refl refl
 
-  parameters_fit : Gives n parameters (λ xs. Each (λ v. NameFits v.name) xs × (length xs ≤ 8))
+  parameters_fit : Gives limits n parameters (λ xs. Each (λ v. NameFits v.name) xs × (length xs ≤ 8))
   unfolding parameters
-  parameters_fit = in_brackets_gives parameter_fits parameter_counts
+  parameters_fit = in_brackets_gives (limited Parameter) parameter_fits parameter_counts
 
-  local_fits : Gives n local (λ v. NameFits v.name)
+  pub local_fits : Gives limits n local NamedFits
   unfolding local
   local_fits = gives_made (gives_any ▸ gives_any ▸ name_fits ▸ gives_any) (λ x h. h.1.1.0)
 
-  local_counts : Weighs n Local local (λ _. 1)
+  local_counts : Weighs limits n Local local (λ _. 1)
   unfolding local
   local_counts = weighs_one refl refl
 
@@ -126,26 +128,19 @@ end_fits begin (Some end) h = go (same_place begin end) refl
     go false e = (h, e)
 
 -- the line of a module keeps the limits
-record HeadFits (head : ModuleHead) : Type 0 where
-  pub name : NameFits head.name
-  pub parameters : Each (λ v. NameFits v.name) head.parameters
-  pub few_parameters : length head.parameters ≤ 8
-  pub begin : PlaceFits head.begin
-  pub end : EndFits head.begin head.end
-
-head_fits : {n : ℕ} → Gives n head HeadFits
+pub head_fits : {n : ℕ} → Gives limits n head HeadFits
 unfolding head
 head_fits =
     gives_made (gives_any ▸ name_fits ▸ parameters_fit ▸ gives_any ▸ place_fits ▸ gives_maybe ending_fits)
     (λ x h. record { name = h.1.0; parameters = h.1.1.0.0; few_parameters = h.1.1.0.1; begin = h.1.1.1.1.0; end = end_fits x.1.1.1.1.0 x.1.1.1.1.1 h.1.1.1.1.1 })
 
-module_fits : Gives 32 module_item DeclarationFits
+module_fits : Gives limits 32 module_item DeclarationFits
 unfolding program_rules
 module_fits =
     gives_made
     (head_fits ▸ gives_both
-    (gives_fresh (gives_many local_fits) ▸ gives_both (gives_fresh (statements_fit 32) ▸ gives_any) (gives_few_fresh (statements_count 32) refl refl))
-    (gives_few_fresh (many_counts local_counts) refl refl))
+    (gives_fresh (gives_many local_fits) ▸ gives_both (gives_fresh (statements_fit 32) ▸ gives_any) (gives_few_fresh (limited Statement) (statements_count 32) refl refl))
+    (gives_few_fresh (limited Local) (many_counts local_counts) refl refl))
     (λ x h. record {
       name = h.0.name;
       parameters = h.0.parameters;
@@ -158,14 +153,14 @@ module_fits =
       few_statements = h.1.0.1.1;
     })
 
-pub item_fits : Gives 32 item DeclarationFits
+pub item_fits : Gives limits 32 item DeclarationFits
 unfolding item
 item_fits = scheduler_fits or event_fits or shared_fits or module_fits or start_fits or outside_fits
 
 -- ---- how many there are of each
 
 module _ {n : ℕ} where
-  pub schedulers_count : Weighs n Scheduler item (λ d. one (is_scheduler d))
+  pub schedulers_count : Weighs limits n Scheduler item (λ d. one (is_scheduler d))
   unfolding program_rules
   schedulers_count =
       weighs_either (weighs_made (weighs_one refl refl) (λ x. omega arith))
@@ -174,7 +169,7 @@ module _ {n : ℕ} where
       (weighs_either (weighs_made (weighs_none refl) (λ x. omega arith))
       (weighs_either (weighs_made (weighs_none refl) (λ x. omega arith)) (weighs_made (weighs_none refl) (λ x. omega arith))))))
 
-  pub events_count : Weighs n Event item (λ d. one (is_event d))
+  pub events_count : Weighs limits n Event item (λ d. one (is_event d))
   unfolding program_rules
   events_count =
       weighs_either (weighs_made (weighs_none refl) (λ x. omega arith))
@@ -183,7 +178,7 @@ module _ {n : ℕ} where
       (weighs_either (weighs_made (weighs_none refl) (λ x. omega arith))
       (weighs_either (weighs_made (weighs_none refl) (λ x. omega arith)) (weighs_made (weighs_none refl) (λ x. omega arith))))))
 
-  pub shared_variables_count : Weighs n Shared item (λ d. one (is_shared d))
+  pub shared_variables_count : Weighs limits n Shared item (λ d. one (is_shared d))
   unfolding program_rules
   shared_variables_count =
       weighs_either (weighs_made (weighs_none refl) (λ x. omega arith))
@@ -192,7 +187,7 @@ module _ {n : ℕ} where
       (weighs_either (weighs_made (weighs_none refl) (λ x. omega arith))
       (weighs_either (weighs_made (weighs_none refl) (λ x. omega arith)) (weighs_made (weighs_none refl) (λ x. omega arith))))))
 
-  pub modules_count : Weighs n Module item (λ d. one (is_module d))
+  pub modules_count : Weighs limits n Module item (λ d. one (is_module d))
   unfolding program_rules
   modules_count =
       weighs_either (weighs_made (weighs_none refl) (λ x. omega arith))
@@ -201,7 +196,7 @@ module _ {n : ℕ} where
       (weighs_either (weighs_made (weighs_one refl refl) (λ x. omega arith))
       (weighs_either (weighs_made (weighs_none refl) (λ x. omega arith)) (weighs_made (weighs_none refl) (λ x. omega arith))))))
 
-  pub starts_count : Weighs n Start item (λ d. one (is_start d))
+  pub starts_count : Weighs limits n Start item (λ d. one (is_start d))
   unfolding program_rules
   starts_count =
       weighs_either (weighs_made (weighs_none refl) (λ x. omega arith))
@@ -210,7 +205,7 @@ module _ {n : ℕ} where
       (weighs_either (weighs_made (weighs_none refl) (λ x. omega arith))
       (weighs_either (weighs_made (weighs_one refl refl) (λ x. omega arith)) (weighs_made (weighs_none refl) (λ x. omega arith))))))
 
-  pub clients_count : Weighs n Client item (λ d. one (is_outside d))
+  pub clients_count : Weighs limits n Client item (λ d. one (is_outside d))
   unfolding program_rules
   clients_count =
       weighs_either (weighs_made (weighs_none refl) (λ x. omega arith))
@@ -224,7 +219,7 @@ one_more true n = refl
 one_more false n = omega arith
 
 -- a program counts each declaration that passes the test
-pub program_counts : {n : ℕ} {w : Counted} (passes : Declaration → Bool) → Weighs n w item (λ d. one (passes d)) → Weighs n w program (count_by passes)
+pub program_counts : {n : ℕ} {w : Counted} (passes : Declaration → Bool) → Weighs limits n w item (λ d. one (passes d)) → Weighs limits n w program (count_by passes)
 unfolding program
 program_counts passes p =
     weighs_so (weighs_many p) (λ xs. omega (arith, is_count_by (weights (λ d. one (passes d))) passes refl (λ x ys. one_more (passes x) _) xs))

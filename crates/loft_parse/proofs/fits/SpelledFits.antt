@@ -1,41 +1,23 @@
 -- What is spelled keeps the limits.
-use Rattle.std.proofs.Common.{◌≡◌, ℕ, ◌≤◌, true, List, Ok, refl, arith}
+use Rattle.std.proofs.Common.{◌≡◌, ℕ, ◌≤◌, true, List, Ok, refl}
 use Rattle.loft_lex.specs.declared.token.Token.{Token}
 use Rattle.loft_lex.specs.Symbol.{Symbol, symbols}
 use Rattle.loft_lex.specs.Tokens.{tokens}
 use Rattle.loft_tree.specs.Source.{Source}
 use Rattle.loft_tree.specs.Fits.{Each, DeclarationFits, SourceFits}
-use Rattle.loft_parse.specs.Counts.{most, number, none}
+use Rattle.loft_parse.specs.Counts.{most}
 use Rattle.loft_parse.specs.Grammar.{program}
-use Rattle.loft_parse.specs.Source.{beginning, SpellsProgram}
+use Rattle.loft_parse.specs.Source.{limits, beginning, SpellsProgram}
 use Rattle.loft_parse.specs.declared.counts.Counted.{Counted}
-use Rattle.loft_parse.specs.declared.counts.Counted.TheVariants.{Scheduler, Event, Shared, Module, Start, Client, Order, Parameter, Local, Statement, Operand, Argument, Choice}
-use Rattle.loft_parse.proofs.fits.Counting.{Within}
+use Rattle.loft_parse.specs.declared.counts.Counted.TheVariants.{Scheduler, Event, Shared, Module, Start, Client}
+use Rattle.loft_parse.proofs.fits.Counting.{none_within}
 use Rattle.loft_parse.proofs.fits.Forms.{settles}
 use Rattle.loft_parse.proofs.fits.Items.{item_fits, schedulers_count, events_count, shared_variables_count, modules_count, starts_count, clients_count, program_counts}
-use Rattle.loft_parse.proofs.fits.Parts.{Gives, Weighs, gives_many, few_of}
+use Rattle.loft_parse.proofs.fits.Parts.{Gives, Weighs, limited, gives_many, few_of}
 use Rattle.loft_parse.proofs.fits.Rules.{program_rules}
 use Rattle.loft_parse.proofs.fits.Symbols.{symbols_fit}
 
-nothing_counted : (w : Counted) → number w none ≤ most w
-nothing_counted Scheduler = omega arith
-nothing_counted Event = omega arith
-nothing_counted Shared = omega arith
-nothing_counted Module = omega arith
-nothing_counted Start = omega arith
-nothing_counted Client = omega arith
-nothing_counted Order = omega arith
-nothing_counted Parameter = omega arith
-nothing_counted Local = omega arith
-nothing_counted Statement = omega arith
-nothing_counted Operand = omega arith
-nothing_counted Argument = omega arith
-nothing_counted Choice = omega arith
-
-within : Within none
-within = record { each = nothing_counted }
-
-program_fits : Gives 32 program (Each DeclarationFits)
+program_fits : Gives limits 32 program (Each DeclarationFits)
 unfolding program
 program_fits = gives_many item_fits
 
@@ -44,13 +26,13 @@ unfolding program_rules
 program_settles = refl
 
 -- no declaration is one too many
-few : (ss : List Symbol) (p : Source) (w : Counted) (m : Source → ℕ) → Weighs 32 w program m → SpellsProgram ss p → m p ≤ most w
-few ss p w m counts h = few_of true counts program_settles ss beginning p h.0 (λ e. refl) within h.1
+few : (ss : List Symbol) (p : Source) (w : Counted) (m : Source → ℕ) → Weighs limits 32 w program m → SpellsProgram ss p → m p ≤ most w
+few ss p w m counts h = few_of (limited w) true counts program_settles ss beginning p h.0 (λ e. refl) (none_within limits) h.1
 
 -- The program that a text spells keeps the limits.
 pub spelled_fits : (text : List ℕ) (ts : List Token) → tokens text ≡ Ok ts → (p : Source) → SpellsProgram (symbols text ts) p → SourceFits p
 spelled_fits text ts found p h = record {
-  each = program_fits.of (symbols text ts) beginning p h.0 (symbols_fit text ts found) within h.1;
+  each = program_fits.of (symbols text ts) beginning p h.0 (symbols_fit text ts found) (none_within limits) h.1;
   schedulers = few (symbols text ts) p Scheduler _ (program_counts _ schedulers_count) h;
   events = few (symbols text ts) p Event _ (program_counts _ events_count) h;
   shared = few (symbols text ts) p Shared _ (program_counts _ shared_variables_count) h;

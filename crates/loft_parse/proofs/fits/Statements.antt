@@ -1,23 +1,24 @@
 -- Statements that are spelled keep the limits.
 use Rattle.std.proofs.Common.{◌≡◌, ℕ, zero, suc, ◌+◌, ◌≤◌, List, [], ◌∷◌, length, Option, Some, None, ◌⊎◌, inl, inr, IsTrue, refl, arith}
-use Rattle.loft_form.specs.Form.{inside}
+use Rattle.loft_form.specs.Form.{inside, Limits}
 use Rattle.loft_lex.specs.Fits.{is_text}
 use Rattle.loft_tree.specs.Source.{Ident, Expression, Creation, Statement as AnyStatement}
 use Rattle.loft_tree.specs.View.{body_of}
 use Rattle.loft_tree.specs.Fits.{Each, IfThere, NameFits, EventNameFits, ExpressionFits, ArgumentsFit, CreationFits, StatementFits, StatementsFit, size_of, size}
-use Rattle.loft_parse.specs.Language.{Conditional, Looped}
+use Rattle.loft_parse.specs.Language.{Language, Conditional, Looped}
 use Rattle.loft_parse.specs.Grammar.{text, event_name, assignment_of, print_of, else_of, whole, argument, arguments, creation, behind_comma, time_limit, assigned, assignment, printed, print, create, cooperate, generate, await_event, choice, choices, select, get, join, control, broadcast, link, unlink, run, halt, conditional, while_loop, repeat, value_statement, event_statement, thread_statement, moving_statement, statement, body, condition, otherwise, branches, turns}
-use Rattle.loft_parse.specs.declared.counts.Counted.TheVariants.{Statement, Argument, Choice}
+use Rattle.loft_parse.specs.Source.{limits}
+use Rattle.loft_parse.specs.declared.counts.Counted.TheVariants.{Statement, Operand, Argument, Choice}
 use Rattle.loft_parse.proofs.fits.Expressions.{name_fits, whole_fits}
 use Rattle.loft_parse.proofs.fits.Lists.{many_counts, further_gives, further_counts, in_brackets_gives}
-use Rattle.loft_parse.proofs.fits.Parts.{Gives, Weighs, gives_any, gives_leaf, ◌▸◌, ◌or◌, gives_made, gives_counted, gives_fresh, gives_maybe, gives_many, gives_both, gives_so, gives_inside_none, gives_inside, weighs_none, weighs_one, weighs_then, weighs_either, weighs_made, weights, weighs_many, weighs_maybe, weighs_so, weighs_inside_none, weighs_inside, gives_few_fresh}
+use Rattle.loft_parse.proofs.fits.Parts.{Gives, Weighs, IsLimited, limited, gives_any, gives_leaf, ◌▸◌, ◌or◌, gives_made, gives_counted, gives_fresh, gives_maybe, gives_many, gives_both, gives_so, gives_inside_none, gives_inside, weighs_none, weighs_one, weighs_then, weighs_either, weighs_made, weights, weighs_many, weighs_maybe, weighs_so, weighs_inside_none, weighs_inside, gives_few_fresh}
 use Rattle.loft_parse.proofs.fits.Rules.{statement_rules}
 use Rattle.loft_parse.proofs.fits.Symbols.{text_of_fits}
 
-text_fits : {n : ℕ} → Gives n text (λ bytes. IsTrue (is_text bytes))
+pub text_fits : {lim : Limits Language} {n : ℕ} → Gives lim n text (λ bytes. IsTrue (is_text bytes))
 text_fits = gives_leaf (λ s h is. text_of_fits s.what is h)
 
-argument_counts : {n : ℕ} → Weighs n Argument argument (λ _. 1)
+argument_counts : {n : ℕ} → Weighs limits n Argument argument (λ _. 1)
 unfolding statement_rules
 argument_counts = weighs_one refl refl
 
@@ -27,7 +28,7 @@ AssignedFits n (inl x) = CreationFits n x.1
 AssignedFits n (inr e) = ExpressionFits n e
 
 -- what is printed
-abbrev PrintedFits : ℕ → (List ℕ × Option Expression) ⊎ Expression → Type 0
+abbrev pub PrintedFits : ℕ → (List ℕ × Option Expression) ⊎ Expression → Type 0
 PrintedFits n (inl x) = IsTrue (is_text x.0) × IfThere (ExpressionFits n) x.1
 PrintedFits n (inr e) = ExpressionFits n e
 
@@ -39,78 +40,81 @@ print_fits_of : (n at : ℕ) (x : (List ℕ × Option Expression) ⊎ Expression
 print_fits_of n at (inl x) h = h
 print_fits_of n at (inr e) h = h
 
-module _ {n : ℕ} where
-  expression_fits : Gives n whole (ExpressionFits n)
-  expression_fits = whole_fits n
-
-  arguments_fit : Gives n arguments (ArgumentsFit n)
-  unfolding arguments argument
-  arguments_fit = gives_so (in_brackets_gives (gives_counted expression_fits) argument_counts) (λ es h. record { each = h.0; few = h.1 })
-
-  creation_fits : Gives n creation (CreationFits n)
-  unfolding creation
-  creation_fits = gives_made (name_fits ▸ gives_any ▸ name_fits ▸ arguments_fit) (λ x h. record { scheduler = h.0; called = h.1.1.0; arguments = h.1.1.1 })
-
-  comma_fits : Gives n behind_comma (ExpressionFits n)
-  unfolding behind_comma
-  comma_fits = further_gives expression_fits
-
-  limit_fits : Gives n time_limit (ExpressionFits n)
-  unfolding time_limit
-  limit_fits = gives_made (gives_any ▸ expression_fits) (λ x h. h.1)
-
-  assigned_fits : Gives n assigned (AssignedFits n)
-  unfolding assigned
-  assigned_fits = gives_made (gives_any ▸ creation_fits) (λ x h. h.1) or gives_made expression_fits (λ x h. h)
-
-  printed_fits : Gives n printed (PrintedFits n)
-  unfolding printed
-  printed_fits = gives_made (text_fits ▸ gives_maybe comma_fits) (λ x h. h) or gives_made expression_fits (λ x h. h)
-
-  pub event_name_fits : Gives n event_name EventNameFits
+module _ {lim : Limits Language} {n : ℕ} where
+  pub event_name_fits : Gives lim n event_name EventNameFits
   event_name_fits = gives_made name_fits (λ e h. h)
 
-  choice_counts : Weighs n Choice choice (λ _. 1)
+  choice_counts : Weighs lim n Choice choice (λ _. 1)
   unfolding choice
   choice_counts = weighs_one refl refl
 
-  choices_fit : Gives n choices (λ xs. Each EventNameFits xs × (2 ≤ length xs))
+  pub choices_fit : Gives lim n choices (λ xs. Each EventNameFits xs × (2 ≤ length xs))
   unfolding choices choice
   choices_fit =
-      let one : Gives n choice EventNameFits = gives_counted event_name_fits in
+      let one : Gives lim n choice EventNameFits = gives_counted event_name_fits in
       gives_made (one ▸ further_gives one ▸ gives_many (further_gives one)) (λ x h. ((h.0, (h.1.0, h.1.1)), omega arith))
 
-  choices_count : Weighs n Choice choices length
+  choices_count : Weighs lim n Choice choices length
   unfolding choices
   choices_count = weighs_made (weighs_then choice_counts (weighs_then (further_counts choice_counts) (many_counts (further_counts choice_counts)))) (λ x. omega arith)
 
-  value_fits : Gives n value_statement (λ s. StatementFits s n)
+-- where operands are limited as in sources
+module _ {lim : Limits Language} {n : ℕ} (operands : IsLimited lim Operand) where
+  pub comma_fits : Gives lim n behind_comma (ExpressionFits n)
+  unfolding behind_comma
+  comma_fits = further_gives (whole_fits operands n)
+
+  pub limit_fits : Gives lim n time_limit (ExpressionFits n)
+  unfolding time_limit
+  limit_fits = gives_made (gives_any ▸ whole_fits operands n) (λ x h. h.1)
+
+  pub printed_fits : Gives lim n printed (PrintedFits n)
+  unfolding printed
+  printed_fits = gives_made (text_fits ▸ gives_maybe comma_fits) (λ x h. h) or gives_made (whole_fits operands n) (λ x h. h)
+
+module _ {n : ℕ} where
+  expression_fits : Gives limits n whole (ExpressionFits n)
+  expression_fits = whole_fits (limited Operand) n
+
+  arguments_fit : Gives limits n arguments (ArgumentsFit n)
+  unfolding arguments argument
+  arguments_fit = gives_so (in_brackets_gives (limited Argument) (gives_counted expression_fits) argument_counts) (λ es h. record { each = h.0; few = h.1 })
+
+  creation_fits : Gives limits n creation (CreationFits n)
+  unfolding creation
+  creation_fits = gives_made (name_fits ▸ gives_any ▸ name_fits ▸ arguments_fit) (λ x h. record { scheduler = h.0; called = h.1.1.0; arguments = h.1.1.1 })
+
+  assigned_fits : Gives limits n assigned (AssignedFits n)
+  unfolding assigned
+  assigned_fits = gives_made (gives_any ▸ creation_fits) (λ x h. h.1) or gives_made expression_fits (λ x h. h)
+
+  value_fits : Gives limits n value_statement (λ s. StatementFits s n)
   unfolding value_statement assignment print create
   value_fits =
       gives_made (gives_counted name_fits ▸ gives_any ▸ assigned_fits ▸ gives_any) (λ x h. assignment_fits_of n x.0 x.1.1.0 h.0 h.1.1.0)
-      or gives_made (gives_any ▸ printed_fits ▸ gives_any) (λ x h. print_fits_of n x.0 x.1.0 h.1.0)
+      or gives_made (gives_any ▸ printed_fits (limited Operand) ▸ gives_any) (λ x h. print_fits_of n x.0 x.1.0 h.1.0)
       or gives_made (gives_any ▸ creation_fits ▸ gives_any) (λ x h. h.1.0)
 
-  select_fits : Gives n select (λ s. StatementFits s n)
+  select_fits : Gives limits n select (λ s. StatementFits s n)
   unfolding statement_rules
   select_fits =
-      gives_made (gives_any ▸ gives_both (gives_fresh choices_fit ▸ gives_maybe limit_fits ▸ gives_any) (gives_few_fresh choices_count refl refl))
+      gives_made (gives_any ▸ gives_both (gives_fresh choices_fit ▸ gives_maybe (limit_fits (limited Operand)) ▸ gives_any) (gives_few_fresh (limited Choice) choices_count refl refl))
       (λ x h. (record { each = h.1.0.0.0; several = h.1.0.0.1; few = h.1.1 }, h.1.0.1.0))
 
-  event_fits : Gives n event_statement (λ s. StatementFits s n)
+  event_fits : Gives limits n event_statement (λ s. StatementFits s n)
   unfolding event_statement generate await_event get broadcast
   event_fits =
-      gives_made (gives_any ▸ event_name_fits ▸ gives_maybe comma_fits ▸ gives_any) (λ x h. (h.1.0, h.1.1.0))
-      or gives_made (gives_any ▸ event_name_fits ▸ gives_maybe limit_fits ▸ gives_any) (λ x h. (h.1.0, h.1.1.0))
+      gives_made (gives_any ▸ event_name_fits ▸ gives_maybe (comma_fits (limited Operand)) ▸ gives_any) (λ x h. (h.1.0, h.1.1.0))
+      or gives_made (gives_any ▸ event_name_fits ▸ gives_maybe (limit_fits (limited Operand)) ▸ gives_any) (λ x h. (h.1.0, h.1.1.0))
       or select_fits
       or gives_made (gives_any ▸ event_name_fits ▸ gives_any ▸ expression_fits ▸ gives_any ▸ name_fits ▸ gives_any) (λ x h. (h.1.0, h.1.1.1.0, h.1.1.1.1.1.0))
-      or gives_made (gives_any ▸ event_name_fits ▸ gives_maybe comma_fits ▸ gives_any) (λ x h. (h.1.0, h.1.1.0))
+      or gives_made (gives_any ▸ event_name_fits ▸ gives_maybe (comma_fits (limited Operand)) ▸ gives_any) (λ x h. (h.1.0, h.1.1.0))
 
-  thread_fits : Gives n thread_statement (λ s. StatementFits s n)
+  thread_fits : Gives limits n thread_statement (λ s. StatementFits s n)
   unfolding thread_statement cooperate join control run halt
   thread_fits =
       gives_made (gives_any ▸ gives_maybe expression_fits ▸ gives_any) (λ x h. h.1.0)
-      or gives_made (gives_any ▸ expression_fits ▸ gives_maybe limit_fits ▸ gives_any) (λ x h. (h.1.0, h.1.1.0))
+      or gives_made (gives_any ▸ expression_fits ▸ gives_maybe (limit_fits (limited Operand)) ▸ gives_any) (λ x h. (h.1.0, h.1.1.0))
       or gives_made (gives_any ▸ expression_fits ▸ gives_any ▸ name_fits ▸ gives_any) (λ x h. (h.1.0, h.1.1.1.0))
       or gives_made (gives_any ▸ name_fits ▸ arguments_fit ▸ gives_any) (λ x h. (h.1.0, h.1.1.0))
       or gives_made gives_any (λ x h. tt)
@@ -133,8 +137,8 @@ else_fits : (n : ℕ) (x : Option (List AnyStatement)) → IfThere (λ ss. State
 else_fits n None h = tt
 else_fits n (Some ss) h = h
 
-module _ {n : ℕ} (branches_inside : Gives n (inside Conditional) (BranchesFit n)) (turns_inside : Gives n (inside Looped) (TurnsFit n)) where
-  moving_fits : Gives n moving_statement (λ s. StatementFits s n)
+module _ {n : ℕ} (branches_inside : Gives limits n (inside Conditional) (BranchesFit n)) (turns_inside : Gives limits n (inside Looped) (TurnsFit n)) where
+  moving_fits : Gives limits n moving_statement (λ s. StatementFits s n)
   unfolding moving_statement link unlink conditional while_loop repeat
   moving_fits =
       gives_made (gives_any ▸ name_fits ▸ gives_any) (λ x h. h.1.0)
@@ -143,32 +147,32 @@ module _ {n : ℕ} (branches_inside : Gives n (inside Conditional) (BranchesFit 
       or gives_made (gives_any ▸ turns_inside ▸ gives_any) (λ x h. h.1.0)
       or gives_made (gives_any ▸ turns_inside ▸ gives_any) (λ x h. h.1.0)
 
-  body_fits : Gives n body (λ ss. StatementsFit (body_of ss) n)
+  body_fits : Gives limits n body (λ ss. StatementsFit (body_of ss) n)
   unfolding body statement
   body_fits = gives_so (gives_many (value_fits or event_fits or thread_fits or moving_fits)) (each_fits n)
 
-  test_fits : Gives n condition (ExpressionFits n)
+  test_fits : Gives limits n condition (ExpressionFits n)
   unfolding condition
   test_fits = gives_made (gives_any ▸ expression_fits ▸ gives_any) (λ x h. h.1.0)
 
-  branches_fit : Gives n branches (BranchesFit (suc n))
+  branches_fit : Gives limits n branches (BranchesFit (suc n))
   unfolding branches otherwise
   branches_fit =
       gives_made (test_fits ▸ gives_any ▸ body_fits ▸ gives_maybe (gives_made (gives_any ▸ body_fits) (λ x h. h.1)))
       (λ x h. (n, omega arith, h.0, h.1.1.0, else_fits n x.1.1.1 h.1.1.1))
 
-  turns_fit : Gives n turns (TurnsFit (suc n))
+  turns_fit : Gives limits n turns (TurnsFit (suc n))
   unfolding turns
   turns_fit = gives_made (test_fits ▸ gives_any ▸ body_fits) (λ x h. (n, omega arith, h.0, h.1.1))
 
-insides_fit : (n : ℕ) → Gives n (inside Conditional) (BranchesFit n) × Gives n (inside Looped) (TurnsFit n)
+insides_fit : (n : ℕ) → Gives limits n (inside Conditional) (BranchesFit n) × Gives limits n (inside Looped) (TurnsFit n)
 insides_fit zero = (gives_inside_none Conditional (BranchesFit 0), gives_inside_none Looped (TurnsFit 0))
 insides_fit (suc n) =
     let h = insides_fit n in
     (gives_inside n Conditional (BranchesFit (suc n)) (branches_fit h.0 h.1), gives_inside n Looped (TurnsFit (suc n)) (turns_fit h.0 h.1))
 
 -- Statements that are spelled keep the limits.
-pub statements_fit : (n : ℕ) → Gives n body (λ ss. StatementsFit (body_of ss) n)
+pub statements_fit : (n : ℕ) → Gives limits n body (λ ss. StatementsFit (body_of ss) n)
 statements_fit n = let h = insides_fit n in body_fits h.0 h.1
 
 -- ---- how many statements there are
@@ -194,13 +198,13 @@ print_size at (inl x) = omega arith
 print_size at (inr e) = omega arith
 
 module _ {n : ℕ} where
-  value_size : Weighs n Statement value_statement size_of
+  value_size : Weighs limits n Statement value_statement size_of
   unfolding statement_rules
   value_size =
       weighs_either (weighs_made (weighs_one refl refl) (λ x. assignment_size x.0 x.1.1.0))
       (weighs_either (weighs_made (weighs_one refl refl) (λ x. print_size x.0 x.1.0)) (weighs_made (weighs_one refl refl) (λ x. omega arith)))
 
-  event_size : Weighs n Statement event_statement size_of
+  event_size : Weighs limits n Statement event_statement size_of
   unfolding statement_rules
   event_size =
       weighs_either (weighs_made (weighs_one refl refl) (λ x. omega arith))
@@ -208,7 +212,7 @@ module _ {n : ℕ} where
       (weighs_either (weighs_made (weighs_one refl refl) (λ x. omega arith))
       (weighs_either (weighs_made (weighs_one refl refl) (λ x. omega arith)) (weighs_made (weighs_one refl refl) (λ x. omega arith)))))
 
-  thread_size : Weighs n Statement thread_statement size_of
+  thread_size : Weighs limits n Statement thread_statement size_of
   unfolding statement_rules
   thread_size =
       weighs_either (weighs_made (weighs_one refl refl) (λ x. omega arith))
@@ -216,8 +220,8 @@ module _ {n : ℕ} where
       (weighs_either (weighs_made (weighs_one refl refl) (λ x. omega arith))
       (weighs_either (weighs_made (weighs_one refl refl) (λ x. omega arith)) (weighs_made (weighs_one refl refl) (λ x. omega arith)))))
 
-module _ {n : ℕ} (branches_inside : Weighs n Statement (inside Conditional) branches_size) (turns_inside : Weighs n Statement (inside Looped) turns_size) where
-  moving_size : Weighs n Statement moving_statement size_of
+module _ {n : ℕ} (branches_inside : Weighs limits n Statement (inside Conditional) branches_size) (turns_inside : Weighs limits n Statement (inside Looped) turns_size) where
+  moving_size : Weighs limits n Statement moving_statement size_of
   unfolding moving_statement link unlink conditional while_loop repeat
   moving_size =
       weighs_either (weighs_made (weighs_one refl refl) (λ x. omega arith))
@@ -226,15 +230,15 @@ module _ {n : ℕ} (branches_inside : Weighs n Statement (inside Conditional) br
       (weighs_either (weighs_made (weighs_then (weighs_one refl refl) (weighs_then turns_inside (weighs_none refl))) (λ x. omega arith))
       (weighs_made (weighs_then (weighs_one refl refl) (weighs_then turns_inside (weighs_none refl))) (λ x. omega arith)))))
 
-  body_counts : Weighs n Statement body (λ ss. size (body_of ss))
+  body_counts : Weighs limits n Statement body (λ ss. size (body_of ss))
   unfolding body statement
   body_counts = weighs_so (weighs_many (weighs_either value_size (weighs_either event_size (weighs_either thread_size moving_size)))) body_size
 
-  test_counts : Weighs n Statement condition (λ _. 0)
+  test_counts : Weighs limits n Statement condition (λ _. 0)
   unfolding statement_rules
   test_counts = weighs_none refl
 
-  branches_count : Weighs n Statement branches branches_size
+  branches_count : Weighs limits n Statement branches branches_size
   unfolding branches otherwise
   branches_count =
       weighs_made
@@ -242,16 +246,16 @@ module _ {n : ℕ} (branches_inside : Weighs n Statement (inside Conditional) br
       (weighs_maybe {q = λ x. size (else_of x)} refl (λ x. omega arith) (weighs_made {q = λ ss. size (body_of ss)} (weighs_then (weighs_none refl) body_counts) (λ x. omega arith))))))
       (λ x. omega arith)
 
-  turns_count : Weighs n Statement turns turns_size
+  turns_count : Weighs limits n Statement turns turns_size
   unfolding turns
   turns_count = weighs_made (weighs_then test_counts (weighs_then (weighs_none refl) body_counts)) (λ x. omega arith)
 
-insides_count : (n : ℕ) → Weighs n Statement (inside Conditional) branches_size × Weighs n Statement (inside Looped) turns_size
+insides_count : (n : ℕ) → Weighs limits n Statement (inside Conditional) branches_size × Weighs limits n Statement (inside Looped) turns_size
 insides_count zero = (weighs_inside_none Statement Conditional branches_size, weighs_inside_none Statement Looped turns_size)
 insides_count (suc n) =
     let h = insides_count n in
     (weighs_inside n Statement Conditional branches_size (branches_count h.0 h.1), weighs_inside n Statement Looped turns_size (turns_count h.0 h.1))
 
 -- Statements that are spelled count one each.
-pub statements_count : (n : ℕ) → Weighs n Statement body (λ ss. size (body_of ss))
+pub statements_count : (n : ℕ) → Weighs limits n Statement body (λ ss. size (body_of ss))
 statements_count n = let h = insides_count n in body_counts h.0 h.1

@@ -6,7 +6,7 @@ use Rattle.loft_parse.proofs.argument.further_arguments.Given as goal
 
 -- what was read and what is left make up the whole
 abbrev pub invariant-all : goal.invariant-all
-invariant-all l = with_front (expressions_of l.arguments) (reads l.deeper (many (further argument)) l.at) ≡ with_front (expressions_of l.fn.arguments) (reads l.deeper (many (further argument)) l.fn.at)
+invariant-all g l = with_front (expressions_of l.arguments) (reads g.L.Limited.limits l.deeper (many (further argument)) l.at) ≡ with_front (expressions_of l.fn.arguments) (reads g.L.Limited.limits l.deeper (many (further argument)) l.fn.at)
 
 abbrev pub decreases-all : goal.decreases-all
-decreases-all l = length l.at.symbols.now
+decreases-all g l = length l.at.symbols.now

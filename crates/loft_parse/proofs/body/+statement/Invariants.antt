@@ -5,35 +5,35 @@ use Rattle.loft_parse.specs.View.{reads, with_front, statement_list_of}
 use Rattle.loft_parse.proofs.body.+statement.Given as goal
 
 abbrev pub decreases-conditional : goal.decreases-conditional
-decreases-conditional l = 16 * l.deeper + 0
+decreases-conditional g l = 16 * l.deeper + 0
 
 abbrev pub decreases-while_loop : goal.decreases-while_loop
-decreases-while_loop l = 16 * l.deeper + 0
+decreases-while_loop g l = 16 * l.deeper + 0
 
 abbrev pub decreases-repeat : goal.decreases-repeat
-decreases-repeat l = 16 * l.deeper + 0
+decreases-repeat g l = 16 * l.deeper + 0
 
 abbrev pub decreases-moving_statement : goal.decreases-moving_statement
-decreases-moving_statement l = 16 * l.deeper + 1
+decreases-moving_statement g l = 16 * l.deeper + 1
 
 abbrev pub decreases-statement : goal.decreases-statement
-decreases-statement l = 16 * l.deeper + 2
+decreases-statement g l = 16 * l.deeper + 2
 
 abbrev pub decreases-body : goal.decreases-body
-decreases-body l = 16 * l.deeper + 3
+decreases-body g l = 16 * l.deeper + 3
 
 abbrev pub decreases-otherwise : goal.decreases-otherwise
-decreases-otherwise l = 16 * l.deeper + 4
+decreases-otherwise g l = 16 * l.deeper + 4
 
 abbrev pub decreases-branches : goal.decreases-branches
-decreases-branches l = 16 * l.deeper + 5
+decreases-branches g l = 16 * l.deeper + 5
 
 abbrev pub decreases-turns : goal.decreases-turns
-decreases-turns l = 16 * l.deeper + 5
+decreases-turns g l = 16 * l.deeper + 5
 
 -- what was read and what is left make up the whole
 abbrev pub invariant-body-all : goal.invariant-body-all
-invariant-body-all l = with_front (statement_list_of l.statements) (reads l.deeper (many statement) l.at) ≡ reads l.deeper body l.fn.at
+invariant-body-all g l = with_front (statement_list_of l.statements) (reads g.L.Limited.limits l.deeper (many statement) l.at) ≡ reads g.L.Limited.limits l.deeper body l.fn.at
 
 abbrev pub decreases-body-all : goal.decreases-body-all
-decreases-body-all l = length l.at.symbols.now
+decreases-body-all g l = length l.at.symbols.now

@@ -1,12 +1,13 @@
 use Rattle.std.proofs.Common.{◌≡◌, length}
 use Rattle.loft_form.specs.Form.{many}
 use Rattle.loft_parse.specs.Grammar.{further, outer_argument}
+use Rattle.loft_parse.specs.Source.{limits}
 use Rattle.loft_parse.specs.View.{reads_flat, with_front, arguments_of}
 use Rattle.loft_parse.proofs.constant_argument.further_arguments.Given as goal
 
 -- what was read and what is left make up the whole
 abbrev pub invariant-all : goal.invariant-all
-invariant-all l = with_front (arguments_of l.arguments) (reads_flat (many (further outer_argument)) l.at) ≡ with_front (arguments_of l.fn.arguments) (reads_flat (many (further outer_argument)) l.fn.at)
+invariant-all l = with_front (arguments_of l.arguments) (reads_flat limits (many (further outer_argument)) l.at) ≡ with_front (arguments_of l.fn.arguments) (reads_flat limits (many (further outer_argument)) l.fn.at)
 
 abbrev pub decreases-all : goal.decreases-all
 decreases-all l = length l.at.symbols.now

@@ -6,7 +6,7 @@ use Rattle.loft_parse.proofs.event_statement.further_choices.Given as goal
 
 -- what was read and what is left make up the whole
 abbrev pub invariant-all : goal.invariant-all
-invariant-all l = with_front (event_names_of l.events) (reads_flat (many (further choice)) l.at) ≡ with_front (event_names_of l.fn.events) (reads_flat (many (further choice)) l.fn.at)
+invariant-all g l = with_front (event_names_of l.events) (reads_flat g.L.Limited.limits (many (further choice)) l.at) ≡ with_front (event_names_of l.fn.events) (reads_flat g.L.Limited.limits (many (further choice)) l.fn.at)
 
 abbrev pub decreases-all : goal.decreases-all
-decreases-all l = length l.at.symbols.now
+decreases-all g l = length l.at.symbols.now

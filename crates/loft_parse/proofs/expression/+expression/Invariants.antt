@@ -16,38 +16,38 @@ rank Conjunction = 11
 rank Disjunction = 14
 
 abbrev pub decreases-bracketed : goal.decreases-bracketed
-decreases-bracketed l = 20 * l.deeper + 0
+decreases-bracketed g l = 20 * l.deeper + 0
 
 abbrev pub decreases-negated : goal.decreases-negated
-decreases-negated l = 20 * l.deeper + 0
+decreases-negated g l = 20 * l.deeper + 0
 
 abbrev pub decreases-inverted : goal.decreases-inverted
-decreases-inverted l = 20 * l.deeper + 0
+decreases-inverted g l = 20 * l.deeper + 0
 
 abbrev pub decreases-atom : goal.decreases-atom
-decreases-atom l = 20 * l.deeper + 1
+decreases-atom g l = 20 * l.deeper + 1
 
 abbrev pub decreases-unary : goal.decreases-unary
-decreases-unary l = 20 * l.deeper + 2
+decreases-unary g l = 20 * l.deeper + 2
 
 abbrev pub decreases-compared : goal.decreases-compared
-decreases-compared l = 20 * l.deeper + 9
+decreases-compared g l = 20 * l.deeper + 9
 
 abbrev pub decreases-comparison : goal.decreases-comparison
-decreases-comparison l = 20 * l.deeper + 10
+decreases-comparison g l = 20 * l.deeper + 10
 
 abbrev pub decreases-operand : goal.decreases-operand
-decreases-operand l = 20 * l.deeper + rank l.level
+decreases-operand g l = 20 * l.deeper + rank l.level
 
 abbrev pub decreases-operation : goal.decreases-operation
-decreases-operation l = 20 * l.deeper + (rank l.level + 1)
+decreases-operation g l = 20 * l.deeper + (rank l.level + 1)
 
 abbrev pub decreases-chain : goal.decreases-chain
-decreases-chain l = 20 * l.deeper + (rank l.level + 2)
+decreases-chain g l = 20 * l.deeper + (rank l.level + 2)
 
 -- what was read of a chain and what is left of it make up the whole
 abbrev pub invariant-chain-chain : goal.invariant-chain-chain
-invariant-chain-chain l = finish (expression_of l.left) (reads l.deeper (many (operation_at l.level)) l.at) ≡ reads l.deeper (chain_at l.level) l.fn.at
+invariant-chain-chain g l = finish (expression_of l.left) (reads g.L.Limited.limits l.deeper (many (operation_at l.level)) l.at) ≡ reads g.L.Limited.limits l.deeper (chain_at l.level) l.fn.at
 
 abbrev pub decreases-chain-chain : goal.decreases-chain-chain
-decreases-chain-chain l = length l.at.symbols.now
+decreases-chain-chain g l = length l.at.symbols.now

@@ -1,0 +1,32 @@
+use Rattle.std.proofs.Common.{subst}
+use Rattle.loft_lex.specs.TextSymbols.{symbols_seen, SymbolsOf}
+use Rattle.loft_tree.specs.View.{expression_of}
+use Rattle.loft_form.specs.Reading.{Gives, read}
+use Rattle.loft_parse.specs.Grammar.{rules, whole}
+use Rattle.loft_parse.specs.Source.{limits, nesting, beginning}
+use Rattle.loft_parse.specs.View.{viewed}
+use Rattle.loft_parse.specs.Parts.{IsCut}
+use Rattle.loft_tree.specs.Fits.{ExpressionFits}
+use Rattle.loft_parse.proofs.Checked.{whole_checked}
+use Rattle.loft_parse.proofs.PartLaws.{started, part_read, part_only, part_fits}
+use Rattle.loft_parse.proofs.fits.Expressions.{whole_fits}
+use Rattle.loft_parse.proofs.fits.Parts.{limited}
+use Rattle.loft_parse.specs.declared.counts.Counted.TheVariants.{Operand}
+use Rattle.loft_parse.proofs.part.read_expression.Goals as goal
+
+pub returns-in-Some-clause-read : goal.returns-in-Some-clause-read
+returns-in-Some-clause-read c =
+    let ss = symbols_seen c.as_slice.result.now in
+    let of : SymbolsOf c.args.text.now ss = rw c.as_slice.ensures.value (subst (IsCut c.args.text.now) c.in-Some.is c.in_ok-found.ensures) in
+    let gives : Gives (viewed expression_of) c.whole.result (read rules limits nesting whole ss beginning) = started expression_of limits nesting whole c.start.result ss c.whole.result c.start.ensures.symbols c.start.ensures.state c.whole.ensures in
+    part_read whole_checked limits c.args.text.now ss of expression_of c.whole.result c.all_of.result gives c.all_of.ensures
+
+pub returns-in-Some-clause-only : goal.returns-in-Some-clause-only
+returns-in-Some-clause-only c =
+    let ss = symbols_seen c.as_slice.result.now in
+    let of : SymbolsOf c.args.text.now ss = rw c.as_slice.ensures.value (subst (IsCut c.args.text.now) c.in-Some.is c.in_ok-found.ensures) in
+    let gives : Gives (viewed expression_of) c.whole.result (read rules limits nesting whole ss beginning) = started expression_of limits nesting whole c.start.result ss c.whole.result c.start.ensures.symbols c.start.ensures.state c.whole.ensures in
+    λ x spells short. part_only whole_checked limits c.args.text.now ss of expression_of c.whole.result c.all_of.result gives c.all_of.ensures x spells
+
+pub returns-in-Some-clause-fits : goal.returns-in-Some-clause-fits
+returns-in-Some-clause-fits c = part_fits expression_of limits whole (ExpressionFits nesting) c.args.text.now (whole_fits (limited Operand) nesting) c.all_of.result (returns-in-Some-clause-read c)

@@ -1,0 +1,29 @@
+use Rattle.std.proofs.Common.{subst}
+use Rattle.loft_lex.specs.TextSymbols.{symbols_seen, SymbolsOf}
+use Rattle.loft_tree.specs.View.{statement_of}
+use Rattle.loft_form.specs.Reading.{Gives, read}
+use Rattle.loft_parse.specs.Grammar.{rules, statement}
+use Rattle.loft_parse.specs.Source.{line_limits, nesting, beginning}
+use Rattle.loft_parse.specs.View.{viewed}
+use Rattle.loft_parse.specs.Parts.{IsCut, LineFits}
+use Rattle.loft_parse.proofs.Checked.{statement_checked}
+use Rattle.loft_parse.proofs.PartLaws.{started, part_read, part_only, part_fits}
+use Rattle.loft_parse.proofs.fits.Lines.{line_fits}
+use Rattle.loft_parse.proofs.part.read_statement.Goals as goal
+
+pub returns-in-Some-clause-read : goal.returns-in-Some-clause-read
+returns-in-Some-clause-read c =
+    let ss = symbols_seen c.as_slice.result.now in
+    let of : SymbolsOf c.args.text.now ss = rw c.as_slice.ensures.value (subst (IsCut c.args.text.now) c.in-Some.is c.in_ok-found.ensures) in
+    let gives : Gives (viewed statement_of) c.statement.result (read rules line_limits nesting statement ss beginning) = started statement_of line_limits nesting statement c.start.result ss c.statement.result c.start.ensures.symbols c.start.ensures.state c.statement.ensures in
+    part_read statement_checked line_limits c.args.text.now ss of statement_of c.statement.result c.all_of.result gives c.all_of.ensures
+
+pub returns-in-Some-clause-only : goal.returns-in-Some-clause-only
+returns-in-Some-clause-only c =
+    let ss = symbols_seen c.as_slice.result.now in
+    let of : SymbolsOf c.args.text.now ss = rw c.as_slice.ensures.value (subst (IsCut c.args.text.now) c.in-Some.is c.in_ok-found.ensures) in
+    let gives : Gives (viewed statement_of) c.statement.result (read rules line_limits nesting statement ss beginning) = started statement_of line_limits nesting statement c.start.result ss c.statement.result c.start.ensures.symbols c.start.ensures.state c.statement.ensures in
+    λ x spells short. part_only statement_checked line_limits c.args.text.now ss of statement_of c.statement.result c.all_of.result gives c.all_of.ensures x spells
+
+pub returns-in-Some-clause-fits : goal.returns-in-Some-clause-fits
+returns-in-Some-clause-fits c = part_fits statement_of line_limits statement LineFits c.args.text.now line_fits c.all_of.result (returns-in-Some-clause-read c)

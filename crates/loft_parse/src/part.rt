@@ -1,0 +1,188 @@
+//! Reading a part of a source that is a text by itself.
+
+ghost use Rattle.std.specs.Prelude.{◌≡◌, ◌≤◌, Some, IfOk, IfSome, length};
+ghost use Rattle.std.specs.Option.{option_map};
+ghost use Rattle.loft_lex.specs.TextSymbols.{symbols_seen};
+ghost use Rattle.loft_tree.specs.Source.{Expression, Statement, Named, ModuleHead as Head, Order, Declaration};
+ghost use Rattle.loft_tree.specs.View.{expression_of, statement_of, named_of, head_of, order_of, declaration_of};
+ghost use Rattle.loft_tree.specs.Fits.{ExpressionFits, OrderFits, DeclarationFits};
+ghost use Rattle.loft_parse.specs.Source.{limits, line_limits, nesting, beginning};
+ghost use Rattle.loft_parse.specs.Grammar.{whole, statement, head, local, order, item};
+ghost use Rattle.loft_parse.specs.Parts.{SpellsPart, NamedFits, HeadFits, LineFits, IsCut, ComesOf};
+ghost use Rattle.loft_parse.specs.View.{symbols_at, state_at};
+
+use crate::body::statement;
+use crate::counts::Counts;
+use crate::cursor::Cursor;
+use crate::expression::whole;
+use crate::head::{head, local};
+use crate::item::{NESTING, item};
+use crate::limited::{LineLimits, SourceLimits};
+use crate::order::order;
+use loft_base::NoMemory;
+use loft_form::Stop;
+use loft_lex::{LexError, MAX_TEXT_LEN, Symbol, read_symbols};
+use loft_tree::{Expr, Item, ModuleHead, OutsideOrder, Stmt, Variable};
+use std::alloc::Global;
+
+/// The symbols of the text, unless it is too long or has a lexical fault.
+#[tactic(auto, using(crate::proofs::PartLaws::fault_uncut))]
+fn symbols_of<'a>(alloc: Global, text: &'a [u8]) -> Result<Option<Vec<Symbol<'a>>>, NoMemory>
+    ensures { IfOk result (IsCut text.now) }
+{
+    if text.len() > MAX_TEXT_LEN {
+        return Ok(None);
+    }
+    match read_symbols(alloc, text) {
+        Ok(symbols) => Ok(Some(symbols)),
+        Err(LexError::BadByte(_)) => Ok(None),
+        Err(LexError::OpenText(_)) => Ok(None),
+        Err(LexError::LongName(_)) => Ok(None),
+        Err(LexError::LongText(_)) => Ok(None),
+        Err(LexError::BadNumber(_)) => Ok(None),
+        Err(LexError::NoMemory) => Err(NoMemory),
+    }
+}
+
+/// The cursor before these symbols, where nothing is counted.
+fn start<'a>(symbols: &'a [Symbol<'a>]) -> Cursor<'a>
+    ensures symbols { symbols_at result ≡ symbols_seen symbols.entry.now }
+    ensures state { state_at result ≡ beginning }
+{
+    Cursor::after(symbols, Counts::none())
+}
+
+/// What was read, if no symbol is left.
+fn all_of<'a, T: Drop>(read: Result<(T, Cursor<'a>), Stop>) -> Result<Option<T>, NoMemory>
+    ensures { ComesOf read.entry result }
+{
+    match read {
+        Ok((part, at)) => match at.symbols {
+            [] => Ok(Some(part)),
+            _ => Ok(None),
+        },
+        Err(Stop::Fault(_)) => Ok(None),
+        Err(Stop::NoMemory) => Err(NoMemory),
+    }
+}
+
+/// The statement that the text is, within the limits of a line; nothing where it is none, or has more than 4 MiB
+/// (docs/LANGUAGE.md, "Parts of a source").
+///
+/// # Errors
+///
+/// `NoMemory` where memory runs out, whatever the text is.
+pub fn read_statement(alloc: Global, text: &[u8]) -> Result<Option<Stmt>, NoMemory>
+    ensures read { IfOk result (λ found. IfSome found (λ v.
+        SpellsPart line_limits statement text.now (statement_of v))) }
+    ensures only { (x : Statement)
+        → SpellsPart line_limits statement text.now x → length text.now ≤ MAX_TEXT_LEN
+        → IfOk result (λ found. option_map statement_of found ≡ Some x) }
+    ensures fits { IfOk result (λ found. IfSome found (λ v. LineFits (statement_of v))) }
+{
+    match symbols_of(alloc, text)? {
+        Some(found) => all_of(statement::<LineLimits>(alloc, NESTING, start(found.as_slice()))),
+        None => Ok(None),
+    }
+}
+
+/// The expression that the text is; nothing where it is none, or has more than 4 MiB
+/// (docs/LANGUAGE.md, "Parts of a source").
+///
+/// # Errors
+///
+/// `NoMemory` where memory runs out, whatever the text is.
+pub fn read_expression(alloc: Global, text: &[u8]) -> Result<Option<Expr>, NoMemory>
+    ensures read { IfOk result (λ found. IfSome found (λ v.
+        SpellsPart limits whole text.now (expression_of v))) }
+    ensures only { (x : Expression)
+        → SpellsPart limits whole text.now x → length text.now ≤ MAX_TEXT_LEN
+        → IfOk result (λ found. option_map expression_of found ≡ Some x) }
+    ensures fits { IfOk result (λ found. IfSome found (λ v.
+        ExpressionFits nesting (expression_of v))) }
+{
+    match symbols_of(alloc, text)? {
+        Some(found) => all_of(whole::<SourceLimits>(alloc, NESTING, start(found.as_slice()))),
+        None => Ok(None),
+    }
+}
+
+/// The declaration that the text is; nothing where it is none, or has more than 4 MiB
+/// (docs/LANGUAGE.md, "Parts of a source").
+///
+/// # Errors
+///
+/// `NoMemory` where memory runs out, whatever the text is.
+pub fn read_declaration(alloc: Global, text: &[u8]) -> Result<Option<Item>, NoMemory>
+    ensures read { IfOk result (λ found. IfSome found (λ v.
+        SpellsPart limits item text.now (declaration_of v))) }
+    ensures only { (x : Declaration)
+        → SpellsPart limits item text.now x → length text.now ≤ MAX_TEXT_LEN
+        → IfOk result (λ found. option_map declaration_of found ≡ Some x) }
+    ensures fits { IfOk result (λ found. IfSome found (λ v. DeclarationFits (declaration_of v))) }
+{
+    match symbols_of(alloc, text)? {
+        Some(found) => all_of(item(alloc, start(found.as_slice()))),
+        None => Ok(None),
+    }
+}
+
+/// The line of a module up to its local variables that the text is; nothing where it is none, or has more than 4 MiB
+/// (docs/LANGUAGE.md, "Parts of a source").
+///
+/// # Errors
+///
+/// `NoMemory` where memory runs out, whatever the text is.
+pub fn read_head(alloc: Global, text: &[u8]) -> Result<Option<ModuleHead>, NoMemory>
+    ensures read { IfOk result (λ found. IfSome found (λ v.
+        SpellsPart limits head text.now (head_of v))) }
+    ensures only { (x : Head)
+        → SpellsPart limits head text.now x → length text.now ≤ MAX_TEXT_LEN
+        → IfOk result (λ found. option_map head_of found ≡ Some x) }
+    ensures fits { IfOk result (λ found. IfSome found (λ v. HeadFits (head_of v))) }
+{
+    match symbols_of(alloc, text)? {
+        Some(found) => all_of(head(alloc, start(found.as_slice()))),
+        None => Ok(None),
+    }
+}
+
+/// The local variable that the text declares; nothing where it is none, or has more than 4 MiB
+/// (docs/LANGUAGE.md, "Parts of a source").
+///
+/// # Errors
+///
+/// `NoMemory` where memory runs out, whatever the text is.
+pub fn read_local(alloc: Global, text: &[u8]) -> Result<Option<Variable>, NoMemory>
+    ensures read { IfOk result (λ found. IfSome found (λ v.
+        SpellsPart limits local text.now (named_of v))) }
+    ensures only { (x : Named)
+        → SpellsPart limits local text.now x → length text.now ≤ MAX_TEXT_LEN
+        → IfOk result (λ found. option_map named_of found ≡ Some x) }
+    ensures fits { IfOk result (λ found. IfSome found (λ v. NamedFits (named_of v))) }
+{
+    match symbols_of(alloc, text)? {
+        Some(found) => all_of(local(alloc, start(found.as_slice()))),
+        None => Ok(None),
+    }
+}
+
+/// The order of an outside client that the text is; nothing where it is none, or has more than 4 MiB
+/// (docs/LANGUAGE.md, "Parts of a source").
+///
+/// # Errors
+///
+/// `NoMemory` where memory runs out, whatever the text is.
+pub fn read_order(alloc: Global, text: &[u8]) -> Result<Option<OutsideOrder>, NoMemory>
+    ensures read { IfOk result (λ found. IfSome found (λ v.
+        SpellsPart limits order text.now (order_of v))) }
+    ensures only { (x : Order)
+        → SpellsPart limits order text.now x → length text.now ≤ MAX_TEXT_LEN
+        → IfOk result (λ found. option_map order_of found ≡ Some x) }
+    ensures fits { IfOk result (λ found. IfSome found (λ v. OrderFits (order_of v))) }
+{
+    match symbols_of(alloc, text)? {
+        Some(found) => all_of(order(alloc, start(found.as_slice()))),
+        None => Ok(None),
+    }
+}
