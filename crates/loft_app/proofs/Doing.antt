@@ -1,5 +1,5 @@
 -- From what was done for a program to what was done for the contents that are its text.
-use Rattle.std.proofs.Common.{◌≡◌, ℕ, ◌⊎◌, inl, inr, List, refl, subst, Option, Some, Result, Err}
+use Rattle.std.proofs.Common.{◌≡◌, ℕ, ◌⊎◌, inl, inr, List, refl, subst, Option, Some, Result, Ok, Err}
 use Rattle.loft_base.specs.declared.writing.WriteError.{WriteError}
 use Rattle.loft_base.specs.declared.writing.WriteError.TheVariants as write
 use Rattle.loft_tree.specs.Source.{Source}
@@ -12,7 +12,7 @@ use Rattle.loft_app.specs.Written.{Appends, IsPrefix}
 use Rattle.loft_app.specs.declared.run_code.RunError.{RunError}
 use Rattle.loft_app.specs.declared.run_code.RunError.TheVariants as run
 use Rattle.loft_app.specs.Stops.{stop_of_write, stop_of_run}
-use Rattle.loft_app.specs.Refusals.{IsTextOf, IsRefusedFor, IsCause, Asks}
+use Rattle.loft_app.specs.Refusals.{IsTextOf, IsRefusedFor, IsCause, Asks, Takes}
 use Rattle.loft_app.specs.Promise.{IsAnswerFor, IsAnswer}
 use Rattle.loft_app.specs.Found.{IsFault}
 use Rattle.loft_app.specs.Answer.{Does, Attempts}
@@ -56,6 +56,22 @@ unread_attempts c known e old fault = record {
   where
     at : (r : Result (Unit {0}) Stopped) → r ≡ Err e → (s : Stopped) → r ≡ Err s → (contents : List ℕ) → known ≡ Some contents → IsFault contents s
     at r is s also contents k = let same : e ≡ s = cc (is, also) in subst (IsFault contents) same (fault contents k)
+
+ok_is_no_stop : {P : Type 0} (result : Result (Unit {0}) Stopped) → result ≡ Ok tt → result ≡ Err stopped.SinkFault ⊎ result ≡ Err stopped.NoMemory → P
+ok_is_no_stop result is (inl e) = absurd cc
+ok_is_no_stop result is (inr e) = absurd cc
+
+-- the answer was written
+pub done_does : {c : Command} {p : Source} {result : Result (Unit {0}) Stopped} {old new : Option (List ℕ)}
+    → result ≡ Ok tt → Takes c p → Appends old new (IsAnswerFor c p) → Does c p result old new
+done_does {result = result} is takes whole = record {
+  takes = λ ok. takes;
+  written = λ ok. whole;
+  refused = λ r e. absurd cc;
+  silent = λ r e. absurd cc;
+  no_file = λ e. cc;
+  cut = λ e. ok_is_no_stop result is e;
+}
 
 -- what was written of the answer breaks off
 pub failed_does : {c : Command} {p : Source} {result : Result (Unit {0}) Stopped} {old new : Option (List ℕ)}

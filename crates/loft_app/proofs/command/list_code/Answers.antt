@@ -1,4 +1,4 @@
-use Rattle.std.proofs.Common.{◌≡◌, ◌∙◌, ap, Err}
+use Rattle.std.proofs.Common.{◌≡◌, ◌∙◌, ap, refl, Err}
 use Rattle.std.proofs.lemmas.Result.{err_from_is_err_and}
 use Rattle.loft_tree.specs.NamedTree.{NamedProgram}
 use Rattle.loft_tree.specs.Resolved.{resolved_of}
@@ -10,8 +10,8 @@ use Rattle.loft_app.specs.declared.refusal.Stopped.{Stopped}
 use Rattle.loft_app.specs.Stops.{stop_of_write}
 use Rattle.loft_words.specs.Command.{Compile}
 use Rattle.loft_app.specs.Promise.{IsAnswerFor}
-use Rattle.loft_app.proofs.Doing.{failed_does, write_stops}
-use Rattle.loft_app.proofs.Written.{begun}
+use Rattle.loft_app.proofs.Doing.{done_does, failed_does, write_stops}
+use Rattle.loft_app.proofs.Written.{appends, begun}
 use Rattle.loft_app.proofs.command.list_code.Goals as goal
 
 pub returns-in_err-write_lines-clause-does : goal.returns-in_err-write_lines-clause-does
@@ -23,3 +23,10 @@ returns-in_err-write_lines-clause-does g c = λ file.
     let listed = c.as_slice.ensures.value ∙ (c.in_ok-text.ensures ∙ ap (λ (a : Automata). listing_text a) code) in
     failed_does (write_stops w c.from_residual-in_err-write_lines.result is)
     (begun (IsAnswerFor (Compile file) (source_of c.args.program)) c.as_slice.result.now c.in_err-write_lines.ensures.failed (c.in_ok-placed.ensures.well, listed))
+
+pub returns-clause-does : goal.returns-clause-does
+returns-clause-does g c = λ file.
+    let code = c.in_ok-code.ensures ∙ ap (λ (n : NamedProgram). compiled (resolved_of n)) c.in_ok-placed.ensures.program in
+    let listed = c.as_slice.ensures.value ∙ (c.in_ok-text.ensures ∙ ap (λ (a : Automata). listing_text a) code) in
+    done_does refl c.in_ok-placed.ensures.well
+    (appends c.as_slice.result.now c.in_ok-write_lines.ensures.ok (c.in_ok-placed.ensures.well, listed))
