@@ -15,7 +15,7 @@ use Rattle.loft_sense.specs.Heads.{same_scheduler}
 use Rattle.loft_sense.specs.Machine.{Prog, heads}
 use Rattle.loft_sense.specs.Instant.{Replayed, replay}
 use Rattle.loft_sense.specs.History.{Choice, TakeBy, GiveBy, PickBy, PostBy, ClientBy, choice_of, log, in_instant, is_open, waiting, replayed, has_turn, sent_last, entry_of, with_entry, hist_on, hist}
-use Rattle.loft_sense.specs.Legal.{actor_of, same_actor, of, AtEach, TakesAll, TakeTurns, IsDue, IsFaithful, IsDeclared, IsLegal}
+use Rattle.loft_sense.specs.Legal.{actor_of, same_actor, of, AtEach, TakesDue, TakeTurns, IsDue, IsFaithful, IsDeclared, IsLegal}
 use Rattle.loft_sense.proofs.HistoryLemmas.{is_same, same_self, take_allowed, give_allowed, from_first, same_history}
 
 same_head : {a b : Entry} {xs ys : List Entry} → a ∷ xs ≡ b ∷ ys → a ≡ b
@@ -120,10 +120,10 @@ faithful_next x o q s h e f mine next =
 
 -- a legal history and one more entry of a scheduler
 legal_more : (x : Prog) (o : RunOptions) (s : SchedId) (h : List Entry) (e : Entry) → IsLegal x o h → actor_of e ≡ actor.Sched s → s.0 < length (heads x).schedulers
-    → TakesAll (heads x) h e → CanFollow x o s h e → IsLegal x o (h ++ e ∷ [])
+    → TakesDue (heads x) h e → CanFollow x o s h e → IsLegal x o (h ++ e ∷ [])
 legal_more x o s h e legal mine declared takes next = record {
   declared = at_each-append (λ before f. IsDeclared (heads x) (actor_of f)) h e legal.declared (subst (IsDeclared (heads x)) (sym mine) declared);
-  routed = at_each-append (TakesAll (heads x)) h e legal.routed takes;
+  routed = at_each-append (TakesDue (heads x)) h e legal.routed takes;
   faithful = λ q. faithful_next x o q s h e (legal.faithful q) mine next;
 }
 

@@ -1,11 +1,12 @@
 -- Histories: the entries of all actors, in the order in which they were made (docs/SEMANTICS.md, "History").
-use Rattle.std.specs.Prelude.{ℕ, ◌+◌, ◌<◌, nat_lt, ◌==◌, Bool, true, false, ◌||◌, ◌&&◌, not, List, [], ◌∷◌, ◌++◌, length, Option, Some, None, Result, Ok, Err, if◌then◌else◌, IsTrue}
+use Rattle.std.specs.Prelude.{ℕ, ◌+◌, ◌<◌, nat_lt, ◌==◌, Bool, true, false, ◌||◌, ◌&&◌, not, List, [], ◌∷◌, ◌++◌, length, drop, Option, Some, None, Result, Ok, Err, if◌then◌else◌, IsTrue}
 use Rattle.loft_base.specs.declared.ids.SchedId.{SchedId}
 use Rattle.loft_base.specs.declared.ids.Maker.TheVariants.{Source}
 use Rattle.loft_tree.specs.declared.heads.Start.{Start}
 use Rattle.loft_tree.specs.declared.heads.Heads.{Heads}
 use Rattle.loft_sense.specs.declared.order.Order.{Order}
-use Rattle.loft_sense.specs.declared.order.Order.TheVariants.{Create}
+use Rattle.loft_sense.specs.declared.order.Order.TheVariants.{Create, Arrive, Stop, Suspend, Resume, Broadcast, Ended}
+use Rattle.loft_sense.specs.declared.thread.Thread.{Thread}
 use Rattle.loft_sense.specs.declared.order.To.{To}
 use Rattle.loft_sense.specs.declared.order.To.TheVariants.{Sched, Others, All, Workers}
 use Rattle.loft_sense.specs.declared.order.Sent.{Sent}
@@ -90,6 +91,77 @@ waiting_after s before (Client c sent ∷ es) = waiting_after s (before ++ order
 -- what waits for a scheduler: at first the starts of the source
 abbrev pub waiting : Heads → SchedId → List Entry → List Order
 waiting h s es = waiting_after s (starts_of h s) es
+
+-- ---- workers and clients
+
+-- a thread that an order sends to the workers, before others that wait for them
+abbrev pub job_before : To → Order → List Thread → List Thread
+job_before Workers (Arrive t) jobs = t ∷ jobs
+job_before to order jobs = jobs
+
+-- the threads that these orders send to the workers
+abbrev pub jobs_sent : List Sent → List Thread
+jobs_sent [] = []
+jobs_sent (m ∷ ms) = job_before m.to m.order (jobs_sent ms)
+
+-- the threads that wait for a worker after these entries, where these waited before them: a Pick takes the first, every other entry adds what it sends
+abbrev pub jobs_after : List Thread → List Entry → List Thread
+jobs_after before [] = before
+jobs_after before (Take s batch ∷ es) = jobs_after before es
+jobs_after before (Give s sent ∷ es) = jobs_after (before ++ jobs_sent sent) es
+jobs_after before (Pick w job ∷ es) = jobs_after (drop 1 before) es
+jobs_after before (Post w sent ∷ es) = jobs_after (before ++ jobs_sent (sent ∷ [])) es
+jobs_after before (Client c sent ∷ es) = jobs_after (before ++ jobs_sent (sent ∷ [])) es
+
+-- the threads that wait for a worker, the one that has waited longest first
+abbrev pub jobs : List Entry → List Thread
+jobs es = jobs_after [] es
+
+-- the last order of an unlinked block: its thread is linked again, or has ended
+abbrev pub ends_block : Order → Bool
+ends_block (Create t m arguments) = false
+ends_block (Arrive t) = true
+ends_block (Stop t) = false
+ends_block (Suspend t) = false
+ends_block (Resume t) = false
+ends_block (Broadcast event value) = false
+ends_block (Ended t end) = true
+
+-- whether a worker has a job in hand after these entries, where it had one or not before them
+abbrev pub in_hand : ℕ → Bool → List Entry → Bool
+in_hand w had [] = had
+in_hand w had (Take s batch ∷ es) = in_hand w had es
+in_hand w had (Give s sent ∷ es) = in_hand w had es
+in_hand w had (Pick v job ∷ es) = in_hand w (w == v || had) es
+in_hand w had (Post v sent ∷ es) = in_hand w (if w == v then not (ends_block sent.order) else had) es
+in_hand w had (Client c sent ∷ es) = in_hand w had es
+
+-- the worker's last entry is a Pick, or a Post that isn't the last of its job
+abbrev pub is_busy : ℕ → List Entry → Bool
+is_busy w h = in_hand w false h
+
+abbrev pub is_create : Order → Bool
+is_create (Create t m arguments) = true
+is_create (Arrive t) = false
+is_create (Stop t) = false
+is_create (Suspend t) = false
+is_create (Resume t) = false
+is_create (Broadcast event value) = false
+is_create (Ended t end) = false
+
+-- how many creates a client has given after these entries, where it had given so many before them
+abbrev pub creates_after : ℕ → ℕ → List Entry → ℕ
+creates_after c before [] = before
+creates_after c before (Take s batch ∷ es) = creates_after c before es
+creates_after c before (Give s sent ∷ es) = creates_after c before es
+creates_after c before (Pick w job ∷ es) = creates_after c before es
+creates_after c before (Post w sent ∷ es) = creates_after c before es
+creates_after c before (Client d sent ∷ es) = creates_after c (if c == d && is_create sent.order then before + 1 else before) es
+
+abbrev pub creates : ℕ → List Entry → ℕ
+creates c es = creates_after c 0 es
+
+-- ---- schedulers
 
 -- a scheduler's machine and notes, by its own log
 abbrev pub replayed : Prog → Limits → SchedId → List Entry → Replayed

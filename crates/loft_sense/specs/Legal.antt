@@ -7,9 +7,10 @@ use Rattle.loft_sense.specs.declared.entry.Actor.TheVariants as actor
 use Rattle.loft_sense.specs.declared.entry.Entry.{Entry}
 use Rattle.loft_sense.specs.declared.entry.Entry.TheVariants.{Take, Give, Pick, Post, Client}
 use Rattle.loft_sense.specs.declared.limits.RunOptions.{RunOptions}
+use Rattle.loft_sense.specs.declared.thread.Thread.{Thread}
 use Rattle.loft_sense.specs.Heads.{same_scheduler}
 use Rattle.loft_sense.specs.Machine.{Prog, heads}
-use Rattle.loft_sense.specs.History.{waiting, replayed, has_turn, sent_last}
+use Rattle.loft_sense.specs.History.{waiting, jobs, replayed, has_turn, sent_last}
 
 abbrev pub actor_of : Entry → Actor
 actor_of (Take s batch) = actor.Sched s
@@ -38,17 +39,22 @@ of a (e ∷ es) = if same_actor a (actor_of e) then e ∷ of a es else of a es
 abbrev pub AtEach : (List Entry → Entry → Type 0) → List Entry → Type 0
 AtEach P es = (before : List Entry) (e : Entry) (after : List Entry) → es ≡ before ++ e ∷ after → P before e
 
--- a Take takes all that waits for its scheduler
-abbrev pub TakesAll : Heads → List Entry → Entry → Type 0
-TakesAll h before (Take s batch) = batch ≡ waiting h s before
-TakesAll h before (Give s sent) = Unit {0}
-TakesAll h before (Pick w job) = Unit {0}
-TakesAll h before (Post w sent) = Unit {0}
-TakesAll h before (Client c sent) = Unit {0}
+-- the first of these threads
+abbrev pub IsFirst : Thread → List Thread → Type 0
+IsFirst t [] = ⊥
+IsFirst t (u ∷ us) = t ≡ u
 
--- each batch is what waited in the history before it
+-- a Take takes all that waits for its scheduler, a Pick the thread that has waited longest for a worker
+abbrev pub TakesDue : Heads → List Entry → Entry → Type 0
+TakesDue h before (Take s batch) = batch ≡ waiting h s before
+TakesDue h before (Give s sent) = Unit {0}
+TakesDue h before (Pick w job) = IsFirst job (jobs before)
+TakesDue h before (Post w sent) = Unit {0}
+TakesDue h before (Client c sent) = Unit {0}
+
+-- each batch is what waited in the history before it, and each job the first of those that waited
 abbrev pub IsRouted : Heads → List Entry → Type 0
-IsRouted h es = AtEach (TakesAll h) es
+IsRouted h es = AtEach (TakesDue h) es
 
 -- Takes and Gives take turns, and the first is a Give where an instant is running
 abbrev pub TakeTurns : Bool → List Entry → Type 0
