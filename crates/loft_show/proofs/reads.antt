@@ -16,3 +16,4 @@ pub mod Lexes
 pub mod Kept
 pub mod Lines
 pub mod Law
+pub mod PartLaw

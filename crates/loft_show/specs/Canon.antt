@@ -270,6 +270,13 @@ abbrev pub order_lines : List Order → List Line
 order_lines [] = []
 order_lines (x ∷ xs) = order_line x ∷ order_lines xs
 
+-- the lines around the orders of a client
+abbrev pub outside_line : Ident → Line
+outside_line n = line 0 (tight (word w.Outside) ∷ spaced (name n) ∷ spaced (sign s.OpenBrace) ∷ [])
+
+abbrev pub brace_line : Line
+brace_line = line 0 (tight (sign s.CloseBrace) ∷ [])
+
 abbrev pub declaration_lines : Declaration → List Line
 declaration_lines (Scheduler n) = word_line 0 w.Scheduler (spaced (name n) ∷ []) ∷ []
 declaration_lines (Event n scheduler) = word_line 0 w.Event (spaced (name n) ∷ spaced (word w.In) ∷ spaced (name scheduler) ∷ []) ∷ []
@@ -279,7 +286,7 @@ declaration_lines (Module head locals body) = head_line head ∷ (local_lines lo
 declaration_lines (Start scheduler called arguments n) =
     word_line 0 w.Start (call_pieces scheduler called arguments ++ behind name_pieces (spaced (word w.As) ∷ []) n) ∷ []
 declaration_lines (Outside n orders) =
-    line 0 (tight (word w.Outside) ∷ spaced (name n) ∷ spaced (sign s.OpenBrace) ∷ []) ∷ (order_lines orders ++ line 0 (tight (sign s.CloseBrace) ∷ []) ∷ [])
+    outside_line n ∷ (order_lines orders ++ brace_line ∷ [])
 
 abbrev pub source_lines : Source → List Line
 source_lines [] = []

@@ -6,7 +6,7 @@ ghost use Rattle.loft_lex.specs.declared.word.Word.TheVariants as w;
 ghost use Rattle.loft_tree.specs.Source.{Event, Shared, Module, Start, Outside};
 ghost use Rattle.loft_tree.specs.View.{named_of, place_name_of, head_of, statements_of, argument_of, order_of, declaration_of};
 ghost use Rattle.loft_tree.specs.Fits.{StatementsFit, DeclarationFits};
-ghost use Rattle.loft_show.specs.Canon.{behind, declaration_lines, head_line, kind_word, lines_text, local_line, local_lines, name_pieces, named_pieces, pieces_text, place_pieces, space, spaced, word};
+ghost use Rattle.loft_show.specs.Canon.{behind, brace_line, declaration_lines, head_line, kind_word, lines_text, local_line, local_lines, name_pieces, named_pieces, outside_line, pieces_text, place_pieces, space, spaced, word};
 
 use crate::line::{begin_line, end_line, end_statement, put_bare_line, put_name_line};
 use crate::list::{Listed, put_list};
@@ -207,6 +207,34 @@ pub fn put_start(
     end_statement(out)
 }
 
+/// Appends the line `outside c {`.
+///
+/// # Errors
+///
+/// `NoMemory` where there was no memory for the text.
+#[tactic(auto, using(crate::proofs::Items::items))]
+pub fn put_outside_line(out: &mut Vec<u8>, name: &Ident) -> Result<(), NoMemory>
+    ensures { OnOk result (out.new.items ≡ out.old.items ++ lines_text (outside_line name.now ∷ [])) }
+{
+    put_word(out, b"", Word::Outside)?;
+    put_name(out, b" ", name)?;
+    put_sign(out, b" ", Sign::OpenBrace)?;
+    end_line(out)
+}
+
+/// Appends the line `}`.
+///
+/// # Errors
+///
+/// `NoMemory` where there was no memory for the text.
+#[tactic(auto, using(crate::proofs::Items::items))]
+pub fn put_brace_line(out: &mut Vec<u8>) -> Result<(), NoMemory>
+    ensures { OnOk result (out.new.items ≡ out.old.items ++ lines_text (brace_line ∷ [])) }
+{
+    put_sign(out, b"", Sign::CloseBrace)?;
+    end_line(out)
+}
+
 /// Appends the lines of an outside client: its name, and its orders between braces.
 ///
 /// # Errors
@@ -217,16 +245,16 @@ pub fn put_outside(out: &mut Vec<u8>, name: &Ident, orders: &[OutsideOrder]) -> 
     ensures { OnOk result (out.new.items ≡ out.old.items ++ lines_text
         (declaration_lines (Outside name.now (map order_of orders.now)))) }
 {
-    put_word(out, b"", Word::Outside)?;
-    put_name(out, b" ", name)?;
-    put_sign(out, b" ", Sign::OpenBrace)?;
-    end_line(out)?;
+    put_outside_line(out, name)?;
     put_orders(out, orders)?;
-    put_sign(out, b"", Sign::CloseBrace)?;
-    end_line(out)
+    put_brace_line(out)
 }
 
-/// A declaration.
+/// Appends the lines of a declaration.
+///
+/// # Errors
+///
+/// `NoMemory` where there was no memory for the text.
 #[tactic(auto, using(crate::proofs::Items::items))]
 pub fn put_item(out: &mut Vec<u8>, item: &Item) -> Result<(), NoMemory>
     requires { DeclarationFits (declaration_of item.now) }

@@ -52,9 +52,13 @@ fn put_number_part(out: &mut Vec<u8>, value: Option<i64>) -> Result<(), NoMemory
     put_number(out, b" ", value)
 }
 
-/// An order, a line by itself.
+/// Appends an order, a line by itself.
+///
+/// # Errors
+///
+/// `NoMemory` where there was no memory for the text.
 #[tactic(auto, using(crate::proofs::Items::items))]
-fn put_order(out: &mut Vec<u8>, order: &OutsideOrder) -> Result<(), NoMemory>
+pub fn put_order(out: &mut Vec<u8>, order: &OutsideOrder) -> Result<(), NoMemory>
     ensures { OnOk result (out.new.items ≡ out.old.items ++ lines_text
         (order_line (order_of order.now) ∷ [])) }
 {

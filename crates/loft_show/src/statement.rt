@@ -4,6 +4,7 @@ ghost use Rattle.std.specs.Prelude.{◌≡◌, ◌++◌, ◌+◌, ◌-◌, ◌*�
 ghost use Rattle.loft_tree.specs.View.{statement_of, statements_of};
 ghost use Rattle.loft_tree.specs.Fits.{StatementFits, StatementsFit};
 ghost use Rattle.loft_show.specs.Canon.{statement_lines, body_lines, else_lines, lines_text};
+ghost use Rattle.loft_show.specs.PartReads.{IsOneLine};
 
 use crate::line::{put_bare_line, put_name_line, put_test_line, put_word_line};
 use crate::simple::{
@@ -18,15 +19,21 @@ use loft_tree::Stmt;
 /// open around a statement.
 pub const DEEPEST: u8 = 33;
 
-/// A statement that stands so deep.
-#[cycle(statement)]
+/// Appends the line of a statement without bodies.
+///
+/// # Errors
+///
+/// `NoMemory` where there was no memory for the text.
 #[tactic(auto, using(crate::proofs::Texts::bodies))]
-fn put_statement(out: &mut Vec<u8>, statement: &Stmt, depth: u8) -> Result<(), NoMemory>
-    requires { StatementFits (statement_of statement.now) (DEEPEST - depth) }
+pub fn put_statement_line(
+    out: &mut Vec<u8>,
+    indent: usize,
+    statement: &Stmt,
+) -> Result<(), NoMemory>
+    requires { IsOneLine (statement_of statement.now) }
     ensures { OnOk result (out.new.items ≡ out.old.items ++ lines_text
-        (statement_lines (statement_of statement.now) (2 * depth))) }
+        (statement_lines (statement_of statement.now) indent)) }
 {
-    let indent = 2 * usize::from(depth);
     match statement {
         Stmt::Assign { target, value } => put_assign(out, indent, target, value),
         Stmt::AssignCreate {
@@ -67,6 +74,20 @@ fn put_statement(out: &mut Vec<u8>, statement: &Stmt, depth: u8) -> Result<(), N
             ..
         } => put_run(out, indent, called, arguments.as_slice()),
         Stmt::Halt { .. } => put_word_line(out, indent, Word::Halt),
+        Stmt::If { .. } | Stmt::While { .. } | Stmt::Repeat { .. } => unreachable!(),
+    }
+}
+
+/// A statement that stands so deep.
+#[cycle(statement)]
+#[tactic(auto, using(crate::proofs::Texts::bodies))]
+fn put_statement(out: &mut Vec<u8>, statement: &Stmt, depth: u8) -> Result<(), NoMemory>
+    requires { StatementFits (statement_of statement.now) (DEEPEST - depth) }
+    ensures { OnOk result (out.new.items ≡ out.old.items ++ lines_text
+        (statement_lines (statement_of statement.now) (2 * depth))) }
+{
+    let indent = 2 * usize::from(depth);
+    match statement {
         Stmt::If {
             test,
             first,
@@ -88,6 +109,7 @@ fn put_statement(out: &mut Vec<u8>, statement: &Stmt, depth: u8) -> Result<(), N
             put_body(out, body.as_slice(), depth + 1)?;
             put_bare_line(out, indent, Word::End)
         }
+        _ => put_statement_line(out, indent, statement),
     }
 }
 

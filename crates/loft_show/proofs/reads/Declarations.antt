@@ -15,7 +15,7 @@ use Rattle.loft_parse.specs.declared.counts.Counted.TheVariants as count
 use Rattle.loft_parse.specs.declared.counts.Counts.{Counts}
 use Rattle.loft_parse.specs.Counts.{most, number, put, none as nothing}
 use Rattle.loft_parse.specs.Grammar.{end_of, head, module_item, scheduler_item, event_item, shared_item, start_item, outside_item, alias, item, program}
-use Rattle.loft_parse.specs.Source.{SpellsProgram}
+use Rattle.loft_parse.specs.Source.{limits, SpellsProgram}
 use Rattle.loft_show.specs.Canon.{Piece, line, word_line, space, tight, spaced, word, sign, name, behind, signed_pieces, name_pieces, call_pieces, head_line, local_lines, body_lines, end_line, order_lines, declaration_lines, source_lines}
 use Rattle.loft_show.specs.Places.{bare_name, bare_named, bare_place, bare_body, bare_head, bare_declaration, without_places}
 use Rattle.loft_show.proofs.reads.Spelling as spelling
@@ -26,7 +26,7 @@ use Rattle.loft_show.proofs.reads.Bodies.{pieces_joined, body_of-list, body_is}
 use Rattle.loft_show.proofs.reads.Items.{signed_is, parameters_are, locals_are, place_is, ending_is, call_is, followed, SameItems, orders_are}
 
 -- what a declaration counts as
-abbrev what_of : Declaration → Counted
+abbrev pub what_of : Declaration → Counted
 what_of (Scheduler name) = count.Scheduler
 what_of (Event name scheduler) = count.Event
 what_of (Shared name scheduler value) = count.Shared
@@ -35,18 +35,18 @@ what_of (Start scheduler called arguments name) = count.Start
 what_of (Outside name orders) = count.Client
 
 -- one more of these
-abbrev one_more_of : Declaration → Counts → Counts
+abbrev pub one_more_of : Declaration → Counts → Counts
 one_more_of x c = put (what_of x) (number (what_of x) c + 1) c
 
 -- the lines of a declaration spell it
-abbrev DeclarationIs : Declaration → Type 0
-DeclarationIs x = (c : Counts) → number (what_of x) c < most (what_of x) → (d : Counts) × SameItems (one_more_of x c) d × Is 32 item (syms (line_pieces (declaration_lines x))) (paid c) (bare_declaration x) (paid d)
+abbrev pub DeclarationIs : Declaration → Type 0
+DeclarationIs x = (c : Counts) → number (what_of x) c < most (what_of x) → (d : Counts) × SameItems (one_more_of x c) d × Is limits 32 item (syms (line_pieces (declaration_lines x))) (paid c) (bare_declaration x) (paid d)
 
 same_after : {k : ℕ} {c d : Counts} → After k c d → SameItems c d
 same_after {k} {c} {d} p = record { schedulers = p.schedulers; events = p.events; shared = p.shared; modules = p.modules; starts = p.starts; clients = p.clients }
 
 -- the pieces of one line
-on_line : {c d : Counts} {x : Declaration} (ps : List Piece) → Is 32 item (syms ps) (paid c) x (paid d) → Is 32 item (syms (ps ++ [])) (paid c) x (paid d)
+on_line : {c d : Counts} {x : Declaration} (ps : List Piece) → Is limits 32 item (syms ps) (paid c) x (paid d) → Is limits 32 item (syms (ps ++ [])) (paid c) x (paid d)
 on_line ps p = spelled_as (sym (ap syms (append-nil ps))) p
 
 scheduler_is : (x : Ident) → DeclarationIs (Scheduler x)
@@ -76,11 +76,11 @@ end_kept (InScheduler m) (Some Unlinked) fits = refl
 end_kept Unlinked (Some (InScheduler n)) fits = refl
 end_kept Unlinked (Some Unlinked) fits = absurd (let h = fits.1 in cc)
 
-head_is : (h : ModuleHead) (locals : List Named) (ss : Statements) → ModuleFits h locals ss → (c : Counts) → c.modules < 256 → (d : Counts) × After 0 (put count.Module (c.modules + 1) c) d × Is 32 head (syms (head_line h).pieces) (paid c) (bare_head h) (paid d)
+pub head_is : (h : ModuleHead) → length h.parameters ≤ 8 → EndFits h.begin h.end → (c : Counts) → c.modules < 256 → (d : Counts) × After 0 (put count.Module (c.modules + 1) c) d × Is limits 32 head (syms (head_line h).pieces) (paid c) (bare_head h) (paid d)
 unfolding head
-head_is h locals ss fits c few =
-    let (d, after, whole) = followed (spelling.first_word_is c count.Module w.Module few) (name_is {gap = space} h.name then parameters_are h.parameters fits.few_parameters then word_is {gap = space} w.In then place_is h.begin space then ending_is h.end) in
-    (d, after, valued_as (λ i. record { name = bare_name h.name; parameters = map bare_named h.parameters; begin = bare_place h.begin; end = end_kept h.begin h.end fits.end i }) (spelling.built whole))
+head_is h few_parameters end c few =
+    let (d, after, whole) = followed (spelling.first_word_is c count.Module w.Module few) (name_is {gap = space} h.name then parameters_are h.parameters few_parameters then word_is {gap = space} w.In then place_is h.begin space then ending_is h.end) in
+    (d, after, valued_as (λ i. record { name = bare_name h.name; parameters = map bare_named h.parameters; begin = bare_place h.begin; end = end_kept h.begin h.end end i }) (spelling.built whole))
 
 module_same : (k : ℕ) (c d e g : Counts) → After 0 (put count.Module (c.modules + 1) c) d → After 0 (put count.Local 0 d) e → After k (put count.Statement 0 e) g → SameItems (put count.Module (c.modules + 1) c) g
 module_same k c d e g p q r = omega arith
@@ -94,7 +94,7 @@ module_pieces h locals ss =
 module_is : (h : ModuleHead) (locals : List Named) (ss : Statements) → ModuleFits h locals ss → DeclarationIs (Module h locals ss)
 unfolding item module_item
 module_is h locals ss fits c few =
-    let (d, after, first) = head_is h locals ss fits c few in
+    let (d, after, first) = head_is h fits.few_parameters fits.end c few in
     let (e, again, second) = locals_are 32 locals (put count.Local 0 d) (omega (arith, fits.few_locals)) in
     let (g, last, third) = (body_is ss 32 2 fits.statements).at (put count.Statement 0 e) (omega (arith, fits.few_statements)) in (
       g,
@@ -105,7 +105,7 @@ module_is h locals ss fits c few =
 
 -- ---- starts and clients
 
-alias_is : (x : Option Ident) → Part 32 (maybe alias) (behind name_pieces (spaced (word w.As) ∷ []) x) (option_map bare_name x)
+alias_is : (x : Option Ident) → Part limits 32 (maybe alias) (behind name_pieces (spaced (word w.As) ∷ []) x) (option_map bare_name x)
 unfolding alias
 alias_is None = none
 alias_is (Some x) = some (built (word_is w.As then name_is x))
@@ -133,7 +133,7 @@ outside_is x orders all short c few =
           (spelling.right (spelling.right (spelling.right (spelling.right (spelling.right (spelling.built (spelling.◌then◌ (spelling.first_word_is c count.Client w.Outside few) (spelling.◌then◌ (spelling.name_is m x) (spelling.◌then◌ (spelling.sign_is m s.OpenBrace) (spelling.◌then◌ (spelling.afresh list) (spelling.sign_is d s.CloseBrace))))))))))),
     )
 
-declaration_is : (x : Declaration) → DeclarationFits x → DeclarationIs x
+pub declaration_is : (x : Declaration) → DeclarationFits x → DeclarationIs x
 declaration_is (Scheduler x) fits = scheduler_is x
 declaration_is (Event x scheduler) fits = event_is x scheduler
 declaration_is (Shared x scheduler value) fits = shared_is x scheduler value fits.2
@@ -171,7 +171,7 @@ room_behind (Module h locals ss) p c d room same = omega (arith, counts_first)
 room_behind (Start scheduler called arguments x) p c d room same = omega (arith, counts_first)
 room_behind (Outside x orders) p c d room same = omega (arith, counts_first)
 
-declarations_are : (p : Source) → Each DeclarationFits p → (c : Counts) → Room p c → (d : Counts) × Is 32 (many item) (syms (line_pieces (source_lines p))) (paid c) (without_places p) (paid d)
+declarations_are : (p : Source) → Each DeclarationFits p → (c : Counts) → Room p c → (d : Counts) × Is limits 32 (many item) (syms (line_pieces (source_lines p))) (paid c) (without_places p) (paid d)
 declarations_are [] all c room = (c, spelling.nothing_more)
 declarations_are (x ∷ p) all c room =
     let (d, same, first) = declaration_is x all.0 c (room_first x p c room) in

@@ -10,7 +10,7 @@ use Rattle.loft_tree.specs.declared.kinds.UnaryOperator.{UnaryOperator}
 use Rattle.loft_tree.specs.declared.kinds.UnaryOperator.TheVariants as u
 use Rattle.loft_tree.specs.Levels.{left_bracketed, right_bracketed, sign_bracketed}
 use Rattle.loft_tree.specs.Source.{Ident, Expression, Number, Variable, Special, Unary, Binary}
-use Rattle.loft_tree.specs.Fits.{Each, IfThere, NameFits, WordsFit, ExpressionFits, ArgumentsFit}
+use Rattle.loft_tree.specs.Fits.{Each, IfThere, NameFits, WordsFit, ExpressionFits}
 use Rattle.loft_show.specs.Canon.{Piece, Line, piece, space, tight, spaced, word, sign, name, ended, word_line, builtin_word, unary_sign, binary_sign, held, expression_pieces, further_pieces, list_pieces, bracketed_pieces, behind, comma_part, for_part}
 use Rattle.loft_show.proofs.reads.Written.{WhatFits, is_mark, is_soft}
 use Rattle.loft_show.proofs.reads.Lexes.{Blank, Apart, LineFits}
@@ -125,8 +125,8 @@ expressions_kept : (n : ℕ) (es : List Expression) → Each (ExpressionFits n) 
 expressions_kept n [] all = tt
 expressions_kept n (e ∷ es) all = (expression_kept e all.0.words, expressions_kept n es all.1)
 
-pub arguments_kept : (n : ℕ) (es : List Expression) → ArgumentsFit n es → Flows false true (bracketed_pieces expression_pieces es)
-arguments_kept n es fits = brackets_kept expression_pieces es (expressions_kept n es fits.each)
+pub arguments_kept : (n : ℕ) (es : List Expression) → Each (ExpressionFits n) es → Flows false true (bracketed_pieces expression_pieces es)
+arguments_kept n es each = brackets_kept expression_pieces es (expressions_kept n es each)
 
 pub name_kept : (x : Ident) → NameFits x → Flows false false (spaced (name x) ∷ [])
 name_kept x fits = spaced_is (name x) fits

@@ -16,11 +16,11 @@ use Rattle.loft_show.proofs.reads.Declarations.{source_is}
 use Rattle.loft_show.proofs.reads.Lexes.{says_lines}
 use Rattle.loft_show.proofs.reads.Lines.{source_kept}
 
-bare_symbols : (ss : List Symbol) → map bare_symbol ss ≡ map bare (map (λ (x : Symbol). x.what) ss)
+pub bare_symbols : (ss : List Symbol) → map bare_symbol ss ≡ map bare (map (λ (x : Symbol). x.what) ss)
 bare_symbols [] = refl
 bare_symbols (s ∷ ss) = ap (λ ts. bare_symbol s ∷ ts) (bare_symbols ss)
 
-symbols_of : (ps : List Piece) → map bare (map (λ (p : Piece). p.what) ps) ≡ syms ps
+pub symbols_of : (ps : List Piece) → map bare (map (λ (p : Piece). p.what) ps) ≡ syms ps
 symbols_of [] = refl
 symbols_of (p ∷ ps) = ap (λ ts. bare p.what ∷ ts) (symbols_of ps)
 

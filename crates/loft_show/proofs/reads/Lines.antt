@@ -1,12 +1,12 @@
 -- The canonical lines of a program are kept apart in their pieces.
-use Rattle.std.proofs.Common.{ℕ, ◌+◌, Bool, true, false, ℤ, pos, negsuc, List, [], ◌∷◌, ◌++◌, Option, Some, None, refl, arith, inl, inr}
+use Rattle.std.proofs.Common.{ℕ, ◌+◌, ◌≤◌, Bool, true, false, ℤ, pos, negsuc, List, [], ◌∷◌, ◌++◌, length, Option, Some, None, refl, arith, inl, inr}
 use Rattle.std.proofs.lemmas.Int.{ints}
 use Rattle.loft_lex.specs.declared.word.Word.{Word}
 use Rattle.loft_lex.specs.declared.word.Word.TheVariants as w
 use Rattle.loft_lex.specs.declared.sign.Sign.TheVariants as s
 use Rattle.loft_lex.specs.Symbol.{Numeral, Quoted}
 use Rattle.loft_tree.specs.Source.{Ident, EventName, Expression, Creation, Statement, Assign, AssignCreate, Create, PrintText, PrintValue, Cooperate, Generate, Await, Select, Get, Join, ControlThread, Broadcast, Link, Unlink, Run, Halt, If, While, Repeat, Statements, Done, Then, Named, PlaceName, InScheduler, Unlinked, ModuleHead, Argument, ANumber, AName, Order, CreateThere, ControlThere, BroadcastThere, Declaration, Scheduler, Event, Shared, Module, Start, Outside, Source}
-use Rattle.loft_tree.specs.Fits.{Each, IfThere, NameFits, EventNameFits, NumberFits, SignedFits, ExpressionFits, CreationFits, ChoicesFit, StatementFits, StatementsFit, PlaceFits, EndFits, ModuleFits, ArgumentFits, CallFits, OrderFits, DeclarationFits}
+use Rattle.loft_tree.specs.Fits.{Each, IfThere, NameFits, EventNameFits, NumberFits, SignedFits, ExpressionFits, StatementFits, StatementsFit, PlaceFits, EndFits, ArgumentFits, CallFits, OrderFits, DeclarationFits}
 use Rattle.loft_show.specs.Canon.{Piece, line, space, tight, spaced, word, sign, name, ended, expression_pieces, signed_pieces, bracketed_pieces, creation_pieces, name_pieces, event_pieces, control_word, test_line, end_line, statement_lines, body_lines, else_lines, kind_word, named_pieces, place_pieces, head_line, local_lines, argument_pieces, call_pieces, order_line, order_lines, declaration_lines, source_lines}
 use Rattle.loft_show.proofs.reads.Lexes.{LineFits}
 use Rattle.loft_show.proofs.reads.Kept.{Flows, Kept, ◌then◌, loose, none, at_gap, space_blank, spaced_is, tight_is, tight_sign, expression_kept, further_kept, brackets_kept, behind_kept, arguments_kept, name_kept, word_kept, called_kept, comma_kept, for_kept, instants_kept, value_kept, line_kept, ended_kept, word_line_kept}
@@ -18,47 +18,47 @@ both_lists P (x ∷ xs) ys p q = (p.0, both_lists P xs ys p.1 q)
 
 -- ---- statements
 
-creation_kept : (n : ℕ) (x : Creation) → CreationFits n x → Flows false true (creation_pieces x)
-creation_kept n x fits = called_kept x.scheduler x.called (bracketed_pieces expression_pieces x.arguments) fits.scheduler fits.called (arguments_kept n x.arguments fits.arguments)
+pub creation_kept : (n : ℕ) (x : Creation) → NameFits x.scheduler → NameFits x.called → Each (ExpressionFits n) x.arguments → Flows false true (creation_pieces x)
+creation_kept n x there runs each = called_kept x.scheduler x.called (bracketed_pieces expression_pieces x.arguments) there runs (arguments_kept n x.arguments each)
 
 events_kept : (xs : List EventName) → Each EventNameFits xs → Each (λ x. Kept (event_pieces x)) xs
 events_kept [] all = tt
 events_kept (x ∷ xs) all = ((λ gap blank. at_gap gap (name x.name) blank all.0 refl), events_kept xs all.1)
 
 -- " = " behind a target, and what stands behind it
-assigned_kept : {b : Bool} {ps : List Piece} (target : Ident) → NameFits target → Flows false b ps → Flows true true (tight (name target) ∷ spaced (sign s.Equals) ∷ ended ps)
+pub assigned_kept : {b : Bool} {ps : List Piece} (target : Ident) → NameFits target → Flows false b ps → Flows true true (tight (name target) ∷ spaced (sign s.Equals) ∷ ended ps)
 assigned_kept target fits p = tight_is (name target) fits refl then loose true (spaced_is (sign s.Equals) tt) then ended_kept p
 
 test_kept : (n k : ℕ) (before : Word) (e : Expression) (after : Word) → ExpressionFits n e → LineFits (test_line k before e after)
 test_kept n k before e after fits =
     line_kept (tight_is (word before) tt refl then spaced_is (sign s.Open) tt then expression_kept e fits.words [] tt then loose true (tight_sign s.Close refl) then word_kept after)
 
-select_kept : (n k : ℕ) (at : ℕ) (events : List EventName) (e : Option Expression) → ChoicesFit events → IfThere (ExpressionFits n) e → Each LineFits (statement_lines (Select at events e) k)
-select_kept n k at [] e several fits = absurd (let h = several.several in omega arith)
-select_kept n k at (x ∷ xs) e several fits = (word_line_kept k w.Select (name_kept x.name several.each.0 then further_kept event_pieces xs (events_kept xs several.each.1) then for_kept n e fits), tt)
+pub select_kept : (n k : ℕ) (at : ℕ) (events : List EventName) (e : Option Expression) → Each EventNameFits events → 2 ≤ length events → IfThere (ExpressionFits n) e → Each LineFits (statement_lines (Select at events e) k)
+select_kept n k at [] e each several fits = absurd (omega arith)
+select_kept n k at (x ∷ xs) e each several fits = (word_line_kept k w.Select (name_kept x.name each.0 then further_kept event_pieces xs (events_kept xs each.1) then for_kept n e fits), tt)
 
 end_kept : (k : ℕ) → LineFits (end_line k)
 end_kept k = line_kept (tight_is (word w.End) tt refl)
 
 -- the lines of a statement, of a body and of an `else`
 mutual
-  statement_kept : (x : Statement) (n k : ℕ) → StatementFits x n → Each LineFits (statement_lines x k)
+  pub statement_kept : (x : Statement) (n k : ℕ) → StatementFits x n → Each LineFits (statement_lines x k)
   statement_kept (Assign target value) n k fits = (line_kept (assigned_kept target fits.0 (value_kept n value fits.1)), tt)
-  statement_kept (AssignCreate target at creation) n k fits = (line_kept (assigned_kept target fits.0 (word_kept w.Create then creation_kept n creation fits.1)), tt)
-  statement_kept (Create at creation) n k fits = (word_line_kept k w.Create (creation_kept n creation fits), tt)
+  statement_kept (AssignCreate target at creation) n k fits = (line_kept (assigned_kept target fits.0 (word_kept w.Create then creation_kept n creation fits.1.scheduler fits.1.called fits.1.arguments.each)), tt)
+  statement_kept (Create at creation) n k fits = (word_line_kept k w.Create (creation_kept n creation fits.scheduler fits.called fits.arguments.each), tt)
   statement_kept (PrintText at text value) n k fits = (word_line_kept k w.Print (spaced_is (Quoted text) fits.0 then comma_kept n value fits.1), tt)
   statement_kept (PrintValue at value) n k fits = (word_line_kept k w.Print (value_kept n value fits), tt)
   statement_kept (Cooperate at instants) n k fits = (word_line_kept k w.Cooperate (instants_kept n instants fits), tt)
   statement_kept (Generate at event value) n k fits = (word_line_kept k w.Generate (name_kept event.name fits.0 then comma_kept n value fits.1), tt)
   statement_kept (Await at event limit) n k fits = (word_line_kept k w.Await (name_kept event.name fits.0 then for_kept n limit fits.1), tt)
-  statement_kept (Select at events limit) n k fits = select_kept n k at events limit fits.0 fits.1
+  statement_kept (Select at events limit) n k fits = select_kept n k at events limit fits.0.each fits.0.several fits.1
   statement_kept (Get at event index target) n k fits = (word_line_kept k w.Get (name_kept event.name fits.0 then word_kept w.At then value_kept n index fits.1 then word_kept w.Into then name_kept target fits.2), tt)
   statement_kept (Join at thread limit) n k fits = (word_line_kept k w.Join (value_kept n thread fits.0 then for_kept n limit fits.1), tt)
   statement_kept (ControlThread at control thread scheduler) n k fits = (word_line_kept k (control_word control) (value_kept n thread fits.0 then word_kept w.In then name_kept scheduler fits.1), tt)
   statement_kept (Broadcast at event value) n k fits = (word_line_kept k w.Broadcast (name_kept event.name fits.0 then comma_kept n value fits.1), tt)
   statement_kept (Link at scheduler) n k fits = (word_line_kept k w.Link (name_kept scheduler fits), tt)
   statement_kept (Unlink at) n k fits = (word_line_kept k w.Unlink none, tt)
-  statement_kept (Run at called arguments) n k fits = (word_line_kept k w.Run (name_kept called fits.0 then arguments_kept n arguments fits.1), tt)
+  statement_kept (Run at called arguments) n k fits = (word_line_kept k w.Run (name_kept called fits.0 then arguments_kept n arguments fits.1.each), tt)
   statement_kept (Halt at) n k fits = (word_line_kept k w.Halt none, tt)
   statement_kept (If at test first second) n k (m, up, fits, p, q) =
       (test_kept m k w.If test w.Then fits, both_lists LineFits (body_lines first (k + 2)) (else_lines second k ++ end_line k ∷ []) (body_kept first m (k + 2) p) (both_lists LineFits (else_lines second k) (end_line k ∷ []) (else_kept second m k q) (end_kept k, tt)))
@@ -88,7 +88,7 @@ signed_kept : (value : ℤ) → SignedFits value → Kept (signed_pieces value)
 signed_kept (pos k) fits gap blank = at_gap gap (Numeral (pos k)) blank (number_fits k fits) refl
 signed_kept (negsuc k) fits gap blank = at_gap gap (sign s.Minus) blank tt refl then tight_is (Numeral (pos (k + 1))) (minus_fits k fits) refl
 
-named_kept : (v : Named) → NameFits v.name → Kept (named_pieces v)
+pub named_kept : (v : Named) → NameFits v.name → Kept (named_pieces v)
 named_kept v fits gap blank = at_gap gap (word (kind_word v.kind)) blank tt refl then name_kept v.name fits
 
 all_named_kept : (vs : List Named) → Each (λ v. NameFits v.name) vs → Each (λ v. Kept (named_pieces v)) vs
@@ -103,10 +103,10 @@ ending_kept : (begin : PlaceName) (end : Option PlaceName) → EndFits begin end
 ending_kept begin None fits = tt
 ending_kept begin (Some end) fits = place_kept end fits.0
 
-head_kept : (h : ModuleHead) (locals : List Named) (ss : Statements) → ModuleFits h locals ss → LineFits (head_line h)
-head_kept h locals ss fits =
-    line_kept (tight_is (word w.Module) tt refl then name_kept h.name fits.name then loose true (brackets_kept named_pieces h.parameters (all_named_kept h.parameters fits.parameters)) then word_kept w.In
-    then place_kept h.begin fits.begin space space_blank then behind_kept place_pieces (spaced (word w.To) ∷ []) h.end (word_kept w.To) (ending_kept h.begin h.end fits.end))
+pub head_kept : (h : ModuleHead) → NameFits h.name → Each (λ v. NameFits v.name) h.parameters → PlaceFits h.begin → EndFits h.begin h.end → LineFits (head_line h)
+head_kept h called parameters begin end =
+    line_kept (tight_is (word w.Module) tt refl then name_kept h.name called then loose true (brackets_kept named_pieces h.parameters (all_named_kept h.parameters parameters)) then word_kept w.In
+    then place_kept h.begin begin space space_blank then behind_kept place_pieces (spaced (word w.To) ∷ []) h.end (word_kept w.To) (ending_kept h.begin h.end end))
 
 locals_kept : (vs : List Named) → Each (λ v. NameFits v.name) vs → Each LineFits (local_lines vs)
 locals_kept [] all = tt
@@ -127,7 +127,7 @@ if_signed_kept : (x : Option ℤ) → IfThere SignedFits x → IfThere (λ y. Ke
 if_signed_kept None fits = tt
 if_signed_kept (Some x) fits = signed_kept x fits
 
-order_kept : (x : Order) → OrderFits x → LineFits (order_line x)
+pub order_kept : (x : Order) → OrderFits x → LineFits (order_line x)
 order_kept (CreateThere scheduler called arguments) fits = word_line_kept 2 w.Create (call_kept scheduler called arguments fits)
 order_kept (ControlThere control thread scheduler) fits = word_line_kept 2 (control_word control) (name_kept thread fits.0 then word_kept w.In then name_kept scheduler fits.1)
 order_kept (BroadcastThere event value) fits = word_line_kept 2 w.Broadcast (name_kept event.name fits.0 then behind_kept signed_pieces (tight (sign s.Comma) ∷ []) value (loose true (tight_sign s.Comma refl)) (if_signed_kept value fits.1))
@@ -140,13 +140,13 @@ alias_kept : (x : Option Ident) → IfThere NameFits x → IfThere (λ y. Kept (
 alias_kept None fits = tt
 alias_kept (Some x) fits = λ gap blank. at_gap gap (name x) blank fits refl
 
-declaration_kept : (x : Declaration) → DeclarationFits x → Each LineFits (declaration_lines x)
+pub declaration_kept : (x : Declaration) → DeclarationFits x → Each LineFits (declaration_lines x)
 declaration_kept (Scheduler x) fits = (word_line_kept 0 w.Scheduler (name_kept x fits), tt)
 declaration_kept (Event x scheduler) fits = (word_line_kept 0 w.Event (name_kept x fits.0 then word_kept w.In then name_kept scheduler fits.1), tt)
 declaration_kept (Shared x scheduler value) fits =
     (word_line_kept 0 w.Shared (name_kept x fits.0 then word_kept w.In then name_kept scheduler fits.1 then loose true (spaced_is (sign s.Equals) tt) then signed_kept value fits.2 space space_blank), tt)
 declaration_kept (Module h locals ss) fits =
-    (head_kept h locals ss fits, both_lists LineFits (local_lines locals) (body_lines ss 2 ++ end_line 0 ∷ []) (locals_kept locals fits.each_local) (both_lists LineFits (body_lines ss 2) (end_line 0 ∷ []) (body_kept ss 32 2 fits.statements) (end_kept 0, tt)))
+    (head_kept h fits.name fits.parameters fits.begin fits.end, both_lists LineFits (local_lines locals) (body_lines ss 2 ++ end_line 0 ∷ []) (locals_kept locals fits.each_local) (both_lists LineFits (body_lines ss 2) (end_line 0 ∷ []) (body_kept ss 32 2 fits.statements) (end_kept 0, tt)))
 declaration_kept (Start scheduler called arguments x) fits =
     (word_line_kept 0 w.Start (loose true (call_kept scheduler called arguments fits.0) then behind_kept name_pieces (spaced (word w.As) ∷ []) x (word_kept w.As) (alias_kept x fits.1)), tt)
 declaration_kept (Outside x orders) fits = (

@@ -218,7 +218,7 @@ module _ (lim : Limits Language) (n : ℕ) (Inner : (r : Rule) → Spelling Lang
   end_word : K (word w.End) (λ x. x)
   end_word = word_kept w.End
 
-  statement_kept : K statement bare_statement
+  pub statement_kept : K statement bare_statement
   unfolding statement moving_statement link unlink conditional while_loop repeat
   statement_kept =
       value_statement_kept or event_statement_kept or thread_statement_kept
@@ -258,13 +258,13 @@ module _ (lim : Limits Language) (n : ℕ) (Inner : (r : Rule) → Spelling Lang
   unfolding place
   place_kept = built name_kept (λ y. refl) or built (word_kept w.Unlinked) (λ y. refl)
 
-  head_kept : K head bare_head
+  pub head_kept : K head bare_head
   unfolding head parameters parameter ending
   head_kept =
       built (first_word_kept count.Module w.Module then name_kept then in_brackets_kept (built (kind_kept (Some count.Parameter) then name_kept) (λ y. refl)) then word_kept w.In then place_kept then if_any (built (word_kept w.To then place_kept) (λ y. refl)))
       (λ y i. record { name = bare_name y.1.0; parameters = map bare_named y.1.1.0; begin = bare_place y.1.1.1.1.0; end = bare_end y.1.1.1.1.0 y.1.1.1.1.1 i })
 
-  local_kept : K local bare_named
+  pub local_kept : K local bare_named
   unfolding local
   local_kept = built (first_word_kept count.Local w.Local then kind_kept None then name_kept then semicolon) (λ y. refl)
 
@@ -272,14 +272,14 @@ module _ (lim : Limits Language) (n : ℕ) (Inner : (r : Rule) → Spelling Lang
   unfolding outer_arguments outer_argument
   outer_arguments_kept = in_brackets_kept (counting_it (built signed_kept (λ y. refl) or built name_kept (λ y. refl)))
 
-  order_kept : K order bare_order
+  pub order_kept : K order bare_order
   unfolding order create_order control_order broadcast_order value_behind_comma
   order_kept =
       built (first_word_kept count.Order w.Create then name_kept then sign_kept s.Dot then name_kept then outer_arguments_kept then semicolon) (λ y. refl)
       or built (control_word_kept count.Order then name_kept then word_kept w.In then name_kept then semicolon) (λ y. refl)
       or built (first_word_kept count.Order w.Broadcast then event_name_kept then if_any {h = λ x. x} (built (sign_kept s.Comma then signed_kept) (λ y. refl)) then semicolon) (λ y i. BroadcastThere (bare_event y.1.0) (option_map-id y.1.1.0 i))
 
-  item_kept : K item bare_declaration
+  pub item_kept : K item bare_declaration
   unfolding item scheduler_item event_item shared_item module_item start_item outside_item alias
   item_kept =
       built (first_word_kept count.Scheduler w.Scheduler then name_kept then semicolon) (λ y. refl)
