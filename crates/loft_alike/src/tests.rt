@@ -2,24 +2,29 @@
 
 mod table;
 
-ghost use Rattle.std.specs.Prelude.{◌≡◌, false};
+ghost use Rattle.std.specs.Prelude.{◌≡◌, true, false};
+ghost use Rattle.loft_tree.specs.ProgramView.{program_of};
 ghost use Rattle.loft_sense.specs.Machine.{empty, heads as heads_of};
 ghost use Rattle.loft_sense.specs.Rest.{IsInRange};
 ghost use Rattle.loft_stand.specs.WellFormed.{IsWellFormed};
+ghost use Rattle.loft_turns.specs.Built.{is_built};
+ghost use Rattle.loft_turns.specs.Running.{NeverLeaves};
 
 use crate::tests::table::PROGRAMS;
 use loft_base::{MemSink, OpenGate, SchedId};
-use loft_compile::compile;
+use loft_compile::{compile, compiled_code_has_the_same_histories};
 use loft_engine::CodeEngine;
 use loft_log::write_report;
 use loft_names::resolve;
 use loft_parse::parse;
 use loft_place::{Placed, place};
 use loft_plain::PlainEngine;
-use loft_sense::{Engine, Limits, MAX_BUDGET, MAX_INSTANTS, RunOptions};
+use loft_sense::{
+    Engine, Limits, MAX_BUDGET, MAX_INSTANTS, RunOptions, made_histories_are_legal,
+};
 use loft_stand::waiting_orders_fit;
 use loft_tree::Heads;
-use loft_turns::run_alone;
+use loft_turns::{is_built, programs_without_unlink_stay_linked, run_alone};
 use std::alloc::Global;
 use std::sync::Wait;
 use std::test::Fail;
@@ -56,10 +61,12 @@ fn report_by<R: Threads + Wait + Sync + AllocGlobal, E: Engine>(
     requires works { E.has_failed engine ≡ false }
     requires scheduler { E.scheduler engine ≡ record { 0 = 0 } }
     requires heads { heads.now ≡ heads_of (E.program engine) }
+    requires linked { NeverLeaves (E.program engine) (E.limits engine) }
 {
-    if heads.schedulers.len() != 1 {
-        return Err("there isn't one scheduler".into());
+    if heads.schedulers.len() != 1 || heads.clients.len() != 0 {
+        return Err("it doesn't run alone".into());
     }
+    made_histories_are_legal();
     waiting_orders_fit();
     let scheduler = SchedId(0);
     let options = RunOptions { limits, workers: 2 };
@@ -75,8 +82,10 @@ fn report_by_tree<R: Threads + Wait + Sync + AllocGlobal>(
     placed: &Placed,
     limits: Limits,
 ) -> Result<MemSink, Fail>
-    requires { IsInRange limits }
+    requires built { is_built (program_of placed.now) ≡ true }
+    requires range { IsInRange limits }
 {
+    programs_without_unlink_stay_linked();
     let engine = PlainEngine::new(rt.alloc(), placed, SchedId(0), limits)?;
     report_by(rt, &placed.program().heads, engine, limits)
 }
@@ -87,8 +96,12 @@ fn report_by_code<R: Threads + Wait + Sync + AllocGlobal>(
     placed: &Placed,
     limits: Limits,
 ) -> Result<MemSink, Fail>
-    requires { IsInRange limits }
+    requires built { is_built (program_of placed.now) ≡ true }
+    requires range { IsInRange limits }
 {
+    programs_without_unlink_stay_linked();
+    compiled_code_has_the_same_histories();
+    placed.program();
     let code = compile(rt.alloc(), placed)?;
     let engine = CodeEngine::new(rt.alloc(), &code, SchedId(0), limits)?;
     report_by(rt, &code.program().heads, engine, limits)
@@ -99,6 +112,9 @@ fn report_by_code<R: Threads + Wait + Sync + AllocGlobal>(
 fn both_engines_write_one_report(rt: HostRuntime) -> Result<(), Fail> {
     for (number, row) in PROGRAMS.iter().enumerate() {
         let placed = placed(rt.alloc(), row.source)?;
+        if !is_built(placed.program()) {
+            return Err("it can't be run so far".into());
+        }
         let limits = limits(row.instants, row.budget);
         let by_tree = report_by_tree(&rt, &placed, limits)?;
         let by_code = report_by_code(&rt, &placed, limits)?;

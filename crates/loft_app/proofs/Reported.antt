@@ -64,18 +64,18 @@ pub record ToldAlike (x y : Prog) : Type 0 where
   pub declared : heads y ≡ heads x
   pub histories : (o : RunOptions) (choices : List Choice) → hist x o choices ≡ hist y o choices
   pub legal : (o : RunOptions) (es : List Entry) → IsLegal x o es ↔ IsLegal y o es
-  pub ended : (o : RunOptions) (choices : List Choice) (es : List Entry) → hist x o choices ≡ Ok es → HasEnded x o es ↔ HasEnded y o es
-  pub reports : (o : RunOptions) (choices : List Choice) (es : List Entry) → hist x o choices ≡ Ok es → report x o es ≡ report y o es
+  pub ended : (o : RunOptions) (es : List Entry) → IsLegal x o es → HasEnded x o es ↔ HasEnded y o es
+  pub reports : (o : RunOptions) (es : List Entry) → IsLegal x o es → report x o es ≡ report y o es
 
 -- then a report of y is one of x
 pub report_told : (x y : Prog) (o : RunOptions) (text : List ℕ) → ToldAlike x y → IsReport y o text → IsReport x o text
 report_told x y o text alike is =
-    let made : hist x o is.choices ≡ Ok is.history = alike.histories o is.choices ∙ is.made in record {
+    let legal : IsLegal x o is.history = (alike.legal o is.history).1 is.legal in record {
       choices = is.choices;
       history = is.history;
       named = subst (λ (h : Heads). BeginsWith h o is.choices text) alike.declared is.named;
-      made = made;
-      legal = (alike.legal o is.history).1 is.legal;
-      whole = is.whole ∙ sym (alike.reports o is.choices is.history made);
-      ended = (alike.ended o is.choices is.history made).1 is.ended;
+      made = alike.histories o is.choices ∙ is.made;
+      legal = legal;
+      whole = is.whole ∙ sym (alike.reports o is.history legal);
+      ended = (alike.ended o is.history legal).1 is.ended;
     }

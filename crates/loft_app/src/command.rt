@@ -23,7 +23,7 @@ use loft_place::Placed;
 use loft_sense::RunOptions;
 use loft_show::show;
 use loft_tree::Program;
-use loft_turns::is_built;
+use loft_turns::{is_built, programs_without_unlink_stay_linked};
 use std::alloc::Global;
 use std::sync::Wait;
 use std::thread::Threads;
@@ -46,6 +46,7 @@ fn run_program<R: Threads + Wait + Sync, S: Sink, G: Gate>(
     ensures sink { IsErrOf result RunError.Sink → Rose (S.faults sink.old) (S.faults sink.new) }
     ensures never_falls { S.faults sink.old ≤ S.faults sink.new }
 {
+    programs_without_unlink_stay_linked();
     compiled_code_has_the_same_histories();
     placed.program();
     let code = compile(alloc, placed)?;

@@ -4,6 +4,7 @@ ghost use Rattle.std.specs.Prelude.{◌≤◌, IsErrOf, OnOk, OnErr};
 ghost use Rattle.loft_base.specs.Outside.{Rose};
 ghost use Rattle.loft_code.specs.View.{automata_of};
 ghost use Rattle.loft_sense.specs.Machine.{Code as ByCode};
+ghost use Rattle.loft_turns.specs.Running.{NeverLeaves};
 ghost use Rattle.loft_words.specs.Ranges.{AreInRange};
 ghost use Rattle.loft_app.specs.Written.{Appends, IsPrefix};
 ghost use Rattle.loft_app.specs.Promise.{IsReport};
@@ -13,7 +14,7 @@ use loft_base::{Gate, NoMemory, SchedId, Sink, WriteError};
 use loft_code::Code;
 use loft_engine::CodeEngine;
 use loft_log::write_report;
-use loft_sense::{Limits, RunOptions};
+use loft_sense::{Limits, RunOptions, made_histories_are_legal};
 use loft_stand::waiting_orders_fit;
 use loft_turns::run_alone;
 use std::alloc::Global;
@@ -54,8 +55,8 @@ impl From<WriteError> for RunError {
     }
 }
 
-/// Runs valid code of one scheduler within these limits, 1 to `MAX_WORKERS` workers, and writes the
-/// report (docs/REPORT.md). `Sink` comes where the sink failed, and `NoMemory` where an allocation
+/// Runs valid code of one scheduler without clients, of which no thread ever waits for a worker,
+/// within these limits, 1 to `MAX_WORKERS` workers, and writes the report (docs/REPORT.md). `Sink` comes where the sink failed, and `NoMemory` where an allocation
 /// fails; then a prefix of a report was written.
 pub fn run_code<R: Threads + Wait + Sync, S: Sink, G: Gate>(
     rt: &R,
@@ -67,6 +68,7 @@ pub fn run_code<R: Threads + Wait + Sync, S: Sink, G: Gate>(
     gate: &G,
 ) -> Result<(), RunError>
     requires alone { RunsAlone c.now.heads }
+    requires linked { NeverLeaves (ByCode (automata_of c.now)) l }
     requires range { AreInRange (options_of l workers) }
     ensures report { OnOk result (Appends (S.written sink.old) (S.written sink.new)
         (IsReport (ByCode (automata_of c.now)) (options_of l workers))) }
@@ -75,6 +77,7 @@ pub fn run_code<R: Threads + Wait + Sync, S: Sink, G: Gate>(
     ensures sink { IsErrOf result RunError.Sink → Rose (S.faults sink.old) (S.faults sink.new) }
     ensures never_falls { S.faults sink.old ≤ S.faults sink.new }
 {
+    made_histories_are_legal();
     waiting_orders_fit();
     let heads = &c.program().heads;
     let scheduler = SchedId(0);

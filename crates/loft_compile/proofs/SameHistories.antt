@@ -1,5 +1,5 @@
 -- Code that implements a program runs alike, so a placed program and its code have the same histories.
-use Rattle.std.proofs.Common.{◌≡◌, List, Ok, refl, sym}
+use Rattle.std.proofs.Common.{◌≡◌, List, refl, sym}
 use Rattle.std.specs.Prelude.{◌↔◌}
 use Rattle.loft_tree.specs.NamedTree.{NamedProgram}
 use Rattle.loft_tree.specs.NamedFits.{NamedFits}
@@ -41,8 +41,8 @@ module _ (n : NamedProgram) (fits : NamedFits n) (placed : IsPlaced n) where
   pub code_legal : (o : RunOptions) (es : List Entry) → IsLegal source o es ↔ IsLegal its_code o es
   code_legal = legal_same source its_code well code_alike
 
-  pub code_ended : (o : RunOptions) (choices : List Choice) (es : List Entry) → hist source o choices ≡ Ok es → HasEnded source o es ↔ HasEnded its_code o es
+  pub code_ended : (o : RunOptions) (es : List Entry) → IsLegal source o es → HasEnded source o es ↔ HasEnded its_code o es
   code_ended = ended_same source its_code well code_alike
 
-  pub code_reports : (o : RunOptions) (choices : List Choice) (es : List Entry) → hist source o choices ≡ Ok es → report source o es ≡ report its_code o es
+  pub code_reports : (o : RunOptions) (es : List Entry) → IsLegal source o es → report source o es ≡ report its_code o es
   code_reports = reports_same source its_code well code_alike

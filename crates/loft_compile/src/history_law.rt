@@ -1,7 +1,7 @@
 //! The law that a program and its code have the same histories. It is what the contract of an empty
 //! function says.
 
-ghost use Rattle.std.specs.Prelude.{◌≡◌, ◌↔◌, List, Ok};
+ghost use Rattle.std.specs.Prelude.{◌≡◌, ◌↔◌, List};
 ghost use Rattle.loft_tree.specs.NamedTree.{NamedProgram};
 ghost use Rattle.loft_tree.specs.NamedFits.{NamedFits};
 ghost use Rattle.loft_tree.specs.Resolved.{Resolved, resolved_of};
@@ -36,10 +36,10 @@ pub fn compiled_code_has_the_same_histories()
         → IsLegal (Tree p) o es ↔ IsLegal (Code (compiled p)) o es }
     ensures ended { (n : NamedProgram) → NamedFits n → IsPlaced n
         → let p = resolved_of n in
-        (o : RunOptions) (choices : List Choice) (es : List Entry) → hist (Tree p) o choices ≡ Ok es
+        (o : RunOptions) (es : List Entry) → IsLegal (Tree p) o es
         → HasEnded (Tree p) o es ↔ HasEnded (Code (compiled p)) o es }
     ensures reports { (n : NamedProgram) → NamedFits n → IsPlaced n
         → let p = resolved_of n in
-        (o : RunOptions) (choices : List Choice) (es : List Entry) → hist (Tree p) o choices ≡ Ok es
+        (o : RunOptions) (es : List Entry) → IsLegal (Tree p) o es
         → report (Tree p) o es ≡ report (Code (compiled p)) o es }
 {}

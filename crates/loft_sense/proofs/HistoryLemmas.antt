@@ -1,19 +1,26 @@
 -- Schedulers in a history, and how a history goes on after its choices.
 use Rattle.std.proofs.Common.{◌≡◌, ℕ, Bool, true, false, ◌||◌, List, [], ◌∷◌, ◌++◌, map, refl, sym, ◌∙◌, ap, eq-eqb, Option, Some, None, Ok, append_assoc, append-nil, length}
 use Rattle.std.proofs.lemmas.List.{map-append}
-use Rattle.std.specs.Prelude.{◌↔◌, if◌then◌else◌, not, ◌&&◌, nat_lt, IsTrue}
-use Rattle.std.proofs.lemmas.Bool.{eqb-true, lt-ltb, ltb-true}
+use Rattle.std.specs.Prelude.{◌↔◌, if◌then◌else◌, not, ◌&&◌, nat_lt, IsTrue, ◌<◌, ◌≤◌, ◌==◌, drop}
+use Rattle.std.proofs.lemmas.Bool.{eqb-true, lt-ltb, ltb-true, ltb-false}
+use Rattle.std.proofs.lemmas.Option.{slice_get_past}
 use Rattle.loft_base.specs.declared.ids.SchedId.{SchedId}
 use Rattle.loft_sense.specs.declared.entry.Entry.{Entry}
 use Rattle.loft_sense.specs.declared.entry.Entry.TheVariants.{Take, Give, Pick, Post, Client}
 use Rattle.loft_sense.specs.declared.order.Order.{Order}
+use Rattle.loft_tree.specs.declared.heads.Client.{Client as ClientHead}
+use Rattle.loft_tree.specs.declared.heads.Heads.{Heads}
+use Rattle.loft_sense.specs.declared.order.Sent.{Sent}
+use Rattle.loft_sense.specs.declared.thread.Thread.{Thread}
 use Rattle.loft_sense.specs.declared.note.InstantNote.{InstantNote}
 use Rattle.loft_sense.specs.declared.limits.Limits.{Limits}
 use Rattle.loft_sense.specs.declared.limits.RunOptions.{RunOptions}
 use Rattle.loft_sense.specs.Heads.{same_scheduler}
 use Rattle.loft_sense.specs.Machine.{Prog, heads}
 use Rattle.loft_sense.specs.Instant.{Replayed, one_more, replay_on}
-use Rattle.loft_sense.specs.History.{Choice, TakeBy, GiveBy, PickBy, PostBy, ClientBy, choice_of, log, in_instant, is_open, orders_to, waiting_after, has_turn, entry_of, with_entry, waiting, replayed, sent_last, hist_on, hist, HasEnded}
+use Rattle.loft_sense.specs.Async.{async}
+use Rattle.loft_sense.specs.Clients.{orders_from, orders_or_none, outside_of}
+use Rattle.loft_sense.specs.History.{Choice, TakeBy, GiveBy, PickBy, PostBy, ClientBy, choice_of, log, in_instant, is_open, orders_to, waiting_after, jobs_sent, jobs_after, jobs, left_after, left_of, unsent_after, unsent, has_turn, entry_of_first, pick_of, entry_of, with_entry, waiting, replayed, sent_last, hist_on, hist, HasEnded}
 
 -- a scheduler is itself
 pub same_self : (s : SchedId) → same_scheduler s s ≡ true
@@ -46,13 +53,35 @@ chosen : (allowed : Bool) (a e : Entry) → (if allowed then Some a else None) �
 chosen true a e is = cc
 chosen false a e is = absurd cc
 
+-- what an allowed choice of a worker or a client says
+pub on_if : {Q : Type 0} (allowed : Bool) (next : Option Entry) (e : Entry) → (if allowed then next else None) ≡ Some e → (allowed ≡ true → next ≡ Some e → Q) → Q
+on_if true next e is on = on refl is
+on_if false next e is on = absurd cc
+
+pub on_first : {A Q : Type 0} (make : A → Entry) (all : List A) (e : Entry) → entry_of_first make all ≡ Some e → ((a : A) (rest : List A) → all ≡ a ∷ rest → make a ≡ e → Q) → Q
+on_first make [] e is on = absurd cc
+on_first make (a ∷ rest) e is on = on a rest refl cc
+
+pub on_pick : {Q : Type 0} (w : ℕ) (left : List Sent) (waits : List Thread) (e : Entry) → pick_of w left waits ≡ Some e → (left ≡ [] → entry_of_first (Pick w) waits ≡ Some e → Q) → Q
+on_pick w [] waits e is on = on refl is
+on_pick w (m ∷ left) waits e is on = absurd cc
+
+-- the entry of the first of these is made so
+first_kept : {A : Type 0} (make : A → Entry) (c : Choice) → ((a : A) → choice_of (make a) ≡ c) → (all : List A) (e : Entry) → entry_of_first make all ≡ Some e → choice_of e ≡ c
+first_kept make c each all e is = on_first make all e is (λ a rest first same. sym (ap choice_of same) ∙ each a)
+
 -- a choice makes an entry of its own actor and kind
-choice_kept : (x : Prog) (o : RunOptions) (h : List Entry) (c : Choice) (e : Entry) → entry_of x o h c ≡ Some e → choice_of e ≡ c
+pub choice_kept : (x : Prog) (o : RunOptions) (h : List Entry) (c : Choice) (e : Entry) → entry_of x o h c ≡ Some e → choice_of e ≡ c
 choice_kept x o h (TakeBy s) e is = sym (ap choice_of (chosen _ (Take s (waiting (heads x) s h)) e is))
 choice_kept x o h (GiveBy s) e is = sym (ap choice_of (chosen _ (Give s (sent_last (replayed x o.limits s h).notes)) e is))
-choice_kept x o h (PickBy w) e is = absurd cc
-choice_kept x o h (PostBy w) e is = absurd cc
-choice_kept x o h (ClientBy c) e is = absurd cc
+choice_kept x o h (PickBy w) e is =
+    on_if (nat_lt w o.workers) (pick_of w (left_of x o w h) (jobs h)) e is (λ declared picks.
+    on_pick w (left_of x o w h) (jobs h) e picks (λ free first.
+    first_kept (Pick w) (PickBy w) (λ job. refl) (jobs h) e first))
+choice_kept x o h (PostBy w) e is =
+    on_if (nat_lt w o.workers) (entry_of_first (Post w) (left_of x o w h)) e is (λ declared first.
+    first_kept (Post w) (PostBy w) (λ sent. refl) (left_of x o w h) e first)
+choice_kept x o h (ClientBy c) e is = first_kept (Client c) (ClientBy c) (λ sent. refl) (unsent (heads x) c h) e is
 
 choices_on : (x : Prog) (o : RunOptions) (cs : List Choice) (h g : List Entry) → hist_on x o cs h ≡ Ok g → map choice_of g ≡ map choice_of h ++ cs
 choices_on x o [] h g made = ap (map choice_of) (sym (same_history x o h g made)) ∙ sym (append-nil (map choice_of h))
@@ -85,23 +114,78 @@ neither true false true a b d take give = absurd cc
 neither true true turn a b d take give = absurd cc
 neither false was turn a b d take give = absurd cc
 
+-- no entry where there is no first, and the other way round
+no_first : {A : Type 0} (make : A → Entry) (all : List A) → all ≡ [] → entry_of_first make all ≡ None
+no_first make all e = ap (entry_of_first make) e
+
+none_left : {A : Type 0} (make : A → Entry) (all : List A) → entry_of_first make all ≡ None → all ≡ []
+none_left make [] e = refl
+none_left make (a ∷ all) e = absurd cc
+
+no_pick : (w : ℕ) (left : List Sent) (waits : List Thread) → waits ≡ [] → pick_of w left waits ≡ None
+no_pick w [] waits e = no_first (Pick w) waits e
+no_pick w (m ∷ left) waits e = refl
+
+none_waits : (w : ℕ) (left : List Sent) (waits : List Thread) → left ≡ [] → pick_of w left waits ≡ None → waits ≡ []
+none_waits w [] waits free e = none_left (Pick w) waits e
+none_waits w (m ∷ left) waits free e = absurd cc
+
+no_choice : (allowed : Bool) (next : Option Entry) → (allowed ≡ true → next ≡ None) → (if allowed then next else None) ≡ None
+no_choice true next none = none refl
+no_choice false next none = refl
+
+allowed_none : (allowed : Bool) (next : Option Entry) → allowed ≡ true → (if allowed then next else None) ≡ None → next ≡ None
+allowed_none true next is e = e
+allowed_none false next is e = absurd cc
+
+-- a client that the source doesn't declare has nothing to give
+unsent_after-none : (c : ℕ) (es : List Entry) → unsent_after c [] es ≡ []
+unsent_after-none c [] = refl
+unsent_after-none c (Take s batch ∷ es) = unsent_after-none c es
+unsent_after-none c (Give s sent ∷ es) = unsent_after-none c es
+unsent_after-none c (Pick w job ∷ es) = unsent_after-none c es
+unsent_after-none c (Post w sent ∷ es) = unsent_after-none c es
+unsent_after-none c (Client d sent ∷ es) = ap (λ (left : List Sent). unsent_after c left es) (still_none (c == d) [] refl) ∙ unsent_after-none c es
+  where
+    still_none : (own : Bool) (left : List Sent) → left ≡ [] → (if own then drop 1 left else left) ≡ []
+    still_none true left e = ap (λ (l : List Sent). drop 1 l) e
+    still_none false left e = e
+
+outside_none : (h : Heads) (c : ℕ) → length h.clients ≤ c → outside_of h c ≡ []
+outside_none h c beyond = ap (λ (d : Option ClientHead). orders_from h c 0 (orders_or_none d)) (slice_get_past h.clients c beyond)
+
+pub unsent_none : (h : Heads) (c : ℕ) (es : List Entry) → length h.clients ≤ c → unsent h c es ≡ []
+unsent_none h c es beyond = ap (λ (left : List Sent). unsent_after c left es) (outside_none h c beyond) ∙ unsent_after-none c es
+
+all_unsent : (h : Heads) (c : ℕ) (es : List Entry) (declared : Bool) → nat_lt c (length h.clients) ≡ declared → (c < length h.clients → unsent h c es ≡ []) → unsent h c es ≡ []
+all_unsent h c es true e given = given (ltb-true c (length h.clients) e)
+all_unsent h c es false e given = unsent_none h c es (ltb-false c (length h.clients) e)
+
 ended_choice : (x : Prog) (o : RunOptions) (h : List Entry) → HasEnded x o h → (c : Choice) → entry_of x o h c ≡ None
 ended_choice x o h ended (TakeBy s) =
-    no_take (nat_lt s.0 (length (heads x).schedulers)) (is_open s h) (has_turn x o.limits (replayed x o.limits s h).machine (waiting (heads x) s h)) _ (λ d. ended s (ltb-true s.0 _ d))
+    no_take (nat_lt s.0 (length (heads x).schedulers)) (is_open s h) (has_turn x o.limits (replayed x o.limits s h).machine (waiting (heads x) s h)) _ (λ d. ended.schedulers s (ltb-true s.0 _ d))
 ended_choice x o h ended (GiveBy s) =
-    no_give (nat_lt s.0 (length (heads x).schedulers)) (is_open s h) (has_turn x o.limits (replayed x o.limits s h).machine (waiting (heads x) s h)) _ (λ d. ended s (ltb-true s.0 _ d))
-ended_choice x o h ended (PickBy w) = refl
-ended_choice x o h ended (PostBy w) = refl
-ended_choice x o h ended (ClientBy c) = refl
+    no_give (nat_lt s.0 (length (heads x).schedulers)) (is_open s h) (has_turn x o.limits (replayed x o.limits s h).machine (waiting (heads x) s h)) _ (λ d. ended.schedulers s (ltb-true s.0 _ d))
+ended_choice x o h ended (PickBy w) = no_choice (nat_lt w o.workers) _ (λ d. no_pick w (left_of x o w h) (jobs h) ended.no_jobs)
+ended_choice x o h ended (PostBy w) = no_choice (nat_lt w o.workers) _ (λ d. no_first (Post w) (left_of x o w h) (ended.workers w (ltb-true w _ d)))
+ended_choice x o h ended (ClientBy c) = no_first (Client c) (unsent (heads x) c h) (all_unsent (heads x) c h (nat_lt c (length (heads x).clients)) refl (ended.clients c))
 
-without_choice : (x : Prog) (o : RunOptions) (h : List Entry) → ((c : Choice) → entry_of x o h c ≡ None) → HasEnded x o h
-without_choice x o h none s declared =
-    neither (nat_lt s.0 (length (heads x).schedulers)) (is_open s h) (has_turn x o.limits (replayed x o.limits s h).machine (waiting (heads x) s h))
-    (Take s (waiting (heads x) s h)) (Give s (sent_last (replayed x o.limits s h).notes)) (lt-ltb s.0 _ declared) (none (TakeBy s)) (none (GiveBy s))
+without_choice : (x : Prog) (o : RunOptions) (h : List Entry) → 0 < o.workers → ((c : Choice) → entry_of x o h c ≡ None) → HasEnded x o h
+without_choice x o h some none =
+    let free : (w : ℕ) → w < o.workers → left_of x o w h ≡ [] =
+    λ w declared. none_left (Post w) (left_of x o w h) (allowed_none (nat_lt w o.workers) _ (lt-ltb w _ declared) (none (PostBy w))) in
+    record {
+      clients = λ c declared. none_left (Client c) (unsent (heads x) c h) (none (ClientBy c));
+      no_jobs = none_waits 0 (left_of x o 0 h) (jobs h) (free 0 some) (allowed_none (nat_lt 0 o.workers) _ (lt-ltb 0 _ some) (none (PickBy 0)));
+      workers = free;
+      schedulers =
+          λ s declared. neither (nat_lt s.0 (length (heads x).schedulers)) (is_open s h) (has_turn x o.limits (replayed x o.limits s h).machine (waiting (heads x) s h))
+          (Take s (waiting (heads x) s h)) (Give s (sent_last (replayed x o.limits s h).notes)) (lt-ltb s.0 _ declared) (none (TakeBy s)) (none (GiveBy s));
+    }
 
 -- a history has ended exactly where no choice is allowed
-pub ended_exactly : (x : Prog) (o : RunOptions) (h : List Entry) → HasEnded x o h ↔ ((c : Choice) → entry_of x o h c ≡ None)
-ended_exactly x o h = (ended_choice x o h, without_choice x o h)
+pub ended_exactly : (x : Prog) (o : RunOptions) (h : List Entry) → 0 < o.workers → HasEnded x o h ↔ ((c : Choice) → entry_of x o h c ≡ None)
+ended_exactly x o h some = (ended_choice x o h, without_choice x o h some)
 
 -- ---- further entries
 
@@ -133,6 +217,30 @@ in_instant-append s (Give q sent ∷ xs) ys was = in_instant-append s xs ys (not
 in_instant-append s (Pick w job ∷ xs) ys was = in_instant-append s xs ys was
 in_instant-append s (Post w sent ∷ xs) ys was = in_instant-append s xs ys was
 in_instant-append s (Client c sent ∷ xs) ys was = in_instant-append s xs ys was
+
+pub jobs_after-append : (xs ys : List Entry) (before : List Thread) → jobs_after before (xs ++ ys) ≡ jobs_after (jobs_after before xs) ys
+jobs_after-append [] ys before = refl
+jobs_after-append (Take q batch ∷ xs) ys before = jobs_after-append xs ys before
+jobs_after-append (Give q sent ∷ xs) ys before = jobs_after-append xs ys (before ++ jobs_sent sent)
+jobs_after-append (Pick w job ∷ xs) ys before = jobs_after-append xs ys (drop 1 before)
+jobs_after-append (Post w sent ∷ xs) ys before = jobs_after-append xs ys (before ++ jobs_sent (sent ∷ []))
+jobs_after-append (Client c sent ∷ xs) ys before = jobs_after-append xs ys (before ++ jobs_sent (sent ∷ []))
+
+pub left_after-append : (x : Prog) (o : RunOptions) (w : ℕ) (xs ys : List Entry) (left : List Sent) → left_after x o w left (xs ++ ys) ≡ left_after x o w (left_after x o w left xs) ys
+left_after-append x o w [] ys left = refl
+left_after-append x o w (Take q batch ∷ xs) ys left = left_after-append x o w xs ys left
+left_after-append x o w (Give q sent ∷ xs) ys left = left_after-append x o w xs ys left
+left_after-append x o w (Pick v job ∷ xs) ys left = left_after-append x o w xs ys (if w == v then async x job o.limits.block else left)
+left_after-append x o w (Post v sent ∷ xs) ys left = left_after-append x o w xs ys (if w == v then drop 1 left else left)
+left_after-append x o w (Client c sent ∷ xs) ys left = left_after-append x o w xs ys left
+
+pub unsent_after-append : (c : ℕ) (xs ys : List Entry) (left : List Sent) → unsent_after c left (xs ++ ys) ≡ unsent_after c (unsent_after c left xs) ys
+unsent_after-append c [] ys left = refl
+unsent_after-append c (Take q batch ∷ xs) ys left = unsent_after-append c xs ys left
+unsent_after-append c (Give q sent ∷ xs) ys left = unsent_after-append c xs ys left
+unsent_after-append c (Pick v job ∷ xs) ys left = unsent_after-append c xs ys left
+unsent_after-append c (Post v sent ∷ xs) ys left = unsent_after-append c xs ys left
+unsent_after-append c (Client d sent ∷ xs) ys left = unsent_after-append c xs ys (if c == d then drop 1 left else left)
 
 -- ---- further batches and notes
 

@@ -7,3 +7,4 @@ pub mod CodeLemmas
 pub mod HistoryLemmas
 pub mod LegalLemmas
 pub mod TurnLemmas
+pub mod OwnLemmas

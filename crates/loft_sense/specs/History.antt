@@ -1,5 +1,5 @@
 -- Histories: the entries of all actors, in the order in which they were made (docs/SEMANTICS.md, "History").
-use Rattle.std.specs.Prelude.{ℕ, ◌+◌, ◌<◌, nat_lt, ◌==◌, Bool, true, false, ◌||◌, ◌&&◌, not, List, [], ◌∷◌, ◌++◌, length, drop, Option, Some, None, Result, Ok, Err, if◌then◌else◌, IsTrue}
+use Rattle.std.specs.Prelude.{◌≡◌, ℕ, ◌+◌, ◌<◌, nat_lt, ◌==◌, Bool, true, false, ◌||◌, ◌&&◌, not, List, [], ◌∷◌, ◌++◌, length, drop, Option, Some, None, Result, Ok, Err, if◌then◌else◌, IsTrue}
 use Rattle.loft_base.specs.declared.ids.SchedId.{SchedId}
 use Rattle.loft_base.specs.declared.ids.Maker.TheVariants.{Source}
 use Rattle.loft_tree.specs.declared.heads.Start.{Start}
@@ -19,6 +19,8 @@ use Rattle.loft_sense.specs.Heads.{same_scheduler}
 use Rattle.loft_sense.specs.Machine.{Prog, heads, Mach}
 use Rattle.loft_sense.specs.Instant.{Replayed, replay}
 use Rattle.loft_sense.specs.Rest.{is_resting, is_spent}
+use Rattle.loft_sense.specs.Async.{async}
+use Rattle.loft_sense.specs.Clients.{outside_of}
 
 -- who makes the next entry, and of which kind
 pub data Choice : Type 0 where
@@ -140,6 +142,32 @@ in_hand w had (Client c sent ∷ es) = in_hand w had es
 abbrev pub is_busy : ℕ → List Entry → Bool
 is_busy w h = in_hand w false h
 
+-- what a worker has still to post after these entries, where this was left before them: its Pick leaves all that the job sends, its Post all but the first
+abbrev pub left_after : Prog → RunOptions → ℕ → List Sent → List Entry → List Sent
+left_after x o w left [] = left
+left_after x o w left (Take s batch ∷ es) = left_after x o w left es
+left_after x o w left (Give s sent ∷ es) = left_after x o w left es
+left_after x o w left (Pick v job ∷ es) = left_after x o w (if w == v then async x job o.limits.block else left) es
+left_after x o w left (Post v sent ∷ es) = left_after x o w (if w == v then drop 1 left else left) es
+left_after x o w left (Client c sent ∷ es) = left_after x o w left es
+
+-- what a worker's job in hand has still to post
+abbrev pub left_of : Prog → RunOptions → ℕ → List Entry → List Sent
+left_of x o w h = left_after x o w [] h
+
+-- what a client has still to give after these entries, where this was left before them
+abbrev pub unsent_after : ℕ → List Sent → List Entry → List Sent
+unsent_after c left [] = left
+unsent_after c left (Take s batch ∷ es) = unsent_after c left es
+unsent_after c left (Give s sent ∷ es) = unsent_after c left es
+unsent_after c left (Pick w job ∷ es) = unsent_after c left es
+unsent_after c left (Post w sent ∷ es) = unsent_after c left es
+unsent_after c left (Client d sent ∷ es) = unsent_after c (if c == d then drop 1 left else left) es
+
+-- what a client of the source has still to give: all but as many as it has given
+abbrev pub unsent : Heads → ℕ → List Entry → List Sent
+unsent h c es = unsent_after c (outside_of h c) es
+
 abbrev pub is_create : Order → Bool
 is_create (Create t m arguments) = true
 is_create (Arrive t) = false
@@ -179,7 +207,17 @@ sent_last [] = []
 sent_last (n ∷ []) = n.sent
 sent_last (n ∷ m ∷ ns) = sent_last (m ∷ ns)
 
--- the entry that a choice makes after a history, where it is allowed. A program of schedulers, modules and starts has no worker's and no client's entries.
+-- the entry of the first of these, where there is one
+abbrev pub entry_of_first : {A : Type 0} → (A → Entry) → List A → Option Entry
+entry_of_first make [] = None
+entry_of_first make (a ∷ others) = Some (make a)
+
+-- a worker with nothing left to post picks the first of the jobs
+abbrev pub pick_of : ℕ → List Sent → List Thread → Option Entry
+pick_of w [] waits = entry_of_first (Pick w) waits
+pick_of w (m ∷ left) waits = None
+
+-- the entry that a choice makes after a history, where it is allowed
 abbrev pub entry_of : Prog → RunOptions → List Entry → Choice → Option Entry
 entry_of x o h (TakeBy s) =
     if nat_lt s.0 (length (heads x).schedulers) && not (is_open s h) && has_turn x o.limits (replayed x o.limits s h).machine (waiting (heads x) s h)
@@ -189,9 +227,9 @@ entry_of x o h (GiveBy s) =
     if nat_lt s.0 (length (heads x).schedulers) && is_open s h
     then Some (Give s (sent_last (replayed x o.limits s h).notes))
     else None
-entry_of x o h (PickBy w) = None
-entry_of x o h (PostBy w) = None
-entry_of x o h (ClientBy c) = None
+entry_of x o h (PickBy w) = if nat_lt w o.workers then pick_of w (left_of x o w h) (jobs h) else None
+entry_of x o h (PostBy w) = if nat_lt w o.workers then entry_of_first (Post w) (left_of x o w h) else None
+entry_of x o h (ClientBy c) = entry_of_first (Client c) (unsent (heads x) c h)
 
 -- the history goes on by this entry, or the next choice isn't allowed: the answer is its number, from 1
 abbrev pub with_entry : List Entry → Option Entry → (List Entry → Result (List Entry) ℕ) → Result (List Entry) ℕ
@@ -211,6 +249,10 @@ hist x o choices = hist_on x o choices []
 abbrev pub has_finished : Prog → RunOptions → List Entry → SchedId → Bool
 has_finished x o h s = not (is_open s h) && not (has_turn x o.limits (replayed x o.limits s h).machine (waiting (heads x) s h))
 
--- nothing is left to do, or the bounds are used up
-abbrev pub HasEnded : Prog → RunOptions → List Entry → Type 0
-HasEnded x o h = (s : SchedId) → s.0 < length (heads x).schedulers → IsTrue (has_finished x o h s)
+-- Nothing is left to do, or the bounds are used up: each client of the source has given all its orders, no job waits, no
+-- worker has anything left to post, and no scheduler has a turn to make.
+pub record HasEnded (x : Prog) (o : RunOptions) (h : List Entry) : Type 0 where
+  pub clients : (c : ℕ) → c < length (heads x).clients → unsent (heads x) c h ≡ []
+  pub no_jobs : jobs h ≡ []
+  pub workers : (w : ℕ) → w < o.workers → left_of x o w h ≡ []
+  pub schedulers : (s : SchedId) → s.0 < length (heads x).schedulers → IsTrue (has_finished x o h s)

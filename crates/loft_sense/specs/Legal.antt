@@ -1,5 +1,5 @@
 -- Legal histories: what each actor has done, apart from how a list of choices makes a history (docs/SEMANTICS.md, "Legal").
-use Rattle.std.specs.Prelude.{◌≡◌, ◌<◌, ◌==◌, Bool, true, false, List, [], ◌∷◌, ◌++◌, length, if◌then◌else◌, IsTrue}
+use Rattle.std.specs.Prelude.{◌≡◌, ◌⊎◌, ℕ, ◌<◌, ◌≤◌, ◌==◌, Bool, true, false, List, [], ◌∷◌, ◌++◌, length, Some, if◌then◌else◌, IsTrue}
 use Rattle.loft_base.specs.declared.ids.SchedId.{SchedId}
 use Rattle.loft_tree.specs.declared.heads.Heads.{Heads}
 use Rattle.loft_sense.specs.declared.entry.Actor.{Actor}
@@ -7,10 +7,19 @@ use Rattle.loft_sense.specs.declared.entry.Actor.TheVariants as actor
 use Rattle.loft_sense.specs.declared.entry.Entry.{Entry}
 use Rattle.loft_sense.specs.declared.entry.Entry.TheVariants.{Take, Give, Pick, Post, Client}
 use Rattle.loft_sense.specs.declared.limits.RunOptions.{RunOptions}
+use Rattle.loft_base.specs.declared.ids.ThreadId.{ThreadId}
+use Rattle.loft_sense.specs.declared.order.Order.{Order}
+use Rattle.loft_sense.specs.declared.order.Order.TheVariants as order
+use Rattle.loft_sense.specs.declared.order.Sent.{Sent}
+use Rattle.loft_sense.specs.declared.order.To.{To}
+use Rattle.loft_sense.specs.declared.order.To.TheVariants as to
 use Rattle.loft_sense.specs.declared.thread.Thread.{Thread}
 use Rattle.loft_sense.specs.Heads.{same_scheduler}
 use Rattle.loft_sense.specs.Machine.{Prog, heads}
-use Rattle.loft_sense.specs.History.{waiting, jobs, replayed, has_turn, sent_last}
+use Rattle.loft_sense.specs.Fits.{Fits}
+use Rattle.loft_sense.specs.Async.{async}
+use Rattle.loft_sense.specs.Clients.{made_by, outside_of}
+use Rattle.loft_sense.specs.History.{choice_of, waiting, jobs, creates, replayed, has_turn, sent_last, entry_of}
 
 abbrev pub actor_of : Entry → Actor
 actor_of (Take s batch) = actor.Sched s
@@ -76,22 +85,107 @@ IsDue x o s before (Post w sent) = ⊥
 IsDue x o s before (Client c sent) = ⊥
 
 -- a scheduler's own entries are those that it has to make
-pub record IsFaithful (x : Prog) (o : RunOptions) (s : SchedId) (list : List Entry) : Type 0 where
+pub record IsFaithfulScheduler (x : Prog) (o : RunOptions) (s : SchedId) (list : List Entry) : Type 0 where
   pub turns : TakeTurns false list
   pub due : AtEach (IsDue x o s) list
 
--- The actors of a program of schedulers, modules and starts are its schedulers.
-abbrev pub IsDeclared : Heads → Actor → Type 0
-IsDeclared h (actor.Sched s) = s.0 < length h.schedulers
-IsDeclared h (actor.Worker w) = ⊥
-IsDeclared h (actor.Client c) = ⊥
+-- Each Pick is followed by all that its job sends, one Post for each order, but for the last Pick by a beginning of it. These
+-- orders are left from before.
+abbrev pub Works : Prog → RunOptions → List Sent → List Entry → Type 0
+Works x o left [] = Unit {0}
+Works x o [] (Pick w job ∷ es) = Works x o (async x job o.limits.block) es
+Works x o (m ∷ left) (Pick w job ∷ es) = ⊥
+Works x o [] (Post w sent ∷ es) = ⊥
+Works x o (m ∷ left) (Post w sent ∷ es) = (sent ≡ m) × Works x o left es
+Works x o left (Take s batch ∷ es) = ⊥
+Works x o left (Give s sent ∷ es) = ⊥
+Works x o left (Client c sent ∷ es) = ⊥
 
--- the actor of each entry is one of the program's
-abbrev pub HasDeclaredActors : Heads → List Entry → Type 0
-HasDeclaredActors h es = AtEach (λ before e. IsDeclared h (actor_of e)) es
+-- these entries give a beginning of these orders, one by one
+abbrev pub Gives : List Sent → List Entry → Type 0
+Gives left [] = Unit {0}
+Gives [] (Client c sent ∷ es) = ⊥
+Gives (m ∷ left) (Client c sent ∷ es) = (sent ≡ m) × Gives left es
+Gives left (Take s batch ∷ es) = ⊥
+Gives left (Give s sent ∷ es) = ⊥
+Gives left (Pick w job ∷ es) = ⊥
+Gives left (Post w sent ∷ es) = ⊥
 
--- the program's actors made these entries, each batch is what waited, and each scheduler's own entries are those that it has to make
+-- an order that a caller may give: no `arrive` and no `ended`, and a create with the caller's next id
+abbrev pub IsCallersOrder : ThreadId → Order → Type 0
+IsCallersOrder next (order.Create t m arguments) = t ≡ next
+IsCallersOrder next (order.Arrive t) = ⊥
+IsCallersOrder next (order.Stop t) = Unit {0}
+IsCallersOrder next (order.Suspend t) = Unit {0}
+IsCallersOrder next (order.Resume t) = Unit {0}
+IsCallersOrder next (order.Broadcast event value) = Unit {0}
+IsCallersOrder next (order.Ended t end) = ⊥
+
+-- it goes to one declared scheduler, and fits there
+abbrev pub FitsOne : Prog → To → Order → Type 0
+FitsOne x (to.Sched s) o = (s.0 < length (heads x).schedulers) × Fits x s o
+FitsOne x (to.Others s) o = ⊥
+FitsOne x to.All o = ⊥
+FitsOne x to.Workers o = ⊥
+
+-- an order that caller c may give after these entries; its creates are numbered from 0
+abbrev pub IsCall : Prog → ℕ → List Entry → Sent → Type 0
+IsCall x c before sent = IsCallersOrder (made_by c (creates c before)) sent.order × FitsOne x sent.to sent.order
+
+abbrev pub Calls : Prog → ℕ → List Entry → Entry → Type 0
+Calls x c before (Take s batch) = ⊥
+Calls x c before (Give s sent) = ⊥
+Calls x c before (Pick w job) = ⊥
+Calls x c before (Post w sent) = ⊥
+Calls x c before (Client d sent) = IsCall x c before sent
+
+-- a client of the source gives its orders as the source has them; any other client is a caller
+pub record IsFaithfulClient (x : Prog) (c : ℕ) (list : List Entry) : Type 0 where
+  pub source : c < length (heads x).clients → Gives (outside_of (heads x) c) list
+  pub caller : length (heads x).clients ≤ c → AtEach (Calls x c) list
+
+-- an actor's own entries are those that it has to make
+abbrev pub IsFaithful : Prog → RunOptions → Actor → List Entry → Type 0
+IsFaithful x o (actor.Sched s) list = IsFaithfulScheduler x o s list
+IsFaithful x o (actor.Worker w) list = Works x o [] list
+IsFaithful x o (actor.Client c) list = IsFaithfulClient x c list
+
+-- a scheduler of the program, a worker of the run, or any client
+abbrev pub IsDeclared : Heads → RunOptions → Actor → Type 0
+IsDeclared h o (actor.Sched s) = s.0 < length h.schedulers
+IsDeclared h o (actor.Worker w) = w < o.workers
+IsDeclared h o (actor.Client c) = Unit {0}
+
+abbrev pub HasDeclaredActors : Heads → RunOptions → List Entry → Type 0
+HasDeclaredActors h o es = AtEach (λ before e. IsDeclared h o (actor_of e)) es
+
+-- Schedulers of the program, workers of the run and clients made these entries, each batch and each job is what waited, and each
+-- actor's own entries are those that it has to make.
 pub record IsLegal (x : Prog) (o : RunOptions) (es : List Entry) : Type 0 where
-  pub declared : HasDeclaredActors (heads x) es
+  pub declared : HasDeclaredActors (heads x) o es
   pub routed : IsRouted (heads x) es
-  pub faithful : (s : SchedId) → IsFaithful x o s (of (actor.Sched s) es)
+  pub faithful : (a : Actor) → IsFaithful x o a (of a es)
+
+-- ---- callers
+
+-- the source declares it, where it is a client
+abbrev pub IsNoCaller : Heads → Actor → Type 0
+IsNoCaller h (actor.Sched s) = Unit {0}
+IsNoCaller h (actor.Worker w) = Unit {0}
+IsNoCaller h (actor.Client c) = c < length h.clients
+
+-- each entry of a client is that of a client of the source
+abbrev pub HasNoCallers : Heads → List Entry → Type 0
+HasNoCallers h es = AtEach (λ before e. IsNoCaller h (actor_of e)) es
+
+-- the entry is an order that a caller may give after this history
+abbrev pub IsCallersEntry : Prog → List Entry → Entry → Type 0
+IsCallersEntry x h (Take s batch) = ⊥
+IsCallersEntry x h (Give s sent) = ⊥
+IsCallersEntry x h (Pick w job) = ⊥
+IsCallersEntry x h (Post w sent) = ⊥
+IsCallersEntry x h (Client c sent) = (length (heads x).clients ≤ c) × IsCall x c h sent
+
+-- the entry may come next: it is that of its choice, or an order of a caller
+abbrev pub ComesNext : Prog → RunOptions → List Entry → Entry → Type 0
+ComesNext x o h e = (entry_of x o h (choice_of e) ≡ Some e) ⊎ IsCallersEntry x h e

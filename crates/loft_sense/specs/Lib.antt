@@ -17,6 +17,7 @@ pub mod Codes
 pub mod Async
 pub mod Rest
 pub mod Fits
+pub mod Clients
 pub mod History
 pub mod Legal
 pub mod Turns

@@ -1,33 +1,43 @@
 -- In each history of a well-formed program, what waits for a scheduler fits there, and the threads of each scheduler stand.
-use Rattle.std.proofs.Common.{◌≡◌, Bool, true, false, List, [], ◌∷◌, ◌++◌, length, Some, None, Ok, refl, sym, ◌∙◌, subst}
-use Rattle.std.specs.Prelude.{◌&&◌, nat_lt, if◌then◌else◌, All}
+use Rattle.std.proofs.Common.{◌≡◌, ℕ, ◌==◌, inl, inr, Bool, true, false, List, [], ◌∷◌, ◌++◌, length, Some, refl, sym, ◌∙◌, subst, append_assoc, append-nil}
+use Rattle.std.specs.Prelude.{◌&&◌, not, nat_lt, drop, if◌then◌else◌, All}
 use Rattle.std.proofs.lemmas.Bool.{and_parts, ltb-true}
 use Rattle.loft_base.specs.declared.ids.SchedId.{SchedId}
+use Rattle.loft_tree.specs.declared.heads.Place.TheVariants.{Unlinked}
 use Rattle.loft_tree.specs.Fits.{Each}
 use Rattle.loft_tree.specs.NamedFits.{IsScheduler}
 use Rattle.loft_sense.specs.declared.entry.Entry.{Entry}
-use Rattle.loft_sense.specs.declared.entry.Entry.TheVariants.{Take, Give}
+use Rattle.loft_sense.specs.declared.entry.Entry.TheVariants.{Take, Give, Pick, Post, Client}
 use Rattle.loft_sense.specs.declared.limits.RunOptions.{RunOptions}
 use Rattle.loft_sense.specs.declared.note.InstantNote.{InstantNote}
 use Rattle.loft_sense.specs.declared.order.Order.{Order}
+use Rattle.loft_sense.specs.declared.order.Order.TheVariants as order
+use Rattle.loft_sense.specs.declared.order.To.{To}
+use Rattle.loft_sense.specs.declared.order.To.TheVariants as to
 use Rattle.loft_sense.specs.declared.order.Sent.{Sent}
+use Rattle.loft_sense.specs.declared.thread.Thread.{Thread}
 use Rattle.loft_sense.specs.Heads.{same_scheduler}
 use Rattle.loft_sense.specs.Machine.{Prog, heads, empty}
 use Rattle.loft_sense.specs.Fits.{Fits}
 use Rattle.loft_sense.specs.Instant.{instant, Replayed, one_more, replay_on}
-use Rattle.loft_sense.specs.History.{Choice, TakeBy, GiveBy, PickBy, PostBy, ClientBy, log, is_open, orders_to, starts_of, waiting_after, waiting, replayed, sent_last, entry_of, hist_on, hist}
+use Rattle.loft_sense.specs.Async.{async}
+use Rattle.loft_sense.specs.Clients.{outside_of}
+use Rattle.loft_sense.specs.History.{choice_of, log, is_open, orders_to, starts_of, waiting_after, waiting, job_before, jobs_sent, jobs_after, jobs, left_after, left_of, unsent_after, unsent, replayed, has_turn, sent_last, entry_of_first, pick_of, entry_of}
+use Rattle.loft_sense.specs.Legal.{AtEach, FitsOne, IsLegal, IsCallersEntry, ComesNext}
 use Rattle.loft_sense.proofs.AroundLemmas.{instant_scheduler}
-use Rattle.loft_sense.proofs.HistoryLemmas.{is_same, from_first, same_history, log-append, waiting_after-append}
-use Rattle.loft_stand.specs.Machines.{MachFits, SentFits}
+use Rattle.loft_sense.proofs.HistoryLemmas.{is_same, on_if, on_first, on_pick, log-append, waiting_after-append, jobs_after-append, left_after-append, unsent_after-append}
+use Rattle.loft_sense.proofs.LegalLemmas.{split_on, legal_exactly}
+use Rattle.loft_stand.specs.Machines.{ThreadFits, MachFits, FitsAt, SentFits}
 use Rattle.loft_stand.specs.WellFormed.{IsWellFormed}
-use Rattle.loft_stand.proofs.ListLemmas.{each_append, each_map, all_of, each_of}
-use Rattle.loft_stand.proofs.OrderLemmas.{orders_fit, starts_fit}
-use Rattle.loft_stand.proofs.InstantLemmas.{instant_fits, empty_fits}
+use Rattle.loft_stand.proofs.ListLemmas.{each_append, each_drop, each_map, all_of, each_of}
+use Rattle.loft_stand.proofs.OrderLemmas.{orders_fit, starts_fit, outside_fits}
+use Rattle.loft_stand.proofs.InstantLemmas.{instant_fits, empty_fits, async_fits}
 
--- an allowed choice makes this entry
-on_allowed : {Q : Type 0} (allowed : Bool) (a e : Entry) → (if allowed then Some a else None) ≡ Some e → (allowed ≡ true → a ≡ e → Q) → Q
-on_allowed true a e is on = on refl cc
-on_allowed false a e is on = absurd cc
+same_job : {w : ℕ} {t u : Thread} → Pick w t ≡ Pick w u → t ≡ u
+same_job e = cc
+
+some_same : {a b : Entry} → Some a ≡ Some b → a ≡ b
+some_same e = cc
 
 unless : {A : Type 0} (P : A → Type 0) (b : Bool) (xs : List A) → Each P xs → Each P (if b then [] else xs)
 unless P true xs f = tt
@@ -36,6 +46,10 @@ unless P false xs f = f
 only_if : {A : Type 0} (P : A → Type 0) (b : Bool) (x : A) → (b ≡ true → P x) → Each P (if b then x ∷ [] else [])
 only_if P true x f = (f refl, tt)
 only_if P false x f = tt
+
+either : {A : Type 0} (P : A → Type 0) (b : Bool) (xs ys : List A) → Each P xs → Each P ys → Each P (if b then xs else ys)
+either P true xs ys f g = f
+either P false xs ys f g = g
 
 last_fits : (P : Sent → Type 0) (ns : List InstantNote) → Each (λ (n : InstantNote). Each P n.sent) ns → Each P (sent_last ns)
 last_fits P [] f = tt
@@ -77,76 +91,197 @@ module _ (x : Prog) (well : IsWellFormed x) (o : RunOptions) where
 
   -- ---- histories
 
-  -- what waits for each scheduler fits there, and so did each batch that it took
+  -- What waits for each scheduler fits there, and so did each batch that it took. Each thread that waits for a worker stands
+  -- unlinked, and what workers have still to post and clients to give fits where it goes.
   pub record HistoryFits (h : List Entry) : Type 0 where
     pub waits : (s : SchedId) → BatchFits s (waiting (heads x) s h)
     pub took : (s : SchedId) → Each (BatchFits s) (log s h)
+    pub threads : Each (ThreadFits x Unlinked) (jobs h)
+    pub posts : (w : ℕ) → Each (SentFits x) (left_of x o w h)
+    pub orders : (c : ℕ) → Each (SentFits x) (unsent (heads x) c h)
 
   replayed_fits : (h : List Entry) (s : SchedId) → HistoryFits h → IsScheduler (heads x) s → ReplayedFits s (replayed x o.limits s h)
   replayed_fits h s f declared = replay_fits s _ (log s h) (begun_fits s declared) (f.took s)
 
-  more_waits : (h : List Entry) (e : Entry) (s : SchedId) → BatchFits s (waiting_after s (waiting (heads x) s h) (e ∷ [])) → BatchFits s (waiting (heads x) s (h ++ e ∷ []))
-  more_waits h e s f = subst (BatchFits s) (sym (waiting_after-append s (starts_of (heads x) s) h (e ∷ []))) f
+  -- the same of what one more entry leaves
+  record EntryFits (h : List Entry) (e : Entry) : Type 0 where
+    pub waits : (s : SchedId) → BatchFits s (waiting_after s (waiting (heads x) s h) (e ∷ []))
+    pub took : (s : SchedId) → Each (BatchFits s) (log s (e ∷ []))
+    pub threads : Each (ThreadFits x Unlinked) (jobs_after (jobs h) (e ∷ []))
+    pub posts : (w : ℕ) → Each (SentFits x) (left_after x o w (left_of x o w h) (e ∷ []))
+    pub orders : (c : ℕ) → Each (SentFits x) (unsent_after c (unsent (heads x) c h) (e ∷ []))
 
-  more_took : (h : List Entry) (e : Entry) (s : SchedId) → HistoryFits h → Each (BatchFits s) (log s (e ∷ [])) → Each (BatchFits s) (log s (h ++ e ∷ []))
-  more_took h e s f g = subst (Each (BatchFits s)) (sym (log-append s h (e ∷ []))) (each_append (BatchFits s) (log s h) (log s (e ∷ [])) (f.took s) g)
+  one_more_entry : (h : List Entry) (e : Entry) → HistoryFits h → EntryFits h e → HistoryFits (h ++ e ∷ [])
+  one_more_entry h e f g = record {
+    waits = λ s. subst (BatchFits s) (sym (waiting_after-append s (starts_of (heads x) s) h (e ∷ []))) (g.waits s);
+    took = λ s. subst (Each (BatchFits s)) (sym (log-append s h (e ∷ []))) (each_append (BatchFits s) (log s h) (log s (e ∷ [])) (f.took s) (g.took s));
+    threads = subst (Each (ThreadFits x Unlinked)) (sym (jobs_after-append h (e ∷ []) [])) g.threads;
+    posts = λ w. subst (Each (SentFits x)) (sym (left_after-append x o w h (e ∷ []) [])) (g.posts w);
+    orders = λ c. subst (Each (SentFits x)) (sym (unsent_after-append c h (e ∷ []) (outside_of (heads x) c))) (g.orders c);
+  }
 
-  take_fits : (h : List Entry) (q : SchedId) → HistoryFits h → HistoryFits (h ++ Take q (waiting (heads x) q h) ∷ [])
+  -- ---- what an entry sends
+
+  job_fits : (to : To) (order : Order) (waits : List Thread) → FitsAt x to order → Each (ThreadFits x Unlinked) waits → Each (ThreadFits x Unlinked) (job_before to order waits)
+  job_fits (to.Sched s) order waits f g = g
+  job_fits (to.Others s) order waits f g = g
+  job_fits to.All order waits f g = g
+  job_fits to.Workers (order.Create t m arguments) waits f g = g
+  job_fits to.Workers (order.Arrive t) waits f g = (f.1, g)
+  job_fits to.Workers (order.Stop t) waits f g = g
+  job_fits to.Workers (order.Suspend t) waits f g = g
+  job_fits to.Workers (order.Resume t) waits f g = g
+  job_fits to.Workers (order.Broadcast e v) waits f g = g
+  job_fits to.Workers (order.Ended t end) waits f g = g
+
+  jobs_fit : (ms : List Sent) → Each (SentFits x) ms → Each (ThreadFits x Unlinked) (jobs_sent ms)
+  jobs_fit [] f = tt
+  jobs_fit (m ∷ ms) f = job_fits m.to m.order (jobs_sent ms) f.0 (jobs_fit ms f.1)
+
+  more_waits : (h : List Entry) (sent : List Sent) (s : SchedId) → HistoryFits h → Each (SentFits x) sent → BatchFits s (waiting (heads x) s h ++ orders_to s sent)
+  more_waits h sent s f each = each_append (Fits x s) (waiting (heads x) s h) (orders_to s sent) (f.waits s) (orders_fit x s sent each)
+
+  more_threads : (h : List Entry) (sent : List Sent) → HistoryFits h → Each (SentFits x) sent → Each (ThreadFits x Unlinked) (jobs h ++ jobs_sent sent)
+  more_threads h sent f each = each_append (ThreadFits x Unlinked) (jobs h) (jobs_sent sent) f.threads (jobs_fit sent each)
+
+  -- ---- each kind of entry
+
+  take_fits : (h : List Entry) (q : SchedId) → HistoryFits h → EntryFits h (Take q (waiting (heads x) q h))
   take_fits h q f =
       let batch = waiting (heads x) q h in
       record {
-        waits = λ s. more_waits h (Take q batch) s (unless (Fits x s) (same_scheduler s q) (waiting (heads x) s h) (f.waits s));
-        took =
-            λ s. more_took h (Take q batch) s f
-            (only_if (BatchFits s) (same_scheduler s q) batch (λ same. subst (λ (r : SchedId). BatchFits r batch) (sym (is_same s q same)) (f.waits q)));
+        waits = λ s. unless (Fits x s) (same_scheduler s q) (waiting (heads x) s h) (f.waits s);
+        took = λ s. only_if (BatchFits s) (same_scheduler s q) batch (λ same. subst (λ (r : SchedId). BatchFits r batch) (sym (is_same s q same)) (f.waits q));
+        threads = f.threads;
+        posts = f.posts;
+        orders = f.orders;
       }
 
-  give_fits : (h : List Entry) (q : SchedId) → IsScheduler (heads x) q → HistoryFits h → HistoryFits (h ++ Give q (sent_last (replayed x o.limits q h).notes) ∷ [])
+  give_fits : (h : List Entry) (q : SchedId) → IsScheduler (heads x) q → HistoryFits h → EntryFits h (Give q (sent_last (replayed x o.limits q h).notes))
   give_fits h q declared f =
       let notes = (replayed x o.limits q h).notes in
       let sent = sent_last notes in
       let each = last_fits (SentFits x) notes (replayed_fits h q f declared).notes in
-      record {
-        waits = λ s. more_waits h (Give q sent) s (each_append (Fits x s) (waiting (heads x) s h) (orders_to s sent) (f.waits s) (orders_fit x s sent each));
-        took = λ s. more_took h (Give q sent) s f tt;
-      }
+      record { waits = λ s. more_waits h sent s f each; took = λ s. tt; threads = more_threads h sent f each; posts = f.posts; orders = f.orders }
 
-  -- the entry of each allowed choice keeps this
-  pub entry_fits : (h : List Entry) (c : Choice) (e : Entry) → HistoryFits h → entry_of x o h c ≡ Some e → HistoryFits (h ++ e ∷ [])
-  entry_fits h (TakeBy s) e f is = on_allowed _ (Take s (waiting (heads x) s h)) e is (λ allowed same. subst (λ (d : Entry). HistoryFits (h ++ d ∷ [])) same (take_fits h s f))
-  entry_fits h (GiveBy s) e f is =
-      on_allowed (nat_lt s.0 (length (heads x).schedulers) && is_open s h) (Give s (sent_last (replayed x o.limits s h).notes)) e is
-      (λ allowed same. subst (λ (d : Entry). HistoryFits (h ++ d ∷ [])) same (give_fits h s (ltb-true s.0 (length (heads x).schedulers) (and_parts _ (is_open s h) allowed).0) f))
-  entry_fits h (PickBy w) e f is = absurd cc
-  entry_fits h (PostBy w) e f is = absurd cc
-  entry_fits h (ClientBy c) e f is = absurd cc
+  pick_fits : (h : List Entry) (v : ℕ) (job : Thread) → HistoryFits h → ThreadFits x Unlinked job → EntryFits h (Pick v job)
+  pick_fits h v job f fits = record {
+    waits = f.waits;
+    took = λ s. tt;
+    threads = each_drop (ThreadFits x Unlinked) (jobs h) f.threads;
+    posts = λ w. either (SentFits x) (w == v) (async x job o.limits.block) (left_of x o w h) (async_fits x well job o.limits.block fits) (f.posts w);
+    orders = f.orders;
+  }
 
-  choices_fit : (cs : List Choice) (h g : List Entry) → HistoryFits h → hist_on x o cs h ≡ Ok g → HistoryFits g
-  choices_fit [] h g f made = subst HistoryFits (same_history x o h g made) f
-  choices_fit (c ∷ cs) h g f made = from_first x o h (entry_of x o h c) cs g made (λ e is on. choices_fit cs (h ++ e ∷ []) g (entry_fits h c e f is) on)
+  post_fits : (h : List Entry) (v : ℕ) (sent : Sent) → HistoryFits h → SentFits x sent → EntryFits h (Post v sent)
+  post_fits h v sent f fits = record {
+    waits = λ s. more_waits h (sent ∷ []) s f (fits, tt);
+    took = λ s. tt;
+    threads = more_threads h (sent ∷ []) f (fits, tt);
+    posts = λ w. either (SentFits x) (w == v) (drop 1 (left_of x o w h)) (left_of x o w h) (each_drop (SentFits x) (left_of x o w h) (f.posts w)) (f.posts w);
+    orders = f.orders;
+  }
 
-  -- at first the starts wait
+  client_fits : (h : List Entry) (d : ℕ) (sent : Sent) → HistoryFits h → SentFits x sent → EntryFits h (Client d sent)
+  client_fits h d sent f fits = record {
+    waits = λ s. more_waits h (sent ∷ []) s f (fits, tt);
+    took = λ s. tt;
+    threads = more_threads h (sent ∷ []) f (fits, tt);
+    posts = f.posts;
+    orders = λ c. either (SentFits x) (c == d) (drop 1 (unsent (heads x) c h)) (unsent (heads x) c h) (each_drop (SentFits x) (unsent (heads x) c h) (f.orders c)) (f.orders c);
+  }
+
+  call_fits : (to : To) (order : Order) → FitsOne x to order → FitsAt x to order
+  call_fits (to.Sched s) order f = f.1
+  call_fits (to.Others s) order f = absurd f
+  call_fits to.All order f = absurd f
+  call_fits to.Workers order f = absurd f
+
+  -- what may come next fits by its choice
+  choice_fits : (h : List Entry) (e : Entry) → HistoryFits h → entry_of x o h (choice_of e) ≡ Some e → EntryFits h e
+  choice_fits h (Take s batch) f is =
+      on_if (nat_lt s.0 (length (heads x).schedulers) && not (is_open s h) && has_turn x o.limits (replayed x o.limits s h).machine (waiting (heads x) s h)) (Some (Take s (waiting (heads x) s h))) (Take s batch) is
+      (λ allowed same. subst (EntryFits h) (some_same same) (take_fits h s f))
+  choice_fits h (Give s sent) f is =
+      on_if (nat_lt s.0 (length (heads x).schedulers) && is_open s h) (Some (Give s (sent_last (replayed x o.limits s h).notes))) (Give s sent) is
+      (λ allowed same. subst (EntryFits h) (some_same same) (give_fits h s (ltb-true s.0 (length (heads x).schedulers) (and_parts _ (is_open s h) allowed).0) f))
+  choice_fits h (Pick w job) f is =
+      on_if (nat_lt w o.workers) (pick_of w (left_of x o w h) (jobs h)) (Pick w job) is (λ declared picks.
+      on_pick w (left_of x o w h) (jobs h) (Pick w job) picks (λ free first.
+      on_first (Pick w) (jobs h) (Pick w job) first (λ t rest all same.
+      subst (EntryFits h) same (pick_fits h w t f (subst (Each (ThreadFits x Unlinked)) all f.threads).0))))
+  choice_fits h (Post w sent) f is =
+      on_if (nat_lt w o.workers) (entry_of_first (Post w) (left_of x o w h)) (Post w sent) is (λ declared first.
+      on_first (Post w) (left_of x o w h) (Post w sent) first (λ m rest all same.
+      subst (EntryFits h) same (post_fits h w m f (subst (Each (SentFits x)) all (f.posts w)).0)))
+  choice_fits h (Client c sent) f is =
+      on_first (Client c) (unsent (heads x) c h) (Client c sent) is (λ m rest all same.
+      subst (EntryFits h) same (client_fits h c m f (subst (Each (SentFits x)) all (f.orders c)).0))
+
+  -- a thread that is picked stands unlinked
+  pub picked_fits : (h : List Entry) (w : ℕ) (job : Thread) → HistoryFits h → ComesNext x o h (Pick w job) → ThreadFits x Unlinked job
+  picked_fits h w job f (inl is) =
+      on_if (nat_lt w o.workers) (pick_of w (left_of x o w h) (jobs h)) (Pick w job) is (λ declared picks.
+      on_pick w (left_of x o w h) (jobs h) (Pick w job) picks (λ free first.
+      on_first (Pick w) (jobs h) (Pick w job) first (λ t rest all same.
+      subst (ThreadFits x Unlinked) (same_job same) (subst (Each (ThreadFits x Unlinked)) all f.threads).0)))
+  picked_fits h w job f (inr call) = absurd call
+
+  called_fits : (h : List Entry) (e : Entry) → HistoryFits h → IsCallersEntry x h e → EntryFits h e
+  called_fits h (Take s batch) f call = absurd call
+  called_fits h (Give s sent) f call = absurd call
+  called_fits h (Pick w job) f call = absurd call
+  called_fits h (Post w sent) f call = absurd call
+  called_fits h (Client c sent) f call = client_fits h c sent f (call_fits sent.to sent.order call.1.1)
+
+  -- each entry that may come next keeps this
+  pub entry_fits : (h : List Entry) (e : Entry) → HistoryFits h → ComesNext x o h e → HistoryFits (h ++ e ∷ [])
+  entry_fits h e f (inl is) = one_more_entry h e f (choice_fits h e f is)
+  entry_fits h e f (inr call) = one_more_entry h e f (called_fits h e f call)
+
+  entries_fit : (before after : List Entry) → HistoryFits before → AtEach (ComesNext x o) (before ++ after) → HistoryFits (before ++ after)
+  entries_fit before [] f each = subst HistoryFits (sym (append-nil before)) f
+  entries_fit before (e ∷ after) f each =
+      subst HistoryFits (append_assoc before (e ∷ []) after)
+      (entries_fit (before ++ e ∷ []) after (entry_fits before e f (each before e after refl)) (split_on (ComesNext x o) before e after each))
+
+  -- at first the starts wait, and no client has given anything
   pub starts_wait : HistoryFits []
-  starts_wait = record { waits = λ s. each_of (Fits x s) (starts_of (heads x) s) (starts_fit x well s); took = λ s. tt }
+  starts_wait = record {
+    waits = λ s. each_of (Fits x s) (starts_of (heads x) s) (starts_fit x well s);
+    took = λ s. tt;
+    threads = tt;
+    posts = λ w. tt;
+    orders = outside_fits x well;
+  }
 
   -- ---- as the law says it
 
-  pub history_fits : (choices : List Choice) (es : List Entry) → hist x o choices ≡ Ok es → HistoryFits es
-  history_fits choices es made = choices_fit choices [] es starts_wait made
+  pub history_fits : (es : List Entry) → IsLegal x o es → HistoryFits es
+  history_fits es legal = entries_fit [] es starts_wait ((legal_exactly x o es).0 legal)
 
-  module _ (choices : List Choice) (es : List Entry) (made : hist x o choices ≡ Ok es) (s : SchedId) where
+  module _ (es : List Entry) (legal : IsLegal x o es) where
     abbrev fits : HistoryFits es
-    fits = history_fits choices es made
+    fits = history_fits es legal
 
-    pub waiting_fits : All (Fits x s) (waiting (heads x) s es)
-    waiting_fits = all_of (Fits x s) (waiting (heads x) s es) (fits.waits s)
+    pub waiting_fits : (s : SchedId) → All (Fits x s) (waiting (heads x) s es)
+    waiting_fits s = all_of (Fits x s) (waiting (heads x) s es) (fits.waits s)
 
-    pub scheduler_fits : IsScheduler (heads x) s → let m = (replayed x o.limits s es).machine in (m.s ≡ s) × MachFits x m
-    scheduler_fits declared = let r = replayed_fits es s fits declared in (r.own, r.machine)
+    pub scheduler_fits : (s : SchedId) → IsScheduler (heads x) s → let m = (replayed x o.limits s es).machine in (m.s ≡ s) × MachFits x m
+    scheduler_fits s declared = let r = replayed_fits es s fits declared in (r.own, r.machine)
 
-    pub sents_fit : IsScheduler (heads x) s → All (λ (note : InstantNote). All (SentFits x) note.sent) (replayed x o.limits s es).notes
-    sents_fit declared =
+    pub sents_fit : (s : SchedId) → IsScheduler (heads x) s → All (λ (note : InstantNote). All (SentFits x) note.sent) (replayed x o.limits s es).notes
+    sents_fit s declared =
         let notes = (replayed x o.limits s es).notes in
         all_of (λ (note : InstantNote). All (SentFits x) note.sent) notes
         (each_map NoteFits (λ (note : InstantNote). All (SentFits x) note.sent) notes (λ note f. all_of (SentFits x) note.sent f)
         (replayed_fits es s fits declared).notes)
+
+    pub threads_fit : All (ThreadFits x Unlinked) (jobs es)
+    threads_fit = all_of (ThreadFits x Unlinked) (jobs es) fits.threads
+
+    pub posts_fit : (w : ℕ) → All (SentFits x) (left_of x o w es)
+    posts_fit w = all_of (SentFits x) (left_of x o w es) (fits.posts w)
+
+    pub clients_fit : (c : ℕ) → All (SentFits x) (unsent (heads x) c es)
+    clients_fit c = all_of (SentFits x) (unsent (heads x) c es) (fits.orders c)

@@ -31,6 +31,7 @@ use Rattle.loft_sense.specs.Fits.{WaitNames, ThreadNames, Fits}
 use Rattle.loft_sense.specs.Passes.{Runner, Walk, is_ready, run_of, runners_after, around_after, walked, pass, passes_within, steps_left, passes}
 use Rattle.loft_sense.specs.Apply.{unapplied, apply}
 use Rattle.loft_sense.specs.Instant.{runner_of, around_of, lowered, closed_wait, closed, stays, leaver, leavers, sent_by, instant}
+use Rattle.loft_sense.specs.Clients.{outside_of}
 use Rattle.loft_sense.specs.Async.{alone, block_sent, async}
 use Rattle.loft_stand.specs.Points.{AroundFits, LeavesStanding}
 use Rattle.loft_stand.specs.Machines.{ThreadFits, MachFits, SentFits}
@@ -38,7 +39,7 @@ use Rattle.loft_stand.specs.WellFormed.{IsWellFormed}
 use Rattle.loft_stand.proofs.ListLemmas.{each_append, all_of, each_of}
 use Rattle.loft_stand.proofs.ProgramLemmas.{leads_to_points}
 use Rattle.loft_stand.proofs.StandLemmas.{run_leaves}
-use Rattle.loft_stand.proofs.OrderLemmas.{acts_fit, Leaves, leaver_fits, orders_fit, AppliedFits, Linked, orders_applied}
+use Rattle.loft_stand.proofs.OrderLemmas.{outside_fits, acts_fit, Leaves, leaver_fits, orders_fit, AppliedFits, Linked, orders_applied}
 
 -- ---- passes
 
@@ -256,3 +257,6 @@ sent_fits x well limits m batch f g =
 
 pub unlinked_fits : (x : Prog) → IsWellFormed x → (t : Thread) (block : ℕ) → ThreadFits x Unlinked t → AllFit x (async x t block)
 unlinked_fits x well t block f = all_fit x (async x t block) (async_fits x well t block f)
+
+pub outside_all_fit : (x : Prog) → IsWellFormed x → (c : ℕ) → AllFit x (outside_of (heads x) c)
+outside_all_fit x well c = all_fit x (outside_of (heads x) c) (outside_fits x well c)

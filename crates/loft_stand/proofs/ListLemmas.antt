@@ -1,6 +1,6 @@
 -- Lists each of whose elements is so.
 use Rattle.std.proofs.Common.{◌≡◌, ℕ, zero, suc, ◌<◌, List, [], ◌∷◌, ◌++◌, reverse, length, Some, slice_get, refl, sym, subst, arith}
-use Rattle.std.specs.Prelude.{All}
+use Rattle.std.specs.Prelude.{All, drop}
 use Rattle.std.specs.List.{AllByRecursion}
 use Rattle.std.proofs.lemmas.List.{reverse-append}
 use Rattle.std.proofs.lemmas.List.Elements.{All-from_recursion, recursion_from_All}
@@ -22,6 +22,15 @@ each_reverse P (x ∷ xs) f = subst (Each P) (sym (reverse-append (x ∷ []) xs)
 pub each_map : {A : Type 0} (P Q : A → Type 0) (xs : List A) → ((x : A) → P x → Q x) → Each P xs → Each Q xs
 each_map P Q [] turn f = tt
 each_map P Q (x ∷ xs) turn f = (turn x f.0, each_map P Q xs turn f.1)
+
+pub each_drop : {A : Type 0} (P : A → Type 0) (xs : List A) → Each P xs → Each P (drop 1 xs)
+each_drop P [] f = tt
+each_drop P (x ∷ xs) f = f.1
+
+pub each_at : {A : Type 0} (P : A → Type 0) (xs : List A) (k : ℕ) (x : A) → Each P xs → slice_get xs k ≡ Some x → P x
+each_at P [] k x f at = absurd cc
+each_at P (y ∷ ys) zero x f at = let same : y ≡ x = cc in subst P same f.0
+each_at P (y ∷ ys) (suc k) x f at = each_at P ys k x f.1 at
 
 -- ---- as laws say it
 

@@ -14,9 +14,15 @@ use Rattle.loft_tree.specs.declared.heads.Place.{Place}
 use Rattle.loft_tree.specs.declared.heads.Place.TheVariants.{Sched, Unlinked}
 use Rattle.loft_tree.specs.declared.heads.Signature.{Signature}
 use Rattle.loft_tree.specs.declared.heads.Start.{Start}
+use Rattle.loft_tree.specs.declared.heads.ClientOrder.{ClientOrder}
+use Rattle.loft_tree.specs.declared.heads.ClientOrder.TheVariants as client
+use Rattle.loft_tree.specs.declared.heads.Client.{Client}
+use Rattle.loft_tree.specs.declared.heads.Heads.{Heads}
+use Rattle.loft_tree.specs.declared.kinds.Control.{Control}
+use Rattle.loft_tree.specs.declared.kinds.Control.TheVariants as control
 use Rattle.loft_tree.specs.Fits.{Each}
 use Rattle.loft_tree.specs.HeadsFit.{kinds_of, TakesIn}
-use Rattle.loft_tree.specs.NamedFits.{slots_of}
+use Rattle.loft_tree.specs.NamedFits.{IsStarted, slots_of}
 use Rattle.loft_board.specs.Board.{values as event_values, value_list}
 use Rattle.loft_sense.specs.declared.limits.TheConstants.{MAX_LINKED}
 use Rattle.loft_sense.specs.declared.note.Act.{Act}
@@ -35,16 +41,17 @@ use Rattle.loft_sense.specs.Heads.{first_values}
 use Rattle.loft_sense.specs.Machine.{Prog, heads}
 use Rattle.loft_sense.specs.CanGo.{same_thread}
 use Rattle.loft_sense.specs.Stands.{begin_of, begin_or_unlinked, ValuesAgree, Stands}
-use Rattle.loft_sense.specs.Fits.{IsThread, IsValue, ThreadNames, EndNames, Fits}
+use Rattle.loft_sense.specs.Clients.{control_of, orders_from, orders_or_none, outside_of}
+use Rattle.loft_sense.specs.Fits.{IsMaker, IsThread, IsValue, ThreadNames, EndNames, Fits}
 use Rattle.loft_sense.specs.Apply.{Applied, new_thread, link, is_linked, unlink, suspend, tell_end, apply_order, apply_orders}
 use Rattle.loft_sense.specs.Instant.{sent_by}
 use Rattle.loft_stand.specs.Points.{OrderFits, OutFits, ActFits, StandsThere}
 use Rattle.loft_stand.specs.Machines.{ThreadFits, FitsAt, SentFits}
 use Rattle.loft_stand.specs.WellFormed.{IsWellFormed}
-use Rattle.loft_stand.proofs.ListLemmas.{each_append, all_of}
+use Rattle.loft_stand.proofs.ListLemmas.{each_append, each_at, all_of}
 use Rattle.loft_stand.proofs.ValueLemmas.{values_agree, values_name, values_fit, first_values_fit}
 use Rattle.loft_stand.proofs.LeadsToPoints.{begin_stop, LeadsToPoints}
-use Rattle.loft_stand.proofs.ProgramLemmas.{Begins as StartBegins, starts_begin}
+use Rattle.loft_stand.proofs.ProgramLemmas.{Begins as StartBegins, starts_begin, argument_names, IsOrdered, Orders, clients_order}
 
 -- ---- what is sent
 
@@ -206,3 +213,27 @@ starts_fit_from x s k (t ∷ ts) f =
 
 pub starts_fit : (x : Prog) → IsWellFormed x → (s : SchedId) → All (Fits x s) (starts_from s 0 (heads x).starts)
 starts_fit x well s = all_of (Fits x s) (starts_from s 0 (heads x).starts) (starts_fit_from x s 0 (heads x).starts (starts_begin x well))
+
+-- ---- clients
+
+started_thread : (h : Heads) (t : ThreadId) → IsStarted h t → IsThread h t
+started_thread h t is = subst (IsMaker h) (sym is.0) tt
+
+control_fits : (x : Prog) (s : SchedId) (control : Control) (t : ThreadId) → IsThread (heads x) t → Fits x s (control_of control t)
+control_fits x s control.Stop t is = is
+control_fits x s control.Suspend t is = is
+control_fits x s control.Resume t is = is
+
+orders_from_fit : (x : Prog) (c k : ℕ) (os : List ClientOrder) → Each (IsOrdered (heads x)) os → Each (SentFits x) (orders_from (heads x) c k os)
+orders_from_fit x c k [] f = tt
+orders_from_fit x c k (client.Create s m arguments ∷ os) f = ((tt, f.0.1, argument_names (heads x) arguments f.0.0.arguments), orders_from_fit x c (k + 1) os f.1)
+orders_from_fit x c k (client.Control control t s ∷ os) f = (control_fits x s control t (started_thread (heads x) t f.0.0.0), orders_from_fit x c k os f.1)
+orders_from_fit x c k (client.Broadcast e value ∷ os) f = (record { declared = f.0.0.0; there = refl }, orders_from_fit x c k os f.1)
+
+client_fits : (x : Prog) (c : ℕ) (there : Option Client) → slice_get (heads x).clients c ≡ there → Each (Orders (heads x)) (heads x).clients → Each (SentFits x) (orders_from (heads x) c 0 (orders_or_none there))
+client_fits x c None at all = tt
+client_fits x c (Some client) at all = orders_from_fit x c 0 client.orders (each_at (Orders (heads x)) (heads x).clients c client all at)
+
+-- all that a client of the source sends fits where it goes
+pub outside_fits : (x : Prog) → IsWellFormed x → (c : ℕ) → Each (SentFits x) (outside_of (heads x) c)
+outside_fits x well c = client_fits x c (slice_get (heads x).clients c) refl (clients_order x well)

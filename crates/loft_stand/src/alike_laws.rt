@@ -1,6 +1,6 @@
 //! Laws of programs whose threads run alike. Each is what the contract of an empty function says.
 
-ghost use Rattle.std.specs.Prelude.{◌≡◌, ◌↔◌, ℕ, List, All, Ok};
+ghost use Rattle.std.specs.Prelude.{◌≡◌, ◌↔◌, ℕ, List, All};
 ghost use Rattle.loft_base.specs.declared.ids.SchedId.{SchedId};
 ghost use Rattle.loft_tree.specs.declared.heads.Place.TheVariants.{Unlinked};
 ghost use Rattle.loft_tree.specs.NamedFits.{IsScheduler};
@@ -39,13 +39,13 @@ pub fn programs_that_run_alike_agree()
     ensures legal { (x y : Prog) → IsWellFormed x → RunsAlike x y
         → (o : RunOptions) (es : List Entry) → IsLegal x o es ↔ IsLegal y o es }
     ensures replays { (x y : Prog) → IsWellFormed x → RunsAlike x y
-        → (o : RunOptions) (choices : List Choice) (es : List Entry) → hist x o choices ≡ Ok es
+        → (o : RunOptions) (es : List Entry) → IsLegal x o es
         → (s : SchedId) → IsScheduler (heads x) s
         → replayed x o.limits s es ≡ replayed y o.limits s es }
     ensures ended { (x y : Prog) → IsWellFormed x → RunsAlike x y
-        → (o : RunOptions) (choices : List Choice) (es : List Entry) → hist x o choices ≡ Ok es
+        → (o : RunOptions) (es : List Entry) → IsLegal x o es
         → HasEnded x o es ↔ HasEnded y o es }
     ensures reports { (x y : Prog) → IsWellFormed x → RunsAlike x y
-        → (o : RunOptions) (choices : List Choice) (es : List Entry) → hist x o choices ≡ Ok es
+        → (o : RunOptions) (es : List Entry) → IsLegal x o es
         → report x o es ≡ report y o es }
 {}

@@ -1,32 +1,44 @@
 //! Laws of histories of well-formed programs. Each is what the contract of an empty function says.
 
-ghost use Rattle.std.specs.Prelude.{◌≡◌, List, All, Ok};
+ghost use Rattle.std.specs.Prelude.{◌≡◌, ℕ, List, All};
 ghost use Rattle.loft_base.specs.declared.ids.SchedId.{SchedId};
+ghost use Rattle.loft_tree.specs.declared.heads.Place.TheVariants.{Unlinked};
 ghost use Rattle.loft_tree.specs.NamedFits.{IsScheduler};
 ghost use Rattle.loft_sense.specs.declared.entry.Entry.{Entry};
 ghost use Rattle.loft_sense.specs.declared.limits.RunOptions.{RunOptions};
 ghost use Rattle.loft_sense.specs.Machine.{Prog, heads};
 ghost use Rattle.loft_sense.specs.Fits.{Fits};
-ghost use Rattle.loft_sense.specs.History.{Choice, hist, waiting, replayed};
+ghost use Rattle.loft_sense.specs.History.{waiting, jobs, left_of, unsent, replayed};
+ghost use Rattle.loft_sense.specs.Legal.{IsLegal};
 ghost use Rattle.loft_stand.specs.WellFormed.{IsWellFormed};
-ghost use Rattle.loft_stand.specs.Machines.{MachFits, SentFits};
+ghost use Rattle.loft_stand.specs.Machines.{ThreadFits, MachFits, SentFits};
 
-/// In each history of a well-formed program, of any number of schedulers, what waits for a
-/// scheduler fits there, and the threads of each scheduler stand where it links them. Each order
-/// that it has sent fits at each scheduler to which it is addressed, and each thread that it has
-/// sent to the workers stands unlinked. So whoever makes instants may hand on what they send
-/// without asking. The rules of histories stand in `docs/SEMANTICS.md`, "History", those of orders
-/// under "Fits".
+/// In each legal history of a well-formed program, of any number of schedulers, with workers, clients
+/// and callers, what waits for a scheduler fits there, and the threads of each scheduler stand where
+/// it links them. Each order that it has sent fits at each scheduler to which it is addressed, and
+/// each thread that it has sent to the workers stands unlinked. So it is with what a worker has still
+/// to post, and with what a client of the source has still to give. So whoever makes entries may hand
+/// on what they send without asking. The rules of histories stand in `docs/SEMANTICS.md`, "History"
+/// and "Legal", those of orders under "Fits".
 pub fn waiting_orders_fit()
     ensures waiting { (x : Prog) → IsWellFormed x
-        → (o : RunOptions) (choices : List Choice) (es : List Entry) → hist x o choices ≡ Ok es
+        → (o : RunOptions) (es : List Entry) → IsLegal x o es
         → (s : SchedId) → All (Fits x s) (waiting (heads x) s es) }
     ensures machines { (x : Prog) → IsWellFormed x
-        → (o : RunOptions) (choices : List Choice) (es : List Entry) → hist x o choices ≡ Ok es
+        → (o : RunOptions) (es : List Entry) → IsLegal x o es
         → (s : SchedId) → IsScheduler (heads x) s
         → let m = (replayed x o.limits s es).machine in (m.s ≡ s) × MachFits x m }
     ensures sent { (x : Prog) → IsWellFormed x
-        → (o : RunOptions) (choices : List Choice) (es : List Entry) → hist x o choices ≡ Ok es
+        → (o : RunOptions) (es : List Entry) → IsLegal x o es
         → (s : SchedId) → IsScheduler (heads x) s
         → All (λ note. All (SentFits x) note.sent) (replayed x o.limits s es).notes }
+    ensures jobs { (x : Prog) → IsWellFormed x
+        → (o : RunOptions) (es : List Entry) → IsLegal x o es
+        → All (ThreadFits x Unlinked) (jobs es) }
+    ensures posts { (x : Prog) → IsWellFormed x
+        → (o : RunOptions) (es : List Entry) → IsLegal x o es
+        → (w : ℕ) → All (SentFits x) (left_of x o w es) }
+    ensures clients { (x : Prog) → IsWellFormed x
+        → (o : RunOptions) (es : List Entry) → IsLegal x o es
+        → (c : ℕ) → All (SentFits x) (unsent (heads x) c es) }
 {}

@@ -32,6 +32,7 @@ ghost use Rattle.loft_sense.specs.Stands.{Pauses, StopAt, stop_of, FrameStands, 
 ghost use Rattle.loft_sense.specs.Fits.{IsThread, ThreadNames, Fits};
 ghost use Rattle.loft_sense.specs.Instant.{instant};
 ghost use Rattle.loft_sense.specs.Async.{async};
+ghost use Rattle.loft_sense.specs.Clients.{outside_of};
 ghost use Rattle.loft_sense.specs.History.{starts_from, orders_to};
 ghost use Rattle.loft_stand.specs.WellFormed.{IsWellFormed, PointOf, control};
 ghost use Rattle.loft_stand.specs.Numbered.{IsNumbered};
@@ -114,8 +115,8 @@ pub fn well_formed_programs_never_stick()
 /// An instant on a machine whose threads stand, with a batch whose orders fit, leaves a machine
 /// whose threads stand. Each order that it sends fits at each scheduler to which it is addressed,
 /// and each thread that it sends to the workers stands unlinked; so it is with all that such a
-/// thread sends. A scheduler that has made no instant is such a machine, and the orders of the
-/// starts fit.
+/// thread sends, and with the orders of each client of the source. A scheduler that has made no
+/// instant is such a machine, and the orders of the starts fit.
 pub fn instants_keep_standing()
     ensures begins { (x : Prog) (s : SchedId) → IsScheduler (heads x) s → MachFits x (empty x s) }
     ensures starts { (x : Prog) → IsWellFormed x
@@ -131,5 +132,8 @@ pub fn instants_keep_standing()
     ensures unlinked { (x : Prog) → IsWellFormed x
         → (t : Thread) (block : ℕ) → ThreadFits x Unlinked t
         → let sent = async x t block in
+        All (SentFits x) sent × ((s : SchedId) → All (Fits x s) (orders_to s sent)) }
+    ensures clients { (x : Prog) → IsWellFormed x
+        → (c : ℕ) → let sent = outside_of (heads x) c in
         All (SentFits x) sent × ((s : SchedId) → All (Fits x s) (orders_to s sent)) }
 {}

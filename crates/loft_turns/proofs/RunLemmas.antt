@@ -13,7 +13,7 @@ use Rattle.loft_sense.specs.declared.limits.Limits.{Limits}
 use Rattle.loft_sense.specs.declared.limits.RunOptions.{RunOptions}
 use Rattle.loft_sense.specs.Machine.{Prog, heads, Mach, empty}
 use Rattle.loft_sense.specs.Instant.{Replayed, one_more, replay, instant}
-use Rattle.loft_sense.specs.History.{Choice, TakeBy, GiveBy, choice_of, log, in_instant, is_open, orders_to, starts_of, replayed, has_turn, sent_last, entry_of, with_entry, hist_on, hist, has_finished}
+use Rattle.loft_sense.specs.History.{Choice, TakeBy, GiveBy, choice_of, log, in_instant, is_open, orders_to, starts_of, jobs, left_after, replayed, has_turn, sent_last, entry_of, with_entry, hist_on, hist, has_finished}
 use Rattle.loft_sense.proofs.HistoryLemmas.{same_self, same_id, take_allowed, give_allowed, log-append, in_instant-append, replay_on-append, sent_last-append}
 use Rattle.loft_sense.specs.declared.turn.Finished.{Finished}
 use Rattle.loft_sense.specs.declared.turn.SchedulerTurn.{SchedulerTurn}
@@ -125,16 +125,26 @@ one_turn x o s ts m orders note next run declared turn is_note is_next =
 finished : {was turn : Bool} → was ≡ false → turn ≡ false → not was && not turn ≡ true
 finished w t = rw (w, t) refl
 
--- a run without a further turn is whole
+-- no worker has picked anything in these turns
+left-entries_of : (x : Prog) (o : RunOptions) (w : ℕ) (s : SchedId) (left : List Sent) (ts : List SchedulerTurn) → left_after x o w left (entries_of s ts) ≡ left
+left-entries_of x o w s left [] = refl
+left-entries_of x o w s left (t ∷ ts) = left-entries_of x o w s left ts
+
+-- a run without a further turn is whole, where no client sends and no thread waits for a worker
 pub whole : (x : Prog) (o : RunOptions) (s : SchedId) (run : Finished) (m : Mach) (orders : List Order) → HasRun x o s run.turns.items m orders
-    → s.0 ≡ 0 → length (heads x).schedulers ≡ 1 → has_turn x o.limits m orders ≡ false
+    → s.0 ≡ 0 → length (heads x).schedulers ≡ 1 → length (heads x).clients ≡ 0 → jobs (entries_of s run.turns.items) ≡ [] → has_turn x o.limits m orders ≡ false
     → run.last.linked ≡ m.linked → run.last.shared ≡ m.shared → run.left ≡ orders → IsWholeRun x o s run
-whole x o s run m orders made first only turn linked shared left =
+whole x o s run m orders made first only no_clients no_jobs turn linked shared left =
     let es = entries_of s run.turns.items in
     record {
       history = made.history;
-      ended = λ q declared. subst (λ (r : SchedId). IsTrue (has_finished x o es r)) (same_id s q (omega arith))
-          (finished (is_open-entries_of s run.turns.items) (ap (λ (w : List Order). has_turn x o.limits (replayed x o.limits s es).machine w) made.left ∙ (ap (λ (r : Replayed). has_turn x o.limits r.machine orders) made.machine ∙ turn)));
+      ended = record {
+        clients = λ c declared. absurd (omega (arith, no_clients, declared));
+        no_jobs = no_jobs;
+        workers = λ w declared. left-entries_of x o w s [] run.turns.items;
+        schedulers = λ q declared. subst (λ (r : SchedId). IsTrue (has_finished x o es r)) (same_id s q (omega arith))
+            (finished (is_open-entries_of s run.turns.items) (ap (λ (w : List Order). has_turn x o.limits (replayed x o.limits s es).machine w) made.left ∙ (ap (λ (r : Replayed). has_turn x o.limits r.machine orders) made.machine ∙ turn)));
+      };
       notes = ap (λ (r : Replayed). r.notes) made.machine;
       linked = ap (λ (r : Replayed). r.machine.linked) made.machine ∙ sym linked;
       shared = ap (λ (r : Replayed). r.machine.shared) made.machine ∙ sym shared;

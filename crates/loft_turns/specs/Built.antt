@@ -16,9 +16,10 @@ abbrev mutual
   body_has_unlink Done = false
   body_has_unlink (Then first rest) = has_unlink first || body_has_unlink rest
 
+-- one of the modules has an `unlink`
+abbrev pub unlinks : NamedProgram → Bool
+unlinks n = list_any (λ m. body_has_unlink m.body) n.modules
+
 -- one scheduler, no `outside` item, no `unlink`
 abbrev pub is_built : NamedProgram → Bool
-is_built n =
-    (length n.heads.schedulers == 1)
-    && ((length n.heads.clients == 0)
-    && not (list_any (λ m. body_has_unlink m.body) n.modules))
+is_built n = (length n.heads.schedulers == 1) && ((length n.heads.clients == 0) && not (unlinks n))

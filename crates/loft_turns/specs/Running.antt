@@ -1,5 +1,5 @@
 -- What the turns of a program's only scheduler have made (docs/SEMANTICS.md, "History").
-use Rattle.std.specs.Prelude.{◌≡◌, List, map, All, Ok}
+use Rattle.std.specs.Prelude.{◌≡◌, List, [], map, All, Ok}
 use Rattle.loft_base.specs.declared.ids.SchedId.{SchedId}
 use Rattle.loft_sense.specs.declared.order.Order.{Order}
 use Rattle.loft_sense.specs.declared.limits.RunOptions.{RunOptions}
@@ -9,7 +9,7 @@ use Rattle.loft_sense.specs.declared.turn.SchedulerTurn.{SchedulerTurn}
 use Rattle.loft_sense.specs.declared.turn.Finished.{Finished}
 use Rattle.loft_sense.specs.Machine.{Prog, heads, Mach}
 use Rattle.loft_sense.specs.Fits.{Fits}
-use Rattle.loft_sense.specs.History.{Choice, choice_of, hist, waiting, replayed, HasEnded}
+use Rattle.loft_sense.specs.History.{Choice, choice_of, hist, waiting, jobs, replayed, HasEnded}
 use Rattle.loft_sense.specs.Turns.{entries_of, notes_of}
 
 -- what waits for the scheduler fits there, whatever has happened so far
@@ -17,6 +17,10 @@ abbrev pub AlwaysFits : Prog → Limits → SchedId → Type 0
 AlwaysFits x limits s =
     (o : RunOptions) (choices : List Choice) (es : List Entry) → o.limits ≡ limits → hist x o choices ≡ Ok es
     → All (Fits x s) (waiting (heads x) s es)
+
+-- no thread waits for a worker, whatever has happened so far
+abbrev pub NeverLeaves : Prog → Limits → Type 0
+NeverLeaves x limits = (o : RunOptions) (choices : List Choice) (es : List Entry) → o.limits ≡ limits → hist x o choices ≡ Ok es → jobs es ≡ []
 
 abbrev pub choices_of : SchedId → List SchedulerTurn → List Choice
 choices_of s turns = map choice_of (entries_of s turns)

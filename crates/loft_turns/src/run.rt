@@ -4,7 +4,7 @@ ghost use Rattle.std.specs.Prelude.{◌≡◌, IfOk, length, false};
 ghost use Rattle.loft_sense.specs.declared.limits.RunOptions.{RunOptions};
 ghost use Rattle.loft_sense.specs.Machine.{empty, heads as heads_of};
 ghost use Rattle.loft_sense.specs.History.{is_addressed, orders_to, starts_of, has_turn as has_turn_on};
-ghost use Rattle.loft_turns.specs.Running.{AlwaysFits, IsWholeRun};
+ghost use Rattle.loft_turns.specs.Running.{AlwaysFits, NeverLeaves, IsWholeRun};
 
 use loft_base::{Gate, Maker, NoMemory, SchedId, Sequence, ThreadId, Turn};
 use loft_sense::{Engine, Finished, Order, Orders, SchedulerTurn, Sent, To};
@@ -68,11 +68,12 @@ fn has_turn<E: Engine>(engine: &E, orders: &Orders) -> bool
     !engine.spent() && !(engine.resting() && orders.is_empty())
 }
 
-/// All turns of the only scheduler of a program (docs/SEMANTICS.md, "History"): each takes the
-/// orders that wait, passes the gate and makes an instant, and what that sends to this scheduler
-/// waits for the next. None is made where the bounds are used up, nor where the scheduler rests and
-/// nothing waits. Of a run's options the engine's limits alone count. `NoMemory` comes where an
-/// allocation fails, of this call or of the engine.
+/// All turns of the only scheduler of a program without clients, of which no thread ever waits for a
+/// worker (docs/SEMANTICS.md, "History"): each takes the orders that wait, passes the gate and makes
+/// an instant, and what that sends to this scheduler waits for the next. None is made where the
+/// bounds are used up, nor where the scheduler rests and nothing waits. Of a run's options the
+/// engine's limits alone count. `NoMemory` comes where an allocation fails, of this call or of the
+/// engine.
 pub fn run_alone<R: Threads + Wait + Sync, E: Engine, G: Gate>(
     rt: &R,
     alloc: Global,
@@ -85,7 +86,9 @@ pub fn run_alone<R: Threads + Wait + Sync, E: Engine, G: Gate>(
     requires works { E.has_failed engine ≡ false }
     requires scheduler { E.scheduler engine ≡ scheduler }
     requires only { (scheduler.0 ≡ 0) × (length heads.now.schedulers ≡ 1) }
+    requires clients { length heads.now.clients ≡ 0 }
     requires heads { heads.now ≡ heads_of (E.program engine) }
+    requires linked { NeverLeaves (E.program engine) (E.limits engine) }
     requires fits { AlwaysFits (E.program engine) (E.limits engine) scheduler }
     ensures { IfOk result (λ run. (o : RunOptions) → o.limits ≡ E.limits engine
         → IsWholeRun (E.program engine) o scheduler run) }

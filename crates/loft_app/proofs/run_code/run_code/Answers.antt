@@ -9,7 +9,7 @@ use Rattle.loft_sense.specs.Machine.{Prog, Code, heads}
 use Rattle.loft_stand.specs.WellFormed.{IsValidCode}
 use Rattle.loft_engine.specs.CodeEngine.{limits_of}
 use Rattle.loft_log.specs.RunReport.{run_report}
-use Rattle.loft_turns.specs.Running.{AlwaysFits, IsWholeRun}
+use Rattle.loft_turns.specs.Running.{AlwaysFits, NeverLeaves, IsWholeRun}
 use Rattle.loft_app.specs.Promise.{IsReport}
 use Rattle.loft_app.specs.Alone.{options_of}
 use Rattle.loft_app.proofs.Reported.{only, whole_report}
@@ -20,7 +20,13 @@ pub run_alone-requires-clause-fits : goal.run_alone-requires-clause-fits
 run_alone-requires-clause-fits g c κs within =
     let well : IsValidCode (automata_of c.args.c.now) = record { limits = c.program.ensures.fits; valid = c.program.ensures.valid } in
     subst (λ (x : Prog). AlwaysFits x (limits_of c.in_ok-engine.engine) only) (sym c.in_ok-engine.ensures.program)
-    (λ o choices es same made. c.waiting_orders_fit.ensures.waiting (Code (automata_of c.args.c.now)) well o choices es made only)
+    (λ o choices es same made.
+    c.waiting_orders_fit.ensures.waiting (Code (automata_of c.args.c.now)) well o es (c.made_histories_are_legal.ensures.legal (Code (automata_of c.args.c.now)) o choices es made) only)
+
+pub run_alone-requires-clause-linked : goal.run_alone-requires-clause-linked
+run_alone-requires-clause-linked g c κs within =
+    subst (λ (x : Prog). NeverLeaves x (limits_of c.in_ok-engine.engine)) (sym c.in_ok-engine.ensures.program)
+    (subst (λ (l : Limits). NeverLeaves (Code (automata_of c.args.c.now)) l) (sym c.in_ok-engine.ensures.limits) c.requires.linked)
 
 -- the report of the run
 written : (x y : Prog) (h : Heads) (limits : Limits) (o : RunOptions) (run : Finished) → length (heads x).schedulers ≡ 1 → h ≡ heads x

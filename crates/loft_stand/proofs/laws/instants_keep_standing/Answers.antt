@@ -1,5 +1,5 @@
 use Rattle.loft_stand.proofs.OrderLemmas.{starts_fit}
-use Rattle.loft_stand.proofs.InstantLemmas.{empty_fits, machine_fits, sent_fits, unlinked_fits}
+use Rattle.loft_stand.proofs.InstantLemmas.{empty_fits, machine_fits, sent_fits, unlinked_fits, outside_all_fit}
 use Rattle.loft_stand.proofs.laws.instants_keep_standing.Goals as goal
 
 pub returns-clause-begins : goal.returns-clause-begins
@@ -16,3 +16,6 @@ returns-clause-sent c = sent_fits
 
 pub returns-clause-unlinked : goal.returns-clause-unlinked
 returns-clause-unlinked c = unlinked_fits
+
+pub returns-clause-clients : goal.returns-clause-clients
+returns-clause-clients c = outside_all_fit

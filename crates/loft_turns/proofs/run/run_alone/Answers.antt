@@ -91,8 +91,12 @@ returns g c =
     let turn : has_turn x l m orders ≡ false =
     ap (λ (q : Limits). has_turn x q m orders) (sym before.same_limits)
     ∙ (ap (λ (q : Prog). has_turn q (e.limits c.turns.engine) m orders) (sym before.same_program) ∙ (sym c.has_turn.ensures ∙ c.turns-test.false)) in
+    let s = c.args.scheduler in
     λ o same.
-    whole x o c.args.scheduler _ m orders (before.run o same) c.requires.only.0
+    let run : HasRun x o s c.turns.turns.items m orders = before.run o same in
+    whole x o s _ m orders run c.requires.only.0
     (ap (λ (h : Heads). length h.schedulers) (sym c.requires.heads) ∙ c.requires.only.1)
+    (ap (λ (h : Heads). length h.clients) (sym c.requires.heads) ∙ c.requires.clients)
+    (c.requires.linked o (choices_of s c.turns.turns.items) (entries_of s c.turns.turns.items) same run.history)
     (ap (λ (q : Limits). has_turn x q m orders) same ∙ turn)
     c.in_ok-last.ensures.linked c.in_ok-last.ensures.shared refl
