@@ -19,9 +19,7 @@ use loft_names::resolve;
 use loft_parse::parse;
 use loft_place::{Placed, place};
 use loft_plain::PlainEngine;
-use loft_sense::{
-    Engine, Limits, MAX_BUDGET, MAX_INSTANTS, RunOptions, made_histories_are_legal,
-};
+use loft_sense::{Engine, Limits, MAX_BUDGET, MAX_INSTANTS, RunOptions, made_histories_are_legal};
 use loft_stand::waiting_orders_fit;
 use loft_tree::Heads;
 use loft_turns::{is_built, programs_without_unlink_stay_linked, run_alone};
@@ -72,7 +70,15 @@ fn report_by<R: Threads + Wait + Sync + AllocGlobal, E: Engine>(
     let options = RunOptions { limits, workers: 2 };
     let mut sink = MemSink::new(rt.alloc(), 4096)?;
     let run = run_alone(rt, rt.alloc(), heads, engine, scheduler, &OpenGate)?;
-    write_report(rt.alloc(), heads, &options, scheduler, &run, &mut sink)?;
+    write_report(
+        rt.alloc(),
+        heads,
+        &options,
+        &run.world,
+        &run.notes,
+        &run.finals,
+        &mut sink,
+    )?;
     Ok(sink)
 }
 

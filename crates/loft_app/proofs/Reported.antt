@@ -1,5 +1,5 @@
 -- From the turns of a run to the promise of its report.
-use Rattle.std.proofs.Common.{◌≡◌, ℕ, ◌==◌, true, List, [], ◌∷◌, ◌++◌, length, Ok, refl, sym, ◌∙◌, ap, subst, append_assoc}
+use Rattle.std.proofs.Common.{◌≡◌, ℕ, ◌==◌, true, List, [], ◌∷◌, ◌++◌, length, map, refl, sym, ◌∙◌, ap, subst, append_assoc}
 use Rattle.std.specs.Prelude.{◌↔◌}
 use Rattle.std.proofs.lemmas.Bool.{and_parts, eqb-true}
 use Rattle.loft_base.specs.declared.ids.SchedId.{SchedId}
@@ -8,18 +8,19 @@ use Rattle.loft_tree.specs.NamedTree.{NamedProgram}
 use Rattle.loft_sense.specs.declared.entry.Entry.{Entry}
 use Rattle.loft_sense.specs.declared.limits.Limits.{Limits}
 use Rattle.loft_sense.specs.declared.limits.RunOptions.{RunOptions}
-use Rattle.loft_sense.specs.declared.turn.Finished.{Finished}
+use Rattle.loft_sense.specs.declared.note.FinalState.{FinalState}
+use Rattle.loft_sense.specs.declared.note.InstantNote.{InstantNote}
 use Rattle.loft_sense.specs.Machine.{Prog, heads}
-use Rattle.loft_sense.specs.History.{Choice, hist, HasEnded}
+use Rattle.loft_sense.specs.History.{Choice, choice_of, hist, HasEnded}
 use Rattle.loft_sense.specs.Legal.{IsLegal}
-use Rattle.loft_sense.specs.Turns.{entries_of}
 use Rattle.loft_sense.specs.Lines.{text_of}
 use Rattle.loft_sense.specs.Report.{head_lines, report}
 use Rattle.loft_sense.proofs.LegalLemmas.{made_is_legal}
-use Rattle.loft_turns.specs.Running.{choices_of, IsWholeRun}
+use Rattle.loft_world.specs.declared.results.Finished.{Finished}
+use Rattle.loft_world.specs.Replay.{IsReplayOf}
+use Rattle.loft_turns.specs.Running.{IsWholeRun}
 use Rattle.loft_turns.specs.Built.{is_built}
-use Rattle.loft_log.specs.RunReport.{run_report}
-use Rattle.loft_log.proofs.RunReports.{report-run}
+use Rattle.loft_log.specs.WorldReport.{world_report}
 use Rattle.loft_app.specs.Promise.{BeginsWith, IsReport}
 use Rattle.loft_app.specs.Alone.{RunsAlone}
 
@@ -27,16 +28,24 @@ text_of-append : (xs ys : List (List ℕ)) → text_of (xs ++ ys) ≡ text_of xs
 text_of-append [] ys = refl
 text_of-append (x ∷ xs) ys = ap (λ (t : List ℕ). (x ++ 10 ∷ []) ++ t) (text_of-append xs ys) ∙ sym (append_assoc (x ++ 10 ∷ []) (text_of xs) (text_of ys))
 
+-- what is written of a history, and of the notes and last states of its replay, is the report of that history
+abbrev pub IsTold : Type 0
+IsTold = (x : Prog) (o : RunOptions) (es : List Entry) (notes : List (List InstantNote)) (finals : List FinalState) → IsReplayOf x o.limits es notes finals
+    → world_report (heads x) o es notes finals ≡ report x o es
+
+-- what is written of a whole run
+abbrev pub text_of_run : Heads → RunOptions → Finished → List ℕ
+text_of_run h o run = world_report h o run.world.history run.notes.of run.finals.of
+
 -- the report of a whole run keeps the promise
-promised : (x : Prog) (o : RunOptions) (s : SchedId) (run : Finished) → length (heads x).schedulers ≡ 1 → s.0 ≡ 0
-    → IsWholeRun x o s run → IsReport x o (run_report (heads x) o s run)
-promised x o s run one zero whole = record {
-  choices = choices_of s run.turns.items;
-  history = entries_of s run.turns.items;
-  named = (_, text_of-append (head_lines (heads x) o (choices_of s run.turns.items)) _);
+promised : (x : Prog) (o : RunOptions) (run : Finished) → IsTold → IsWholeRun x o run → IsReport x o (text_of_run (heads x) o run)
+promised x o run told whole = record {
+  choices = map choice_of run.world.history;
+  history = run.world.history;
+  named = (_, text_of-append (head_lines (heads x) o (map choice_of run.world.history)) _);
   made = whole.history;
-  legal = made_is_legal x o (choices_of s run.turns.items) (entries_of s run.turns.items) whole.history;
-  whole = sym (report-run x o s run one zero whole.notes whole.linked whole.shared whole.left);
+  legal = made_is_legal x o (map choice_of run.world.history) run.world.history whole.history;
+  whole = told x o run.world.history run.notes.of run.finals.of whole.replay;
   ended = whole.ended;
 }
 
@@ -52,12 +61,18 @@ built_alone n built =
       clients = eqb-true (length n.heads.clients) 0 (and_parts (length n.heads.clients == 0) _ parts.1).0;
     }
 
--- the report of a whole run of a program of one scheduler
-pub whole_report : (x y : Prog) (limits : Limits) (o : RunOptions) (run : Finished) → length (heads x).schedulers ≡ 1
-    → y ≡ x → limits ≡ o.limits → ((q : RunOptions) → q.limits ≡ limits → IsWholeRun y q only run)
-    → IsReport x o (run_report (heads x) o only run)
-whole_report x y limits o run one same bounds made =
-    promised x o only run one refl (subst (λ (q : Prog). IsWholeRun q o only run) same (made o (sym bounds)))
+-- what was run is x, within these bounds
+abbrev pub IsRunOf : Prog → RunOptions → Prog → Limits → Finished → Type 0
+IsRunOf x o y limits run = (y ≡ x) × (limits ≡ o.limits) × ((q : RunOptions) → q.limits ≡ limits → IsWholeRun y q run)
+
+pub whole_run : (x : Prog) (o : RunOptions) (y : Prog) (limits : Limits) (run : Finished) → IsRunOf x o y limits run → IsWholeRun x o run
+whole_run x o y limits run is = subst (λ (q : Prog). IsWholeRun q o run) is.0 (is.2 o (sym is.1))
+
+-- what is written of it is a report of x, where these are its heads
+pub written_report : (x : Prog) (o : RunOptions) (y : Prog) (limits : Limits) (run : Finished) (h : Heads) → IsTold → h ≡ heads x → IsRunOf x o y limits run
+    → IsReport x o (text_of_run h o run)
+written_report x o y limits run h told declared is =
+    subst (λ (q : Heads). IsReport x o (text_of_run q o run)) (sym declared) (promised x o run told (whole_run x o y limits run is))
 
 -- nothing that is told of a run tells whether x or y was run
 pub record ToldAlike (x y : Prog) : Type 0 where

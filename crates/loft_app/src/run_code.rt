@@ -13,7 +13,7 @@ ghost use Rattle.loft_app.specs.Alone.{RunsAlone, options_of};
 use loft_base::{Gate, NoMemory, SchedId, Sink, WriteError};
 use loft_code::Code;
 use loft_engine::CodeEngine;
-use loft_log::write_report;
+use loft_log::{reports_of_worlds_are_of_histories, write_report};
 use loft_sense::{Limits, RunOptions, made_histories_are_legal};
 use loft_stand::waiting_orders_fit;
 use loft_turns::run_alone;
@@ -56,8 +56,9 @@ impl From<WriteError> for RunError {
 }
 
 /// Runs valid code of one scheduler without clients, of which no thread ever waits for a worker,
-/// within these limits, 1 to `MAX_WORKERS` workers, and writes the report (docs/REPORT.md). `Sink` comes where the sink failed, and `NoMemory` where an allocation
-/// fails; then a prefix of a report was written.
+/// within these limits and with 1 to `MAX_WORKERS` workers, and writes the report (docs/REPORT.md).
+/// `Sink` comes where the sink failed, and `NoMemory` where an allocation fails; then a prefix of a
+/// report was written.
 pub fn run_code<R: Threads + Wait + Sync, S: Sink, G: Gate>(
     rt: &R,
     alloc: Global,
@@ -79,11 +80,20 @@ pub fn run_code<R: Threads + Wait + Sync, S: Sink, G: Gate>(
 {
     made_histories_are_legal();
     waiting_orders_fit();
+    reports_of_worlds_are_of_histories();
     let heads = &c.program().heads;
     let scheduler = SchedId(0);
     let options = RunOptions { limits: l, workers };
     let engine = CodeEngine::new(alloc, c, scheduler, l)?;
     let run = run_alone(rt, alloc, heads, engine, scheduler, gate)?;
-    write_report(alloc, heads, &options, scheduler, &run, sink)?;
+    write_report(
+        alloc,
+        heads,
+        &options,
+        &run.world,
+        &run.notes,
+        &run.finals,
+        sink,
+    )?;
     Ok(())
 }

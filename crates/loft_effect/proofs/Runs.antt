@@ -14,7 +14,9 @@ use Rattle.loft_sense.specs.declared.thread.Wait.{Wait}
 use Rattle.loft_sense.specs.Around.{Beside}
 use Rattle.loft_sense.specs.Run.{Control, Active, Outcome, here, begun_frame, run_on, ends}
 use Rattle.loft_effect.specs.declared.gone.Gone.{Gone}
-use Rattle.loft_effect.specs.Outcomes.{gone_of}
+use Rattle.loft_effect.specs.declared.around.Around.{Around as AroundInMemory}
+use Rattle.loft_effect.specs.declared.gone.Outcome.{Outcome as OutcomeInMemory}
+use Rattle.loft_effect.specs.Outcomes.{gone_of, outcome_with}
 
 -- ---- outcomes
 
@@ -26,6 +28,14 @@ gone_as r x y e h = subst (λ (z : Outcome). IfOk r (λ g. gone_of g ≡ z)) e h
 pub gone_as_all : {P : Type 0} (r : Result Gone NoMemory) (x : P → Outcome) (y : Outcome) (p : P) → x p ≡ y → IfOk r (λ g. (q : P) → gone_of g ≡ x q) → IfOk r (λ g. gone_of g ≡ y)
 gone_as_all (Ok g) x y p e h = h p ∙ e
 gone_as_all (Err out) x y p e h = h
+
+-- the same of what a run leaves, apart
+pub outcome_as : (r : Result OutcomeInMemory NoMemory) (a : AroundInMemory) (x y : Outcome) → x ≡ y → IfOk r (λ o. outcome_with o a ≡ x) → IfOk r (λ o. outcome_with o a ≡ y)
+outcome_as r a x y e h = subst (λ (z : Outcome). IfOk r (λ o. outcome_with o a ≡ z)) e h
+
+pub outcome_as_all : {P : Type 0} (r : Result OutcomeInMemory NoMemory) (a : AroundInMemory) (x : P → Outcome) (y : Outcome) (p : P) → x p ≡ y → IfOk r (λ o. (q : P) → outcome_with o a ≡ x q) → IfOk r (λ o. outcome_with o a ≡ y)
+outcome_as_all (Ok o) a x y p e h = h p ∙ e
+outcome_as_all (Err out) a x y p e h = h
 
 abbrev pub thread_with : ThreadId → ℤ → ℤ → Wait → List Frame → Thread
 thread_with id code mask wait frames = record { id = id; code = code; mask = mask; wait = wait; frames = frames }

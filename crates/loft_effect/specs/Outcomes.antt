@@ -5,19 +5,20 @@ use Rattle.loft_sense.specs.declared.order.Stop.TheVariants.{Holds, Leaves, Ends
 use Rattle.loft_sense.specs.declared.thread.Thread.{Thread}
 use Rattle.loft_sense.specs.Around.{Around}
 use Rattle.loft_sense.specs.Run.{Outcome, Held, Left, Ended}
+use Rattle.loft_effect.specs.declared.around.Around.{Around as AroundInMemory}
 use Rattle.loft_effect.specs.declared.gone.Gone.{Gone}
 use Rattle.loft_effect.specs.declared.gone.Outcome.{Outcome as OutcomeInMemory}
 use Rattle.loft_effect.specs.declared.gone.Outcome.TheVariants as outcome
 use Rattle.loft_effect.specs.View.{around_of, steps_left}
 
--- the outcome of a run, with what it leaves
-abbrev pub outcome_with : OutcomeInMemory → Gone → Outcome
-outcome_with (outcome.Held t) g = Held t (around_of g.around) (steps_left g.around)
-outcome_with (outcome.Left t to) g = Left t to (around_of g.around) (steps_left g.around)
-outcome_with (outcome.Ended end) g = Ended end (around_of g.around) (steps_left g.around)
+-- the outcome of a run that leaves this around it
+abbrev pub outcome_with : OutcomeInMemory → AroundInMemory → Outcome
+outcome_with (outcome.Held t) a = Held t (around_of a) (steps_left a)
+outcome_with (outcome.Left t to) a = Left t to (around_of a) (steps_left a)
+outcome_with (outcome.Ended end) a = Ended end (around_of a) (steps_left a)
 
 abbrev pub gone_of : Gone → Outcome
-gone_of g = outcome_with g.outcome g
+gone_of g = outcome_with g.outcome g.around
 
 -- how a run ends that stops so, with the thread and what stands around it as it leaves them, and the steps that are left
 abbrev pub outcome_of : Stop → Thread → Around → ℕ → Outcome

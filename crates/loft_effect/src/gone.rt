@@ -21,6 +21,30 @@ pub struct Gone {
     pub around: Around,
 }
 
+impl Outcome {
+    ghost use Rattle.loft_effect.specs.declared.around.Around.{Around as AroundInMemory};
+    ghost use Rattle.loft_effect.specs.View.{around_of, steps_left};
+    ghost use Rattle.loft_effect.specs.Outcomes.{outcome_of, outcome_with};
+
+    /// How the run stops, with the thread put where it belongs, if it goes on later.
+    pub fn put(self, thread: &mut Thread) -> Stop
+        ensures { (around : AroundInMemory)
+            → outcome_of result thread.new (around_of around) (steps_left around) ≡ outcome_with self around }
+    {
+        match self {
+            Outcome::Held(gone) => {
+                *thread = gone;
+                Stop::Holds
+            }
+            Outcome::Left(gone, to) => {
+                *thread = gone;
+                Stop::Leaves(to)
+            }
+            Outcome::Ended(end) => Stop::Ends(end),
+        }
+    }
+}
+
 impl Gone {
     ghost use Rattle.loft_effect.specs.View.{around_of, steps_left};
     ghost use Rattle.loft_effect.specs.Outcomes.{gone_of, outcome_of};
@@ -32,16 +56,6 @@ impl Gone {
         ensures around { around.new ≡ self.around }
     {
         *around = self.around;
-        match self.outcome {
-            Outcome::Held(gone) => {
-                *thread = gone;
-                Stop::Holds
-            }
-            Outcome::Left(gone, to) => {
-                *thread = gone;
-                Stop::Leaves(to)
-            }
-            Outcome::Ended(end) => Stop::Ends(end),
-        }
+        self.outcome.put(thread)
     }
 }

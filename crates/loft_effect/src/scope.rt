@@ -1,6 +1,6 @@
 //! A frame that runs, and what stands beside the frames of its thread (docs/SEMANTICS.md, "Expressions").
 
-ghost use Rattle.std.specs.Prelude.{◌≡◌, ℕ, ◌<◌, OnOk, IfOk};
+ghost use Rattle.std.specs.Prelude.{◌≡◌, ℕ, ◌<◌, OnOk};
 ghost use Rattle.loft_tree.specs.NamedView.{term_of, value_of};
 ghost use Rattle.loft_tree.specs.Resolved.{exp_of, exp_if, target_of};
 ghost use Rattle.loft_sense.specs.Eval.{eval, eval_if, number_if as number_of_if};
@@ -68,15 +68,14 @@ impl Beside {
     }
 
     /// The thread ends, and is known as ended.
-    pub fn end(self, end: End) -> Result<Around, NoMemory>
-        ensures ended { IfOk result (λ around. (left : ℕ) → Ended end (around_of around) left ≡ ends end (beside_of self) left) }
-        ensures pace { IfOk result (λ around. pace_of around ≡ pace_of self.around) }
+    pub fn end(&mut self, end: End) -> Result<(), NoMemory>
+        ensures ended { OnOk result ((left : ℕ)
+            → Ended end (around_of self.new.around) left ≡ ends end (beside_of self.old) left) }
+        ensures pace { OnOk result (pace_of self.new.around ≡ pace_of self.old.around) }
     {
         let thread = self.id;
-        let mut around = self.around;
-        around.known.push(thread)?;
-        around.push(Act::End { thread, end })?;
-        Ok(around)
+        self.around.known.push(thread)?;
+        self.around.push(Act::End { thread, end })
     }
 }
 

@@ -1,3 +1,3 @@
 pub mod LineLemmas
 pub mod ReportLemmas
-pub mod RunReports
+pub mod Reports

@@ -1,11 +1,11 @@
 -- The parts of a report, one after the other.
-use Rattle.std.proofs.Common.{◌≡◌, ℕ, ◌+◌, ◌==◌, ◌<◌, Bool, true, false, List, [], ◌∷◌, ◌++◌, length, drop, get_or, min, ◌≤◌, ◌*◌, map, refl, ap, ◌∙◌, if◌then◌else◌, codes, arith, length-drop, ℤ, FitsSigned, w64, to_z, of_z, eq-eqb}
+use Rattle.std.proofs.Common.{◌≡◌, ℕ, ◌+◌, ◌-◌, ◌==◌, ◌<◌, Bool, true, false, List, [], ◌∷◌, ◌++◌, length, drop, get_or, min, ◌≤◌, map, Some, slice_get, sym, length-append, refl, ap, ◌∙◌, if◌then◌else◌, codes, arith, length-drop, ℤ, FitsSigned, w64, to_z, of_z, eq-eqb}
 use Rattle.std.specs.Fmt.{signed_decimal}
 use Rattle.std.proofs.lemmas.Grind.{common_steps}
 use Rattle.std.proofs.lemmas.Bool.{ne_eqb}
 use Rattle.std.proofs.lemmas.Int.{to_z-of_z}
-use Rattle.std.proofs.lemmas.List.{drop_all}
-use Rattle.std.proofs.lemmas.Option.{slice_get_read}
+use Rattle.std.proofs.lemmas.List.{drop_all, length-map}
+use Rattle.std.proofs.lemmas.Option.{slice_get_read, slice_get_within, get_or_from_slice_get}
 use Rattle.loft_base.specs.declared.ids.SchedId.{SchedId}
 use Rattle.loft_base.specs.declared.ids.SharedId.{SharedId}
 use Rattle.loft_tree.specs.declared.heads.SharedHead.{SharedHead}
@@ -15,12 +15,16 @@ use Rattle.loft_sense.specs.declared.order.Mark.{Mark}
 use Rattle.loft_sense.specs.declared.order.Sent.{Sent}
 use Rattle.loft_sense.specs.declared.note.Ended.{Ended}
 use Rattle.loft_sense.specs.Heads.{shared_from}
-use Rattle.loft_sense.specs.History.{choice_of}
-use Rattle.loft_sense.specs.Text.{space, scheduler_name, name_of_shared, order_text}
+use Rattle.loft_sense.specs.History.{choice_of, log, waiting}
+use Rattle.loft_sense.specs.Text.{space, name_of_shared, order_text}
 use Rattle.loft_sense.specs.Lines.{text_of, end_line, mark_word, ends_at, batch_lines, leave_line, leave_lines, instant_lines}
-use Rattle.loft_sense.specs.Report.{choice_line, instants_lines, shared_lines}
-use Rattle.loft_sense.specs.declared.turn.SchedulerTurn.{SchedulerTurn}
-use Rattle.loft_sense.specs.Turns.{entries_of, batches_of, notes_of}
+use Rattle.loft_sense.specs.Report.{choice_line, instants_lines, shared_lines, left_line, schedulers_from}
+use Rattle.loft_sense.specs.declared.entry.Entry.{Entry}
+use Rattle.loft_sense.specs.declared.note.FinalState.{FinalState}
+use Rattle.loft_sense.specs.declared.note.InstantNote.{InstantNote}
+use Rattle.loft_sense.proofs.HistoryLemmas.{log-append}
+use Rattle.loft_world.specs.State.{scheduler}
+use Rattle.loft_log.specs.WorldReport.{world_block, world_blocks, left_of_each}
 use Rattle.loft_log.proofs.LineLemmas.{text_of-append, drop-at}
 
 ends_at-by : (h : Heads) (k : ℕ) (e : Ended) (es : List Ended) (here : Bool) → (if here then end_line h e.thread e.end ∷ ends_at h k es else ends_at h k es) ≡ (if here then end_line h e.thread e.end ∷ [] else []) ++ ends_at h k es
@@ -44,15 +48,108 @@ ends_at-from h k es i d below =
 pub leave_lines-from : (h : Heads) (ms : List Sent) (i : ℕ) (m : Sent) → i < length ms → m ≡ get_or ms i m → text_of (leave_lines h (drop i ms)) ≡ text_of (leave_line h m.to m.order) ++ text_of (leave_lines h (drop (i + 1) ms))
 leave_lines-from h ms i m below is = ap (λ xs. text_of (leave_lines h xs)) (drop-at ms i m below is) ∙ text_of-append (leave_line h m.to m.order) (leave_lines h (drop (i + 1) ms))
 
--- what is left of the instants begins with the one at this index
-pub instants-from : (h : Heads) (ts : List SchedulerTurn) (i : ℕ) (t : SchedulerTurn) → i < length ts → t ≡ get_or ts i t → text_of (instants_lines h (batches_of (drop i ts)) (notes_of (drop i ts))) ≡ text_of (instant_lines h t.batch t.note) ++ text_of (instants_lines h (batches_of (drop (i + 1) ts)) (notes_of (drop (i + 1) ts)))
-instants-from h ts i t below is = ap (λ xs. text_of (instants_lines h (batches_of xs) (notes_of xs))) (drop-at ts i t below is) ∙ text_of-append (instant_lines h t.batch t.note) (instants_lines h (batches_of (drop (i + 1) ts)) (notes_of (drop (i + 1) ts)))
+-- what is left of a history begins with the entry that is read at this position, which is counted from 1
+pub entries-from : (es : List Entry) (i : ℕ) (e : Entry) → Some e ≡ slice_get es (i + 1 - 1) → drop i es ≡ e ∷ drop (i + 1) es
+entries-from es i e is =
+    let before : i + 1 - 1 ≡ i = omega arith in
+    let read : slice_get es i ≡ Some e = sym (is ∙ ap (slice_get es) before) in
+    drop-at es i e (slice_get_within es i e read) (sym (get_or_from_slice_get es i e e read))
 
--- what is left of the choices begins with those of the turn at this index
-pub choices-from : (h : Heads) (s : SchedId) (ts : List SchedulerTurn) (i : ℕ) (t : SchedulerTurn) → i < length ts → t ≡ get_or ts i t → text_of (map (choice_line h) (map choice_of (entries_of s (drop i ts)))) ≡ text_of ((codes "take " ++ scheduler_name h s) ∷ (codes "give " ++ scheduler_name h s) ∷ []) ++ text_of (map (choice_line h) (map choice_of (entries_of s (drop (i + 1) ts))))
-choices-from h s ts i t below is =
-    ap (λ xs. text_of (map (choice_line h) (map choice_of (entries_of s xs)))) (drop-at ts i t below is)
-    ∙ text_of-append ((codes "take " ++ scheduler_name h s) ∷ (codes "give " ++ scheduler_name h s) ∷ []) (map (choice_line h) (map choice_of (entries_of s (drop (i + 1) ts))))
+-- what is left of the choices begins with that of the entry at this index
+pub choices-from : (h : Heads) (es : List Entry) (i : ℕ) (e : Entry) → Some e ≡ slice_get es (i + 1 - 1) → text_of (map (choice_line h) (map choice_of (drop i es))) ≡ (choice_line h (choice_of e) ++ 10 ∷ []) ++ text_of (map (choice_line h) (map choice_of (drop (i + 1) es)))
+choices-from h es i e is = ap (λ xs. text_of (map (choice_line h) (map choice_of xs))) (entries-from es i e is)
+
+-- after the last entry no choice is left
+pub choices-end : (h : Heads) (es : List Entry) (i : ℕ) → length es ≤ i → text_of (map (choice_line h) (map choice_of (drop i es))) ≡ []
+choices-end h es i past = ap (λ xs. text_of (map (choice_line h) (map choice_of xs))) (drop_all i es past)
+
+-- what is left of a scheduler's batches, where the entry at this index takes these
+log-from : (s : SchedId) (es : List Entry) (i : ℕ) (e : Entry) (own : List (List Order)) → Some e ≡ slice_get es (i + 1 - 1) → log s (e ∷ []) ≡ own → log s (drop i es) ≡ own ++ log s (drop (i + 1) es)
+log-from s es i e own is takes = ap (log s) (entries-from es i e is) ∙ log-append s (e ∷ []) (drop (i + 1) es) ∙ ap (λ batches. batches ++ log s (drop (i + 1) es)) takes
+
+-- what is left of the instants begins with that of the batch at this index
+pub instants-taken : (h : Heads) (s : SchedId) (es : List Entry) (i : ℕ) (e : Entry) (batch : List Order) (n : InstantNote) (left rest : List InstantNote) → Some e ≡ slice_get es (i + 1 - 1) → log s (e ∷ []) ≡ batch ∷ [] → left ≡ n ∷ rest
+    → text_of (instants_lines h (log s (drop i es)) left) ≡ text_of (instant_lines h batch n) ++ text_of (instants_lines h (log s (drop (i + 1) es)) rest)
+instants-taken h s es i e batch n left rest is takes first =
+    ap (λ batches. text_of (instants_lines h batches left)) (log-from s es i e (batch ∷ []) is takes)
+    ∙ ap (λ notes. text_of (instants_lines h (batch ∷ log s (drop (i + 1) es)) notes)) first
+    ∙ text_of-append (instant_lines h batch n) (instants_lines h (log s (drop (i + 1) es)) rest)
+
+-- an entry that takes no batch of the scheduler has no instant
+pub instants-passed : (h : Heads) (s : SchedId) (es : List Entry) (i : ℕ) (e : Entry) (left : List InstantNote) → Some e ≡ slice_get es (i + 1 - 1) → log s (e ∷ []) ≡ []
+    → text_of (instants_lines h (log s (drop i es)) left) ≡ text_of (instants_lines h (log s (drop (i + 1) es)) left)
+instants-passed h s es i e left is takes = ap (λ batches. text_of (instants_lines h batches left)) (log-from s es i e [] is takes)
+
+no-notes : (h : Heads) (batches : List (List Order)) (notes : List InstantNote) → length notes ≡ 0 → instants_lines h batches notes ≡ []
+no-notes h [] notes none = refl
+no-notes h (b ∷ bs) [] none = refl
+no-notes h (b ∷ bs) (n ∷ ns) none = absurd (omega arith)
+
+-- without a further note nothing is left
+pub instants-spent : (h : Heads) (batches : List (List Order)) (notes : List InstantNote) → length notes ≡ 0 → text_of (instants_lines h batches notes) ≡ []
+instants-spent h batches notes none = ap text_of (no-notes h batches notes none)
+
+-- after the last entry no instant is left
+pub instants-end : (h : Heads) (s : SchedId) (es : List Entry) (i : ℕ) (left : List InstantNote) → length es ≤ i → text_of (instants_lines h (log s (drop i es)) left) ≡ []
+instants-end h s es i left past = ap (λ xs. text_of (instants_lines h (log s xs) left)) (drop_all i es past)
+
+-- the blocks of the schedulers from number k on
+abbrev pub blocks_after : Heads → List Entry → ℕ → List (List InstantNote) → List FinalState → List (List ℕ)
+blocks_after h es k notes finals = world_blocks h es (schedulers_from k (drop k h.schedulers)) (drop k notes) (drop k finals)
+
+blocks-from : (h : Heads) (es : List Entry) (k : ℕ) (notes : List (List InstantNote)) (finals : List FinalState) (n : List InstantNote) (last : FinalState) → k < length h.schedulers → k < length notes → k < length finals → n ≡ get_or notes k n → last ≡ get_or finals k last
+    → text_of (blocks_after h es k notes finals) ≡ text_of (world_block h es (scheduler k) n last) ++ text_of (blocks_after h es (k + 1) notes finals)
+blocks-from h es k notes finals n last declared noted stands is_note is_last =
+    ap (λ names. text_of (world_blocks h es (schedulers_from k names) (drop k notes) (drop k finals))) (drop-at h.schedulers k (get_or h.schedulers k []) declared (same_at h.schedulers k [] (get_or h.schedulers k []) declared))
+    ∙ ap (λ ns. text_of (world_blocks h es (scheduler k ∷ schedulers_from (k + 1) (drop (k + 1) h.schedulers)) ns (drop k finals))) (drop-at notes k n noted is_note)
+    ∙ ap (λ fs. text_of (world_blocks h es (scheduler k ∷ schedulers_from (k + 1) (drop (k + 1) h.schedulers)) (n ∷ drop (k + 1) notes) fs)) (drop-at finals k last stands is_last)
+    ∙ text_of-append (world_block h es (scheduler k) n last) (blocks_after h es (k + 1) notes finals)
+
+-- what is left of the blocks begins with that of the scheduler with this number
+pub blocks-written : (h : Heads) (es : List Entry) (k : ℕ) (notes : List (List InstantNote)) (finals : List FinalState) (s : SchedId) (n found : List InstantNote) (last : FinalState) → k < length h.schedulers → k < length notes → k < length finals → s ≡ scheduler k → n ≡ found → found ≡ get_or notes k found → last ≡ get_or finals k last
+    → text_of (blocks_after h es k notes finals) ≡ text_of (world_block h es s n last) ++ text_of (blocks_after h es (k + 1) notes finals)
+blocks-written h es k notes finals s n found last declared noted stands is_s is_n is_note is_last =
+    let rest = text_of (blocks_after h es (k + 1) notes finals) in
+    blocks-from h es k notes finals found last declared noted stands is_note is_last
+    ∙ (ap (λ t. text_of (world_block h es t found last) ++ rest) (sym is_s)
+    ∙ ap (λ m. text_of (world_block h es s m last) ++ rest) (sym is_n))
+
+blocks-none : (h : Heads) (es : List Entry) (k : ℕ) (names : List (List ℕ)) (notes : List (List InstantNote)) (finals : List FinalState) → min (min (length names) (length notes)) (length finals) ≡ 0 → world_blocks h es (schedulers_from k names) notes finals ≡ []
+blocks-none h es k [] notes finals none = refl
+blocks-none h es k (name ∷ names) [] finals none = refl
+blocks-none h es k (name ∷ names) (n ∷ ns) [] none = refl
+blocks-none h es k (name ∷ names) (n ∷ ns) (last ∷ finals) none = absurd (omega arith)
+
+-- after the last scheduler that has notes and a state nothing is left
+pub blocks-end : (h : Heads) (es : List Entry) (k : ℕ) (notes : List (List InstantNote)) (finals : List FinalState) → min (min (length h.schedulers) (length notes)) (length finals) ≤ k → text_of (blocks_after h es k notes finals) ≡ []
+blocks-end h es k notes finals past = ap text_of (blocks-none h es k (drop k h.schedulers) (drop k notes) (drop k finals) (omega (arith, length-drop k h.schedulers, length-drop k notes, length-drop k finals)))
+
+-- what waits for the schedulers from number k on
+abbrev pub left_after : Heads → List Entry → ℕ → List (List ℕ)
+left_after h es k = left_of_each h es (schedulers_from k (drop k h.schedulers))
+
+left-first : (h : Heads) (es : List Entry) (k : ℕ) → k < length h.schedulers → left_after h es k ≡ map (left_line h (scheduler k)) (waiting h (scheduler k) es) ++ left_after h es (k + 1)
+left-first h es k declared = ap (λ names. left_of_each h es (schedulers_from k names)) (drop-at h.schedulers k (get_or h.schedulers k []) declared (same_at h.schedulers k [] (get_or h.schedulers k []) declared))
+
+-- what is left over begins with what waits for the scheduler with this number
+pub left-from : (h : Heads) (es : List Entry) (k : ℕ) → k < length h.schedulers → text_of (left_after h es k) ≡ text_of (map (left_line h (scheduler k)) (waiting h (scheduler k) es)) ++ text_of (left_after h es (k + 1))
+left-from h es k declared = ap text_of (left-first h es k declared) ∙ text_of-append (map (left_line h (scheduler k)) (waiting h (scheduler k) es)) (left_after h es (k + 1))
+
+-- so many orders are left over from the scheduler with this number on, where so many wait for it
+pub left-counted : (h made : Heads) (es : List Entry) (k : ℕ) (s : SchedId) (n : ℕ) → k < length h.schedulers → made ≡ h → s ≡ scheduler k → n ≡ length (waiting made s es) → length (left_after h es k) ≡ n + length (left_after h es (k + 1))
+left-counted h made es k s n declared same is_s waits =
+    let count : n ≡ length (waiting h (scheduler k) es) = waits ∙ (ap (λ g. length (waiting g s es)) same ∙ ap (λ t. length (waiting h t es)) is_s) in
+    omega (arith, count, ap length (left-first h es k declared), length-append (map (left_line h (scheduler k)) (waiting h (scheduler k) es)) (left_after h es (k + 1)), length-map (waiting h (scheduler k) es) (left_line h (scheduler k)))
+
+left-none : (h : Heads) (es : List Entry) (k : ℕ) → length h.schedulers ≤ k → left_after h es k ≡ []
+left-none h es k past = ap (λ names. left_of_each h es (schedulers_from k names)) (drop_all k h.schedulers past)
+
+-- after the last scheduler nothing is left over
+pub left-end : (h : Heads) (es : List Entry) (k : ℕ) → length h.schedulers ≤ k → text_of (left_after h es k) ≡ []
+left-end h es k past = ap text_of (left-none h es k past)
+
+pub left-counted-end : (h : Heads) (es : List Entry) (k : ℕ) → length h.schedulers ≤ k → length (left_after h es k) ≡ 0
+left-counted-end h es k past = ap length (left-none h es k past)
 
 -- what is left of the batch begins with the order at this index
 pub batch-from : (h : Heads) (stopped : List Ended) (os : List Order) (ms : List Mark) (k : ℕ) (o : Order) (d : Mark) → k < length os → o ≡ get_or os k o → k < length ms → text_of (batch_lines h stopped k (drop k os) (drop k ms)) ≡ text_of ((mark_word (get_or ms k d) ++ order_text h o) ∷ ends_at h k stopped) ++ text_of (batch_lines h stopped (k + 1) (drop (k + 1) os) (drop (k + 1) ms))
@@ -69,11 +166,6 @@ batch-none h stopped k (o ∷ os) (m ∷ ms) none = absurd (omega arith)
 -- after the last order that has a mark nothing is left
 pub batch-end : (h : Heads) (stopped : List Ended) (os : List Order) (ms : List Mark) (k : ℕ) → min (length os) (length ms) ≤ k → text_of (batch_lines h stopped k (drop k os) (drop k ms)) ≡ []
 batch-end h stopped os ms k past = ap text_of (batch-none h stopped k (drop k os) (drop k ms) (omega (arith, length-drop k os, length-drop k ms)))
-
--- a turn has two choices
-pub choices-count : (s : SchedId) (ts : List SchedulerTurn) → 2 * length ts ≡ length (map choice_of (entries_of s ts))
-choices-count s [] = refl
-choices-count s (t ∷ ts) = omega (arith, choices-count s ts)
 
 -- the lines of these values, for the scheduler's variables from number k on
 abbrev pub shared_after : Heads → SchedId → ℕ → List ℤ → List (List ℕ)

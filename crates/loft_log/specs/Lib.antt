@@ -1,1 +1,1 @@
-pub mod RunReport
+pub mod WorldReport

@@ -1,61 +1,77 @@
 //! Writes the report of a run.
 
+mod history;
+mod left;
 mod lines;
 mod order_text;
-#[cfg(test)]
-mod tests;
 mod thread_text;
 
-ghost use Rattle.std.specs.Prelude.{◌≡◌, ◌≤◌, ◌++◌, [], ◌∷◌, map, codes, OnOk, OnErr, IsErrOf};
+ghost use Rattle.std.specs.Prelude.{◌≡◌, ◌≤◌, ◌++◌, [], ◌∷◌, map, OnOk, OnErr, IfOk, IsErrOf};
 ghost use Rattle.std.specs.Fmt.{decimal};
 ghost use Rattle.loft_base.specs.Outside.{Rose, appended, GrowsByPrefix};
+ghost use Rattle.loft_world.specs.State.{scheduler};
 ghost use Rattle.loft_sense.specs.Heads.{shared_of};
-ghost use Rattle.loft_sense.specs.History.{choice_of};
+ghost use Rattle.loft_sense.specs.History.{choice_of, log};
 ghost use Rattle.loft_sense.specs.Text.{scheduler_name, order_text};
 ghost use Rattle.loft_sense.specs.Lines.{text_of, mark_word, ends_at, batch_lines, leave_line, leave_lines, instant_lines};
-ghost use Rattle.loft_sense.specs.Report.{choice_line, head_lines, instants_lines, shared_lines, final_lines, left_line, left_part};
-ghost use Rattle.loft_sense.specs.Turns.{entries_of, batches_of, notes_of};
-ghost use Rattle.loft_log.specs.RunReport.{turns_lines, run_report};
+ghost use Rattle.loft_sense.specs.Report.{head_lines, instants_lines, shared_lines, final_lines, schedulers_from};
+ghost use Rattle.loft_log.specs.WorldReport.{world_block, world_blocks, world_report};
 ghost use Rattle.loft_base.specs.Writing.{WritesTo};
 
+use self::history::batch_of;
 use self::lines::{
-    InOneLine, leaver_line, left_order_line, make_end_line, number_line, order_line,
-    scheduler_line, text_line, value_line,
+    InOneLine, make_end_line, make_leaver_line, make_number_line, make_order_line,
+    make_scheduler_line, make_text_line, make_value_line,
 };
-use loft_base::{SchedId, Sink, WriteError};
-use loft_sense::{Ended, FinalState, Finished, Mark, Order, RunOptions, SchedulerTurn, Sent};
+use loft_base::{NoMemory, SchedId, Sink, WriteError};
+use loft_sense::{Ended, FinalState, InstantNote, Mark, Order, RunOptions, Sent};
 use loft_text::LineBuffer;
 use loft_tree::Heads;
+use loft_world::{Finals, NoteList, Notes, World};
 use std::alloc::Global;
 
-/// Writes the report of a run whose only scheduler is `s`.
+/// Writes the report of a run: of its history, of what was kept of its instants, and of how its
+/// schedulers stand in the end (docs/REPORT.md, "The report"). The world is of these declarations.
 ///
 /// `Sink` comes where the sink failed, and its count of faults rose. `NoMemory` comes where it is out of
-/// memory for a line. In both cases a prefix of the report was written.
+/// memory for a line, and where so many schedulers or orders would be. In both cases a prefix of the report was
+/// written.
 pub fn write_report<S: Sink>(
     alloc: Global,
     heads: &Heads,
     options: &RunOptions,
-    s: SchedId,
-    run: &Finished,
+    world: &World,
+    notes: &Notes,
+    finals: &Finals,
     sink: &mut S,
 ) -> Result<(), WriteError>
-    ensures ok { OnOk result
-        (S.written sink.new ≡ appended (S.written sink.old) (run_report heads.now options.now s run.now)) }
-    ensures failed { OnErr result
-        (GrowsByPrefix (S.written sink.old) (S.written sink.new)
-        (run_report heads.now options.now s run.now)) }
+    requires heads { world.now.heads ≡ heads.now }
+    ensures ok { OnOk result (S.written sink.new ≡ appended (S.written sink.old)
+        (world_report heads.now options.now world.now.history notes.now.of finals.now.of)) }
+    ensures failed { OnErr result (GrowsByPrefix (S.written sink.old) (S.written sink.new)
+        (world_report heads.now options.now world.now.history notes.now.of finals.now.of)) }
     ensures sink { IsErrOf result WriteError.Sink → Rose (S.faults sink.old) (S.faults sink.new) }
     ensures never_falls { S.faults sink.old ≤ S.faults sink.new }
 {
-    let writer = ReportWriter { alloc, heads };
-    writer.write_parts(options, s, run, sink)
+    let writer = ReportWriter { heads };
+    let mut line = LineBuffer::new(alloc);
+    writer.write_parts(options, world, notes, finals, &mut line, sink)
 }
 
-/// Writes the parts of a report of a program with these heads.
+/// The scheduler with this index. There is no memory for schedulers past the last number.
+fn scheduler_at(index: usize) -> Result<SchedId, NoMemory>
+    ensures { IfOk result (λ s. s ≡ scheduler index) }
+{
+    match u32::try_from(index) {
+        Ok(number) => Ok(SchedId(number)),
+        Err(_) => Err(NoMemory),
+    }
+}
+
+/// Writes the parts of a report of a program with these heads. Each line is made in the same buffer, whatever stood there,
+/// and goes to the sink whole.
 #[derive(Drop)]
 struct ReportWriter<'a> {
-    alloc: Global,
     heads: &'a Heads,
 }
 
@@ -64,115 +80,130 @@ impl ReportWriter<'_> {
     fn write_parts<S: Sink>(
         &self,
         options: &RunOptions,
-        s: SchedId,
-        run: &Finished,
+        world: &World,
+        notes: &Notes,
+        finals: &Finals,
+        line: &mut LineBuffer,
         sink: &mut S,
     ) -> Result<(), WriteError>
+        requires heads { world.now.heads ≡ self.now.heads.now }
         ensures { WritesTo S.written S.faults sink.old sink.new result
-            (run_report self.now.heads.now options.now s run.now) }
+            (world_report self.now.heads.now options.now world.now.history notes.now.of finals.now.of) }
     {
-        let turns = run.turns.as_slice();
-        self.write_head(options, s, turns, sink)?;
-        self.write_block(s, turns, &run.last, sink)?;
-        self.write_left(s, run.left.as_slice(), sink)?;
-        self.write_text("end", sink)
+        self.write_head(options, world, line, sink)?;
+        self.write_blocks(world, notes.of.as_slice(), finals.of.as_slice(), line, sink)?;
+        self.write_left(world, line, sink)?;
+        self.write_text("end", line, sink)
     }
 
     /// Writes the options and the choices.
     fn write_head<S: Sink>(
         &self,
         options: &RunOptions,
-        s: SchedId,
-        turns: &[SchedulerTurn],
+        world: &World,
+        line: &mut LineBuffer,
         sink: &mut S,
     ) -> Result<(), WriteError>
         ensures { WritesTo S.written S.faults sink.old sink.new result
-            (text_of (head_lines self.now.heads.now options.now (map choice_of (entries_of s turns.now)))) }
+            (text_of (head_lines self.now.heads.now options.now (map choice_of world.now.history))) }
     {
-        let choices = 2 * turns.len() as u64;
-        self.write_text("loft-report 1", sink)?;
-        self.write_number("instants ", options.limits.instants, sink)?;
-        self.write_number("budget ", options.limits.budget, sink)?;
-        self.write_number("block ", options.limits.block, sink)?;
-        self.write_number("workers ", u64::from(options.workers), sink)?;
-        self.write_number("history ", choices, sink)?;
-        self.write_choices(s, turns, sink)
+        self.write_text("loft-report 1", line, sink)?;
+        self.write_number("instants ", options.limits.instants, line, sink)?;
+        self.write_number("budget ", options.limits.budget, line, sink)?;
+        self.write_number("block ", options.limits.block, line, sink)?;
+        self.write_number("workers ", u64::from(options.workers), line, sink)?;
+        self.write_number("history ", world.length(), line, sink)?;
+        self.write_choices(world, line, sink)
     }
 
-    /// Writes the choices of turns.
-    fn write_choices<S: Sink>(
+    /// Writes the blocks of the schedulers for which there are notes and a last state.
+    fn write_blocks<S: Sink>(
         &self,
-        s: SchedId,
-        turns: &[SchedulerTurn],
+        world: &World,
+        notes: &[NoteList],
+        finals: &[FinalState],
+        line: &mut LineBuffer,
         sink: &mut S,
     ) -> Result<(), WriteError>
         ensures { WritesTo S.written S.faults sink.old sink.new result
-            (text_of (map (choice_line self.now.heads.now) (map choice_of (entries_of s turns.now)))) }
+            (text_of (world_blocks self.now.heads.now world.now.history
+            (schedulers_from 0 self.now.heads.now.schedulers) notes.now finals.now)) }
     {
-        for _turn in turns {
-            self.write_choices_of_turn(s, sink)?;
+        let schedulers = self.heads.schedulers.len();
+        for index in 0..schedulers.min(notes.len()).min(finals.len()) {
+            let s = scheduler_at(index)?;
+            let last = &finals[index];
+            self.write_block(world, s, notes[index].as_slice(), last, line, sink)?;
         }
         Ok(())
     }
 
-    /// Writes the two choices of a turn.
-    fn write_choices_of_turn<S: Sink>(&self, s: SchedId, sink: &mut S) -> Result<(), WriteError>
-        ensures { WritesTo S.written S.faults sink.old sink.new result
-            (text_of ((codes "take " ++ scheduler_name self.now.heads.now s)
-            ∷ (codes "give " ++ scheduler_name self.now.heads.now s) ∷ [])) }
-    {
-        self.write_scheduler("take ", s, sink)?;
-        self.write_scheduler("give ", s, sink)
-    }
-
-    /// Writes the scheduler's block.
+    /// Writes a scheduler's block.
     fn write_block<S: Sink>(
         &self,
+        world: &World,
         s: SchedId,
-        turns: &[SchedulerTurn],
+        notes: &[InstantNote],
         last: &FinalState,
+        line: &mut LineBuffer,
         sink: &mut S,
     ) -> Result<(), WriteError>
         ensures { WritesTo S.written S.faults sink.old sink.new result
-            (text_of (turns_lines self.now.heads.now s turns.now last.now)) }
+            (text_of (world_block self.now.heads.now world.now.history s notes.now last.now)) }
     {
-        self.write_scheduler("scheduler ", s, sink)?;
-        self.write_instants(turns, sink)?;
-        self.write_final(s, last, sink)
+        self.write_scheduler("scheduler ", s, line, sink)?;
+        self.write_instants(world, s, notes, line, sink)?;
+        self.write_final(s, last, line, sink)
     }
 
-    /// Writes the instants of turns.
+    /// Writes the instants of a scheduler: its batches in the history, each with its note.
     fn write_instants<S: Sink>(
         &self,
-        turns: &[SchedulerTurn],
+        world: &World,
+        s: SchedId,
+        notes: &[InstantNote],
+        line: &mut LineBuffer,
         sink: &mut S,
     ) -> Result<(), WriteError>
         ensures { WritesTo S.written S.faults sink.old sink.new result
-            (text_of (instants_lines self.now.heads.now (batches_of turns.now) (notes_of turns.now))) }
+            (text_of (instants_lines self.now.heads.now (log s world.now.history) notes.now)) }
     {
-        for turn in turns {
-            self.write_instant(turn, sink)?;
+        let mut left = notes;
+        for index in 0..world.length() {
+            if let Some(batch) = batch_of(s, world.entry(index + 1)) {
+                let Some((note, rest)) = left.split_first() else {
+                    return Ok(());
+                };
+                self.write_instant(batch, note, line, sink)?;
+                left = rest;
+            }
         }
         Ok(())
     }
 
-    /// Writes the instant of a turn.
-    fn write_instant<S: Sink>(&self, turn: &SchedulerTurn, sink: &mut S) -> Result<(), WriteError>
+    /// Writes an instant: its batch, and what it did.
+    fn write_instant<S: Sink>(
+        &self,
+        batch: &[Order],
+        note: &InstantNote,
+        line: &mut LineBuffer,
+        sink: &mut S,
+    ) -> Result<(), WriteError>
         ensures { WritesTo S.written S.faults sink.old sink.new result
-            (text_of (instant_lines self.now.heads.now turn.now.batch turn.now.note)) }
+            (text_of (instant_lines self.now.heads.now batch.now note.now)) }
     {
-        let note = &turn.note;
-        self.write_number("instant ", note.number, sink)?;
+        self.write_number("instant ", note.number, line, sink)?;
         self.write_batch(
             note.stopped.as_slice(),
-            turn.batch.as_slice(),
+            batch,
             note.marks.as_slice(),
+            line,
             sink,
         )?;
-        self.write_lines(note.acts.as_slice(), sink)?;
-        self.write_leavers(note.sent.as_slice(), sink)?;
-        self.write_lines(note.stands.as_slice(), sink)?;
-        self.write_lines(note.changed.as_slice(), sink)
+        self.write_lines(note.acts.as_slice(), line, sink)?;
+        self.write_leavers(note.sent.as_slice(), line, sink)?;
+        self.write_lines(note.stands.as_slice(), line, sink)?;
+        self.write_lines(note.changed.as_slice(), line, sink)
     }
 
     /// Writes the orders of a batch, each with its mark and the ends that it made.
@@ -181,13 +212,14 @@ impl ReportWriter<'_> {
         stopped: &[Ended],
         batch: &[Order],
         marks: &[Mark],
+        line: &mut LineBuffer,
         sink: &mut S,
     ) -> Result<(), WriteError>
         ensures { WritesTo S.written S.faults sink.old sink.new result
             (text_of (batch_lines self.now.heads.now stopped.now 0 batch.now marks.now)) }
     {
         for index in 0..batch.len().min(marks.len()) {
-            self.write_order(stopped, index, &batch[index], marks[index], sink)?;
+            self.write_order(stopped, index, &batch[index], marks[index], line, sink)?;
         }
         Ok(())
     }
@@ -199,13 +231,15 @@ impl ReportWriter<'_> {
         index: usize,
         order: &Order,
         mark: Mark,
+        line: &mut LineBuffer,
         sink: &mut S,
     ) -> Result<(), WriteError>
         ensures { WritesTo S.written S.faults sink.old sink.new result
             (text_of ((mark_word mark ++ order_text self.now.heads.now order.now) ∷ ends_at self.now.heads.now index stopped.now)) }
     {
-        write_line(order_line(self.alloc, self.heads, mark, order)?, sink)?;
-        self.write_ends(index as u64, stopped, sink)
+        make_order_line(line, self.heads, mark, order)?;
+        write_line(line, sink)?;
+        self.write_ends(index as u64, stopped, line, sink)
     }
 
     /// Writes the ends that an order of a batch made.
@@ -213,13 +247,14 @@ impl ReportWriter<'_> {
         &self,
         index: u64,
         stopped: &[Ended],
+        line: &mut LineBuffer,
         sink: &mut S,
     ) -> Result<(), WriteError>
         ensures { WritesTo S.written S.faults sink.old sink.new result
             (text_of (ends_at self.now.heads.now index stopped.now)) }
     {
         for ended in stopped {
-            self.write_end_at(index, *ended, sink)?;
+            self.write_end_at(index, *ended, line, sink)?;
         }
         Ok(())
     }
@@ -229,41 +264,48 @@ impl ReportWriter<'_> {
         &self,
         index: u64,
         ended: Ended,
+        line: &mut LineBuffer,
         sink: &mut S,
     ) -> Result<(), WriteError>
         ensures { WritesTo S.written S.faults sink.old sink.new result
             (text_of (ends_at self.now.heads.now index (ended ∷ []))) }
     {
         if ended.index == index {
-            write_line(
-                make_end_line(self.alloc, self.heads, ended.thread, ended.end)?,
-                sink,
-            )?;
+            make_end_line(line, self.heads, ended.thread, ended.end)?;
+            write_line(line, sink)?;
         }
         Ok(())
     }
 
     /// Writes who left.
-    fn write_leavers<S: Sink>(&self, sents: &[Sent], sink: &mut S) -> Result<(), WriteError>
+    fn write_leavers<S: Sink>(
+        &self,
+        sents: &[Sent],
+        line: &mut LineBuffer,
+        sink: &mut S,
+    ) -> Result<(), WriteError>
         ensures { WritesTo S.written S.faults sink.old sink.new result
             (text_of (leave_lines self.now.heads.now sents.now)) }
     {
         for sent in sents {
-            self.write_leaver(sent, sink)?;
+            self.write_leaver(sent, line, sink)?;
         }
         Ok(())
     }
 
     /// Writes the thread that leaves, where an order moves one.
-    fn write_leaver<S: Sink>(&self, sent: &Sent, sink: &mut S) -> Result<(), WriteError>
+    fn write_leaver<S: Sink>(
+        &self,
+        sent: &Sent,
+        line: &mut LineBuffer,
+        sink: &mut S,
+    ) -> Result<(), WriteError>
         ensures { WritesTo S.written S.faults sink.old sink.new result
             (text_of (leave_line self.now.heads.now sent.now.to sent.now.order)) }
     {
         if let Order::Arrive(thread) = &sent.order {
-            write_line(
-                leaver_line(self.alloc, self.heads, thread.id, sent.to)?,
-                sink,
-            )?;
+            make_leaver_line(line, self.heads, thread.id, sent.to)?;
+            write_line(line, sink)?;
         }
         Ok(())
     }
@@ -273,15 +315,16 @@ impl ReportWriter<'_> {
         &self,
         s: SchedId,
         last: &FinalState,
+        line: &mut LineBuffer,
         sink: &mut S,
     ) -> Result<(), WriteError>
         ensures { WritesTo S.written S.faults sink.old sink.new result
             (text_of (final_lines self.now.heads.now s last.now.linked last.now.shared)) }
     {
         let linked = last.linked.as_slice();
-        self.write_number("state ", linked.len() as u64, sink)?;
-        self.write_lines(linked, sink)?;
-        self.write_shared(s, last.shared.as_slice(), sink)
+        self.write_number("state ", linked.len() as u64, line, sink)?;
+        self.write_lines(linked, line, sink)?;
+        self.write_shared(s, last.shared.as_slice(), line, sink)
     }
 
     /// Writes the scheduler's shared variables with their values.
@@ -289,6 +332,7 @@ impl ReportWriter<'_> {
         &self,
         s: SchedId,
         values: &[i64],
+        line: &mut LineBuffer,
         sink: &mut S,
     ) -> Result<(), WriteError>
         ensures { WritesTo S.written S.faults sink.old sink.new result
@@ -301,39 +345,10 @@ impl ReportWriter<'_> {
                 let Some((value, rest)) = left.split_first() else {
                     return Ok(());
                 };
-                write_line(value_line(self.alloc, head.name.as_slice(), *value)?, sink)?;
+                make_value_line(line, head.name.as_slice(), *value)?;
+                write_line(line, sink)?;
                 left = rest;
             }
-        }
-        Ok(())
-    }
-
-    /// Writes how many orders are left over at the scheduler, and then these.
-    fn write_left<S: Sink>(
-        &self,
-        s: SchedId,
-        orders: &[Order],
-        sink: &mut S,
-    ) -> Result<(), WriteError>
-        ensures { WritesTo S.written S.faults sink.old sink.new result
-            (text_of (left_part (map (left_line self.now.heads.now s) orders.now))) }
-    {
-        self.write_number("left ", orders.len() as u64, sink)?;
-        self.write_left_orders(s, orders, sink)
-    }
-
-    /// Writes the orders that are left over at the scheduler.
-    fn write_left_orders<S: Sink>(
-        &self,
-        s: SchedId,
-        orders: &[Order],
-        sink: &mut S,
-    ) -> Result<(), WriteError>
-        ensures { WritesTo S.written S.faults sink.old sink.new result
-            (text_of (map (left_line self.now.heads.now s) orders.now)) }
-    {
-        for order in orders {
-            write_line(left_order_line(self.alloc, self.heads, s, order)?, sink)?;
         }
         Ok(())
     }
@@ -342,31 +357,46 @@ impl ReportWriter<'_> {
     fn write_lines<T: InOneLine, S: Sink>(
         &self,
         items: &[T],
+        line: &mut LineBuffer,
         sink: &mut S,
     ) -> Result<(), WriteError>
         ensures { WritesTo S.written S.faults sink.old sink.new result
-            (text_of (map (T.line self.now.heads.now) items.now)) }
+            (text_of (map (T.text self.now.heads.now) items.now)) }
     {
         for item in items {
-            write_line(item.line(self.alloc, self.heads)?, sink)?;
+            item.make_line(line, self.heads)?;
+            write_line(line, sink)?;
         }
         Ok(())
     }
 
     /// Writes the line of a text.
-    fn write_text<S: Sink>(&self, text: &str, sink: &mut S) -> Result<(), WriteError>
+    fn write_text<S: Sink>(
+        &self,
+        text: &str,
+        line: &mut LineBuffer,
+        sink: &mut S,
+    ) -> Result<(), WriteError>
         ensures { WritesTo S.written S.faults sink.old sink.new result
             (text.now ++ 10 ∷ []) }
     {
-        write_line(text_line(self.alloc, text)?, sink)
+        make_text_line(line, text)?;
+        write_line(line, sink)
     }
 
     /// Writes the line of a word and a number.
-    fn write_number<S: Sink>(&self, word: &str, number: u64, sink: &mut S) -> Result<(), WriteError>
+    fn write_number<S: Sink>(
+        &self,
+        word: &str,
+        number: u64,
+        line: &mut LineBuffer,
+        sink: &mut S,
+    ) -> Result<(), WriteError>
         ensures { WritesTo S.written S.faults sink.old sink.new result
             ((word.now ++ decimal number) ++ 10 ∷ []) }
     {
-        write_line(number_line(self.alloc, word, number)?, sink)
+        make_number_line(line, word, number)?;
+        write_line(line, sink)
     }
 
     /// Writes the line of a word and the name of a scheduler.
@@ -374,21 +404,23 @@ impl ReportWriter<'_> {
         &self,
         word: &str,
         s: SchedId,
+        line: &mut LineBuffer,
         sink: &mut S,
     ) -> Result<(), WriteError>
         ensures { WritesTo S.written S.faults sink.old sink.new result
             ((word.now ++ scheduler_name self.now.heads.now s) ++ 10 ∷ []) }
     {
-        write_line(scheduler_line(self.alloc, self.heads, word, s)?, sink)
+        make_scheduler_line(line, self.heads, word, s)?;
+        write_line(line, sink)
     }
 }
 
 /// Writes a line and its line feed.
-fn write_line<S: Sink>(mut line: LineBuffer, sink: &mut S) -> Result<(), WriteError>
+fn write_line<S: Sink>(line: &mut LineBuffer, sink: &mut S) -> Result<(), WriteError>
     ensures { WritesTo S.written S.faults sink.old sink.new result
-        (line ++ 10 ∷ []) }
+        (line.old ++ 10 ∷ []) }
 {
-    line.text("\n")?;
+    line.byte(b'\n')?;
     sink.put(line.as_slice())?;
     Ok(())
 }

@@ -6,5 +6,4 @@ pub mod EventLemmas
 pub mod CodeLemmas
 pub mod HistoryLemmas
 pub mod LegalLemmas
-pub mod TurnLemmas
 pub mod OwnLemmas

@@ -20,6 +20,5 @@ pub mod Fits
 pub mod Clients
 pub mod History
 pub mod Legal
-pub mod Turns
 pub mod Lines
 pub mod Report

@@ -51,11 +51,11 @@ impl Frame {
 fn frames_from(alloc: Global, frames: &[Frame]) -> Result<Frames, NoMemory>
     ensures { IfOk result (λ copy. copy ≡ frames.now) }
 {
-    let mut copy = Sequence::new(alloc);
+    let mut copy = Vec::with_capacity(alloc, frames.len())?;
     for frame in frames {
         copy.push(frame.try_clone(alloc)?)?;
     }
-    Ok(copy)
+    Ok(Sequence::from_vec(copy))
 }
 
 impl Thread {

@@ -11,7 +11,6 @@ pub mod note;
 pub mod order;
 pub mod run_laws;
 pub mod thread;
-pub mod turn;
 
 pub use code_laws::{
     stops_set_codes_as_they_begin, the_close_marks_and_lowers, waits_are_pending_until_the_close,
@@ -37,4 +36,3 @@ pub use run_laws::{
     runs_make_few_entries, threads_run_within_the_budget,
 };
 pub use thread::{Counts, Events, Frame, Frames, Line, Thread, Threads, Wait};
-pub use turn::{Finished, SchedulerTurn};

@@ -10,7 +10,7 @@ ghost use Rattle.loft_sense.specs.Around.{Beside as BesideOf};
 ghost use Rattle.loft_sense.specs.Code.{code as control_of};
 ghost use Rattle.loft_sense.specs.Run.{thread_of, ends, going, go_on, no_step, Held, Left};
 ghost use Rattle.loft_effect.specs.View.{around_of, beside_of, pace_of, steps_left};
-ghost use Rattle.loft_effect.specs.Outcomes.{gone_of, outcome_of};
+ghost use Rattle.loft_effect.specs.Outcomes.{outcome_of, outcome_with};
 ghost use Rattle.loft_step.specs.Frames.{active, actives};
 ghost use Rattle.loft_step.specs.Kept.{AreKept};
 
@@ -20,7 +20,7 @@ use crate::steps::Steps;
 use crate::walk::count;
 use loft_base::{NoMemory, Sequence};
 use loft_code::Code;
-use loft_effect::{Around, Beside, Gone, Outcome, take_around};
+use loft_effect::{Around, Beside, Outcome, take_around};
 use loft_sense::{At, End, Frame, Frames, MAX_FRAMES, Stop, Thread, To, Wait};
 use std::alloc::Global;
 use std::mem;
@@ -40,60 +40,49 @@ fn over(frames: &[Frame]) -> End
 }
 
 /// The thread with these frames, and this wait.
-fn stand(
-    beside: Beside,
-    top: Running,
-    mut outer: Frames,
-    wait: Wait,
-) -> Result<(Thread, Around), NoMemory>
+fn stand(beside: &Beside, top: Running, mut outer: Frames, wait: Wait) -> Result<Thread, NoMemory>
     requires { AreKept outer }
-    ensures thread { IfOk result (λ stood. (c : Automata)
-        → stood.0 ≡ thread_of (control_of c) wait (active top ∷ actives c outer) (beside_of beside)) }
-    ensures around { IfOk result (λ stood. stood.1 ≡ beside.around) }
+    ensures { IfOk result (λ thread. (c : Automata)
+        → thread ≡ thread_of (control_of c) wait (active top ∷ actives c outer) (beside_of beside.now)) }
 {
     outer.push(top.keep())?;
-    let thread = Thread {
+    Ok(Thread {
         id: beside.id,
         code: beside.code,
         mask: beside.mask,
         wait,
         frames: outer,
-    };
-    Ok((thread, beside.around))
+    })
 }
 
 /// A stop holds the thread.
-fn hold(beside: Beside, top: Running, outer: Frames, wait: Wait) -> Result<Gone, NoMemory>
+fn hold(beside: &Beside, top: Running, outer: Frames, wait: Wait) -> Result<Outcome, NoMemory>
     requires { AreKept outer }
-    ensures held { IfOk result (λ gone. (c : Automata)
-        → gone_of gone ≡ Held (thread_of (control_of c) wait (active top ∷ actives c outer) (beside_of beside)) (around_of beside.around) (steps_left beside.around)) }
-    ensures pace { IfOk result (λ gone. pace_of gone.around ≡ pace_of beside.around) }
+    ensures { IfOk result (λ outcome. (c : Automata)
+        → outcome_with outcome beside.now.around ≡ Held (thread_of (control_of c) wait (active top ∷ actives c outer) (beside_of beside.now)) (around_of beside.now.around) (steps_left beside.now.around)) }
 {
-    let (thread, around) = stand(beside, top, outer, wait)?;
-    let outcome = Outcome::Held(thread);
-    Ok(Gone { outcome, around })
+    let thread = stand(beside, top, outer, wait)?;
+    Ok(Outcome::Held(thread))
 }
 
 /// The thread leaves.
-fn leave(beside: Beside, top: Running, outer: Frames, to: To) -> Result<Gone, NoMemory>
+fn leave(beside: &Beside, top: Running, outer: Frames, to: To) -> Result<Outcome, NoMemory>
     requires { AreKept outer }
-    ensures left { IfOk result (λ gone. (c : Automata)
-        → gone_of gone ≡ Left (thread_of (control_of c) WaitNew (active top ∷ actives c outer) (beside_of beside)) to (around_of beside.around) (steps_left beside.around)) }
-    ensures pace { IfOk result (λ gone. pace_of gone.around ≡ pace_of beside.around) }
+    ensures { IfOk result (λ outcome. (c : Automata)
+        → outcome_with outcome beside.now.around ≡ Left (thread_of (control_of c) WaitNew (active top ∷ actives c outer) (beside_of beside.now)) to (around_of beside.now.around) (steps_left beside.now.around)) }
 {
-    let (thread, around) = stand(beside, top, outer, Wait::New)?;
-    let outcome = Outcome::Left(thread, to);
-    Ok(Gone { outcome, around })
+    let thread = stand(beside, top, outer, Wait::New)?;
+    Ok(Outcome::Left(thread, to))
 }
 
 /// The thread ends.
-fn end(beside: Beside, end: End) -> Result<Gone, NoMemory>
-    ensures ended { IfOk result (λ gone. gone_of gone ≡ ends end (beside_of beside) (steps_left beside.around)) }
-    ensures pace { IfOk result (λ gone. pace_of gone.around ≡ pace_of beside.around) }
+fn end(beside: &mut Beside, end: End) -> Result<Outcome, NoMemory>
+    ensures ended { IfOk result (λ outcome. outcome_with outcome beside.new.around
+        ≡ ends end (beside_of beside.old) (steps_left beside.old.around)) }
+    ensures pace { OnOk result (pace_of beside.new.around ≡ pace_of beside.old.around) }
 {
-    let around = beside.end(end)?;
-    let outcome = Outcome::Ended(end);
-    Ok(Gone { outcome, around })
+    beside.end(end)?;
+    Ok(Outcome::Ended(end))
 }
 
 /// A thread goes on with these frames, the innermost apart.
@@ -102,18 +91,18 @@ fn run<L: Ledger>(
     code: &Code,
     mut top: Running,
     mut outer: Frames,
-    mut beside: Beside,
+    beside: &mut Beside,
     steps: &mut Steps<L>,
-) -> Result<Gone, NoMemory>
+) -> Result<Outcome, NoMemory>
     requires { AreKept outer }
-    ensures gone { IfOk result (λ gone. let c = automata_of code.now in
-        gone_of gone ≡ going (control_of c) (steps_left beside.around) (beside_of beside) (active top ∷ actives c outer)) }
-    ensures bound { IfOk result (λ gone. gone.around.bound ≡ beside.around.bound) }
-    ensures grows { IfOk result (λ gone. beside.around.steps ≤ gone.around.steps) }
-    ensures counted { IfOk result (λ gone. steps.new + beside.around.steps ≡ steps.old + gone.around.steps) }
+    ensures gone { IfOk result (λ outcome. let c = automata_of code.now in
+        outcome_with outcome beside.new.around ≡ going (control_of c) (steps_left beside.old.around) (beside_of beside.old) (active top ∷ actives c outer)) }
+    ensures bound { OnOk result (beside.new.around.bound ≡ beside.old.around.bound) }
+    ensures grows { OnOk result (beside.old.around.steps ≤ beside.new.around.steps) }
+    ensures counted { OnOk result (steps.new + beside.old.around.steps ≡ steps.old + beside.new.around.steps) }
 {
     'going: loop {
-        match top.walk(alloc, code, &mut beside, steps)? {
+        match top.walk(alloc, code, beside, steps)? {
             Move::Return => {
                 let Some(frame) = outer.pop() else {
                     return end(beside, End::Done);
@@ -141,14 +130,14 @@ fn begin<L: Ledger>(
     code: &Code,
     mut frames: Frames,
     wait: &Wait,
-    mut beside: Beside,
+    beside: &mut Beside,
     steps: &mut Steps<L>,
-) -> Result<Gone, NoMemory>
-    ensures gone { IfOk result (λ gone. let c = automata_of code.now in
-        gone_of gone ≡ go_on (control_of c) (steps_left beside.around) wait.now (beside_of beside) (actives c frames)) }
-    ensures bound { IfOk result (λ gone. gone.around.bound ≡ beside.around.bound) }
-    ensures grows { IfOk result (λ gone. beside.around.steps ≤ gone.around.steps) }
-    ensures counted { IfOk result (λ gone. steps.new + beside.around.steps ≡ steps.old + gone.around.steps) }
+) -> Result<Outcome, NoMemory>
+    ensures gone { IfOk result (λ outcome. let c = automata_of code.now in
+        outcome_with outcome beside.new.around ≡ go_on (control_of c) (steps_left beside.old.around) wait.now (beside_of beside.old) (actives c frames)) }
+    ensures bound { OnOk result (beside.new.around.bound ≡ beside.old.around.bound) }
+    ensures grows { OnOk result (beside.old.around.steps ≤ beside.new.around.steps) }
+    ensures counted { OnOk result (steps.new + beside.old.around.steps ≡ steps.old + beside.new.around.steps) }
 {
     if beside.around.steps == beside.around.bound {
         let cause = over(frames.as_slice());
@@ -160,7 +149,7 @@ fn begin<L: Ledger>(
         return end(beside, End::Done);
     };
     let (mut top, target) = Running::wake(code, frame);
-    top.scope.answer(code.heads(), &mut beside, wait, target);
+    top.scope.answer(code.heads(), beside, wait, target);
     run(alloc, code, top, frames, beside, steps)
 }
 
@@ -180,12 +169,13 @@ pub fn go<L: Ledger>(
     ensures counted { OnOk result (steps.new ≡ steps.old + (around.new.steps - around.old.steps)) }
 {
     let frames = mem::replace(&mut t.frames, Sequence::new(alloc));
-    let beside = Beside {
+    let mut beside = Beside {
         id: t.id,
         code: t.code,
         mask: t.mask,
         around: take_around(alloc, around)?,
     };
-    let gone = begin(alloc, c, frames, &t.wait, beside, steps)?;
-    Ok(gone.put(t, around))
+    let outcome = begin(alloc, c, frames, &t.wait, &mut beside, steps)?;
+    *around = beside.around;
+    Ok(outcome.put(t))
 }

@@ -15,7 +15,7 @@ fn push_frame(line: &mut LineBuffer, heads: &Heads, frame: &Frame) -> Result<(),
     ensures { OnOk result (line.new ≡ line.old ++ frame_text heads.now frame.now) }
 {
     push_module_name(line, heads, frame.module)?;
-    line.text(":")?;
+    line.byte(b':')?;
     line.number(u64::from(frame.stop))?;
     push_kept(
         line,
@@ -36,11 +36,11 @@ fn push_kept(
         ++ (codes "[" ++ (separated signed_decimal counts.now
         ++ (codes "](" ++ (separated (value_text heads.now) values.now ++ codes ")"))))) }
 {
-    line.text("[")?;
+    line.byte(b'[')?;
     push_separated(line, heads, counts)?;
     line.text("](")?;
     push_separated(line, heads, values)?;
-    line.text(")")
+    line.byte(b')')
 }
 
 impl Item for Frame {

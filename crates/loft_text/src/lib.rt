@@ -7,6 +7,6 @@ mod text;
 
 pub use line::LineBuffer;
 pub use text::{
-    Item, push_end, push_event_name, push_id, push_module_name, push_name_at, push_scheduler_name,
-    push_separated, push_separated_by, push_shared_name,
+    Item, push_client_name, push_end, push_event_name, push_id, push_module_name, push_name_at,
+    push_scheduler_name, push_separated, push_separated_by, push_shared_name,
 };

@@ -1,6 +1,6 @@
 //! A line in the making.
 
-ghost use Rattle.std.specs.Prelude.{◌≡◌, [], ◌++◌, OnOk};
+ghost use Rattle.std.specs.Prelude.{◌≡◌, [], ◌∷◌, ◌++◌, OnOk};
 ghost use Rattle.std.specs.Fmt.{decimal, signed_decimal};
 
 use loft_base::{NoMemory, Sequence};
@@ -8,7 +8,8 @@ use loft_sense::Line;
 use std::alloc::Global;
 use std::marker::Model;
 
-/// The bytes of a line so far. Contracts see it as their list.
+/// The bytes of a line so far. Contracts see it as their list. One buffer serves for many lines: a
+/// cleared one keeps its room.
 #[derive(Drop)]
 pub struct LineBuffer {
     bytes: Vec<u8>,
@@ -30,6 +31,13 @@ impl LineBuffer {
         LineBuffer {
             bytes: Vec::new(alloc),
         }
+    }
+
+    /// An empty line from now on; the room stays.
+    pub fn clear(&mut self)
+        ensures { self.new ≡ [] }
+    {
+        self.bytes.clear();
     }
 
     /// The bytes so far.
@@ -54,6 +62,14 @@ impl LineBuffer {
         Ok(())
     }
 
+    /// Appends a byte.
+    pub fn byte(&mut self, byte: u8) -> Result<(), NoMemory>
+        ensures { OnOk result (self.new ≡ self.old ++ byte ∷ []) }
+    {
+        self.bytes.push(byte)?;
+        Ok(())
+    }
+
     /// Appends a text.
     pub fn text(&mut self, text: &str) -> Result<(), NoMemory>
         ensures { OnOk result (self.new ≡ self.old ++ text.now) }
@@ -65,15 +81,20 @@ impl LineBuffer {
     pub fn number(&mut self, number: u64) -> Result<(), NoMemory>
         ensures { OnOk result (self.new ≡ self.old ++ decimal number) }
     {
-        let digits = number.to_string(*self.bytes.allocator())?;
-        self.text(digits.as_str())
+        if number < 10 {
+            return self.byte(b'0' + number as u8);
+        }
+        self.number(number / 10)?;
+        self.byte(b'0' + (number % 10) as u8)
     }
 
     /// Appends the digits of a number, after a sign where it is negative.
     pub fn signed(&mut self, number: i64) -> Result<(), NoMemory>
         ensures { OnOk result (self.new ≡ self.old ++ signed_decimal number) }
     {
-        let digits = number.to_string(*self.bytes.allocator())?;
-        self.text(digits.as_str())
+        if number < 0 {
+            self.byte(b'-')?;
+        }
+        self.number(number.unsigned_abs())
     }
 }

@@ -135,7 +135,7 @@ pub fn push_shared_name(
 }
 
 /// The name of a client, and nothing where there is none.
-fn push_client_name(line: &mut LineBuffer, heads: &Heads, client: u32) -> Result<(), NoMemory>
+pub fn push_client_name(line: &mut LineBuffer, heads: &Heads, client: u32) -> Result<(), NoMemory>
     ensures { OnOk result (line.new ≡ line.old ++ client_name heads.now client) }
 {
     match heads.clients.as_slice().get(client as usize) {
@@ -160,7 +160,7 @@ pub fn push_id(line: &mut LineBuffer, heads: &Heads, thread: ThreadId) -> Result
     ensures { OnOk result (line.new ≡ line.old ++ id_text heads.now thread) }
 {
     push_maker(line, heads, thread.maker)?;
-    line.text(".")?;
+    line.byte(b'.')?;
     line.number(thread.seq)
 }
 
@@ -169,7 +169,7 @@ fn push_at(line: &mut LineBuffer, heads: &Heads, at: At) -> Result<(), NoMemory>
     ensures { OnOk result (line.new ≡ line.old ++ at_text heads.now at) }
 {
     push_module_name(line, heads, at.module)?;
-    line.text(":")?;
+    line.byte(b':')?;
     line.number(u64::from(at.stop))
 }
 

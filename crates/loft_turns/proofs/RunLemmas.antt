@@ -1,35 +1,41 @@
 -- One more turn of the only scheduler, and the end of its run.
-use Rattle.std.proofs.Common.{◌≡◌, ℕ, ◌<◌, Bool, true, false, List, [], ◌∷◌, ◌++◌, map, length, refl, sym, ◌∙◌, ap, subst, arith, append_assoc, Option, Some, None, Result, Ok, Err, ◌+◌, ◌-◌}
+use Rattle.std.proofs.Common.{◌≡◌, ℕ, ◌<◌, Bool, true, false, List, [], ◌∷◌, ◌++◌, map, length, refl, sym, ◌∙◌, ap, subst, arith, append-nil, Option, Some, None, Result, Ok, Err, ◌+◌, ◌-◌}
 use Rattle.std.proofs.lemmas.Bool.{lt-ltb, leb-false}
-use Rattle.loft_sense.specs.Rest.{is_spent}
-use Rattle.std.specs.Prelude.{if◌then◌else◌, not, ◌&&◌, ◌||◌, nat_lt, IsTrue}
+use Rattle.std.proofs.lemmas.List.{map-append}
+use Rattle.std.specs.Prelude.{if◌then◌else◌, not, ◌&&◌, ◌||◌, nat_lt, ℤ, IsTrue}
 use Rattle.loft_base.specs.declared.ids.SchedId.{SchedId}
+use Rattle.loft_tree.specs.declared.heads.Heads.{Heads}
 use Rattle.loft_sense.specs.declared.order.Order.{Order}
 use Rattle.loft_sense.specs.declared.order.Sent.{Sent}
 use Rattle.loft_sense.specs.declared.note.InstantNote.{InstantNote}
+use Rattle.loft_sense.specs.declared.note.FinalState.{FinalState}
+use Rattle.loft_sense.specs.declared.note.Standing.{Standing}
 use Rattle.loft_sense.specs.declared.entry.Entry.{Entry}
 use Rattle.loft_sense.specs.declared.entry.Entry.TheVariants.{Take, Give}
 use Rattle.loft_sense.specs.declared.limits.Limits.{Limits}
 use Rattle.loft_sense.specs.declared.limits.RunOptions.{RunOptions}
+use Rattle.loft_sense.specs.Rest.{is_spent}
 use Rattle.loft_sense.specs.Machine.{Prog, heads, Mach, empty}
 use Rattle.loft_sense.specs.Instant.{Replayed, one_more, replay, instant}
-use Rattle.loft_sense.specs.History.{Choice, TakeBy, GiveBy, choice_of, log, in_instant, is_open, orders_to, starts_of, jobs, left_after, replayed, has_turn, sent_last, entry_of, with_entry, hist_on, hist, has_finished}
-use Rattle.loft_sense.proofs.HistoryLemmas.{same_self, same_id, take_allowed, give_allowed, log-append, in_instant-append, replay_on-append, sent_last-append}
-use Rattle.loft_sense.specs.declared.turn.Finished.{Finished}
-use Rattle.loft_sense.specs.declared.turn.SchedulerTurn.{SchedulerTurn}
-use Rattle.loft_sense.specs.Turns.{entries_of, batches_of, notes_of}
-use Rattle.loft_sense.proofs.TurnLemmas.{entries_of-append, notes_of-append, batches_of-append, replayed-entries_of, is_open-entries_of, waiting-turn}
-use Rattle.loft_turns.specs.Running.{HasRun, IsWholeRun}
+use Rattle.loft_sense.specs.Report.{schedulers_from, schedulers}
+use Rattle.loft_sense.specs.History.{Choice, choice_of, log, in_instant, is_open, jobs, left_after, left_of, replayed, has_turn, sent_last, waiting, entry_of, with_entry, hist_on, hist, has_finished}
+use Rattle.loft_sense.proofs.HistoryLemmas.{same_self, same_id, take_allowed, give_allowed, log-append, in_instant-append, left_after-append, replay_on-append, sent_last-append}
+use Rattle.loft_world.specs.State.{State, with_entry as with_one_more}
+use Rattle.loft_world.specs.Replay.{stand_of}
+use Rattle.loft_turns.specs.Running.{IsWholeRun}
 
--- the entries of one turn
-abbrev pub pair_of : SchedId → List Order → List Sent → List Entry
-pair_of s batch sent = Take s batch ∷ Give s sent ∷ []
+-- the turns so far: their history is that of its choices, the scheduler is between two instants, no worker has anything to post, and the machine and the notes are those of the replay
+pub record HasRun (x : Prog) (o : RunOptions) (s : SchedId) (es : List Entry) (m : Mach) (notes : List InstantNote) : Type 0 where
+  pub history : hist x o (map choice_of es) ≡ Ok es
+  pub closed : is_open s es ≡ false
+  pub idle : (w : ℕ) → left_of x o w es ≡ []
+  pub machine : replayed x o.limits s es ≡ record { machine = m; notes = notes }
 
-log_taken : (s : SchedId) (es : List Entry) (batch : List Order) → log s (es ++ Take s batch ∷ []) ≡ log s es ++ batch ∷ []
-log_taken s es batch = log-append s es (Take s batch ∷ []) ∙ ap (λ (own : Bool). log s es ++ (if own then batch ∷ [] else [])) (same_self s)
+-- before its first turn
+pub no_turn : (x : Prog) (o : RunOptions) (s : SchedId) → HasRun x o s [] (empty x s) []
+no_turn x o s = record { history = refl; closed = refl; idle = λ w. refl; machine = refl }
 
-opened : (s : SchedId) (es : List Entry) (batch : List Order) → is_open s (es ++ Take s batch ∷ []) ≡ true
-opened s es batch = in_instant-append s es (Take s batch ∷ []) false ∙ ap (λ (b : Bool). b || in_instant s false es) (same_self s)
+-- ---- one entry more
 
 -- a history goes on after the choices that made it
 goes_on : (x : Prog) (o : RunOptions) (cs ds : List Choice) (h g : List Entry) → hist_on x o cs h ≡ Ok g → hist_on x o (cs ++ ds) h ≡ hist_on x o ds g
@@ -45,115 +51,137 @@ goes_on x o (c ∷ cs) ds h g e = one_more_entry (entry_of x o h c) e (λ k f. g
     one_more_entry None f then_on = cc
     one_more_entry (Some entry) f then_on = then_on (h ++ entry ∷ []) f
 
--- the choice of a Take, where the scheduler has a turn
-taken : (x : Prog) (o : RunOptions) (s : SchedId) (ts : List SchedulerTurn) (m : Mach) (orders : List Order)
-    → HasRun x o s ts m orders → s.0 < length (heads x).schedulers → has_turn x o.limits m orders ≡ true
-    → entry_of x o (entries_of s ts) (TakeBy s) ≡ Some (Take s orders)
-taken x o s ts m orders run declared turn =
-    ap (λ (w : List Order). if nat_lt s.0 (length (heads x).schedulers) && not (is_open s (entries_of s ts)) && has_turn x o.limits (replayed x o.limits s (entries_of s ts)).machine w then Some (Take s w) else None) run.left
-    ∙ take_allowed _ _ _ (Take s orders) (lt-ltb s.0 _ declared) (is_open-entries_of s ts)
-    (ap (λ (r : Replayed). has_turn x o.limits r.machine orders) run.machine ∙ turn)
+-- the history with one entry more is that of its choices, where the entry is that of its choice
+grown : (x : Prog) (o : RunOptions) (es : List Entry) (e : Entry) → hist x o (map choice_of es) ≡ Ok es → entry_of x o es (choice_of e) ≡ Some e
+    → hist x o (map choice_of (es ++ e ∷ [])) ≡ Ok (es ++ e ∷ [])
+grown x o es e made allowed =
+    ap (hist x o) (map-append choice_of es (e ∷ []))
+    ∙ (goes_on x o (map choice_of es) (choice_of e ∷ []) [] es made
+    ∙ ap (λ (next : Option Entry). with_entry es next (hist_on x o [])) allowed)
 
--- what the scheduler's machine and notes are in its open instant
-in_turn : (x : Prog) (o : RunOptions) (s : SchedId) (ts : List SchedulerTurn) (m : Mach) (orders : List Order) → HasRun x o s ts m orders
-    → replayed x o.limits s (entries_of s ts ++ Take s orders ∷ []) ≡ one_more x o.limits (record { machine = m; notes = notes_of ts }) orders
-in_turn x o s ts m orders run =
-    ap (replay x o.limits s) (log_taken s (entries_of s ts) orders)
-    ∙ (replay_on-append x o.limits _ (log s (entries_of s ts)) orders
-    ∙ ap (λ (r : Replayed). one_more x o.limits r orders) run.machine)
+log_taken : (s : SchedId) (es : List Entry) (batch : List Order) → log s (es ++ Take s batch ∷ []) ≡ log s es ++ batch ∷ []
+log_taken s es batch = log-append s es (Take s batch ∷ []) ∙ ap (λ (own : Bool). log s es ++ (if own then batch ∷ [] else [])) (same_self s)
 
-given : (x : Prog) (o : RunOptions) (s : SchedId) (ts : List SchedulerTurn) (m : Mach) (orders : List Order)
-    → HasRun x o s ts m orders → s.0 < length (heads x).schedulers
-    → entry_of x o (entries_of s ts ++ Take s orders ∷ []) (GiveBy s) ≡ Some (Give s (instant x o.limits m orders).note.sent)
-given x o s ts m orders run declared =
-    ap (λ (r : Replayed). if nat_lt s.0 (length (heads x).schedulers) && is_open s (entries_of s ts ++ Take s orders ∷ []) then Some (Give s (sent_last r.notes)) else None) (in_turn x o s ts m orders run)
-    ∙ (give_allowed _ _ _ (lt-ltb s.0 _ declared) (opened s (entries_of s ts) orders)
-    ∙ ap (λ (sent : List Sent). Some (Give s sent)) (sent_last-append (notes_of ts) (instant x o.limits m orders).note))
+pub opened : (s : SchedId) (es : List Entry) (batch : List Order) → is_open s (es ++ Take s batch ∷ []) ≡ true
+opened s es batch = in_instant-append s es (Take s batch ∷ []) false ∙ ap (λ (b : Bool). b || in_instant s false es) (same_self s)
 
-choices_of-append : (s : SchedId) (es : List Entry) (batch : List Order) (sent : List Sent) → map choice_of (es ++ pair_of s batch sent) ≡ map choice_of es ++ (TakeBy s ∷ GiveBy s ∷ [])
-choices_of-append s [] batch sent = refl
-choices_of-append s (e ∷ es) batch sent = ap (λ (cs : List Choice). choice_of e ∷ cs) (choices_of-append s es batch sent)
+log_given : (s : SchedId) (es : List Entry) (sent : List Sent) → log s (es ++ Give s sent ∷ []) ≡ log s es
+log_given s es sent = log-append s es (Give s sent ∷ []) ∙ append-nil (log s es)
 
--- the history after one more turn
-history_after : (x : Prog) (o : RunOptions) (s : SchedId) (ts : List SchedulerTurn) (m : Mach) (orders : List Order)
-    → HasRun x o s ts m orders → s.0 < length (heads x).schedulers → has_turn x o.limits m orders ≡ true
-    → hist x o (map choice_of (entries_of s ts ++ pair_of s orders (instant x o.limits m orders).note.sent)) ≡ Ok (entries_of s ts ++ pair_of s orders (instant x o.limits m orders).note.sent)
-history_after x o s ts m orders run declared turn =
-    let es = entries_of s ts in
-    let sent = (instant x o.limits m orders).note.sent in
-    ap (λ (cs : List Choice). hist x o cs) (choices_of-append s es orders sent)
-    ∙ (goes_on x o (map choice_of es) (TakeBy s ∷ GiveBy s ∷ []) [] es run.history
-    ∙ (ap (λ (next : Option Entry). with_entry es next (hist_on x o (GiveBy s ∷ []))) (taken x o s ts m orders run declared turn)
-    ∙ (ap (λ (next : Option Entry). with_entry (es ++ Take s orders ∷ []) next (hist_on x o [])) (given x o s ts m orders run declared)
-    ∙ ap (λ (h : List Entry). Ok h) (append_assoc es (Take s orders ∷ []) (Give s sent ∷ [])))))
+shut : (s : SchedId) (es : List Entry) (sent : List Sent) → is_open s (es ++ Give s sent ∷ []) ≡ false
+shut s es sent = in_instant-append s es (Give s sent ∷ []) false ∙ ap (λ (b : Bool). not b && in_instant s false es) (same_self s)
 
--- the machine and the notes after one more turn
-machine_after : (x : Prog) (o : RunOptions) (s : SchedId) (ts : List SchedulerTurn) (m : Mach) (t : SchedulerTurn) → HasRun x o s ts m t.batch
-    → replayed x o.limits s (entries_of s (ts ++ t ∷ [])) ≡ one_more x o.limits (record { machine = m; notes = notes_of ts }) t.batch
-machine_after x o s ts m t run =
-    replayed-entries_of x o.limits s (ts ++ t ∷ [])
-    ∙ (ap (replay x o.limits s) (batches_of-append ts (t ∷ []))
-    ∙ (replay_on-append x o.limits _ (batches_of ts) t.batch
-    ∙ ap (λ (r : Replayed). one_more x o.limits r t.batch) (sym (replayed-entries_of x o.limits s ts) ∙ run.machine)))
-
--- before its first turn the scheduler's starts wait
-pub no_turn : (x : Prog) (o : RunOptions) (s : SchedId) → HasRun x o s [] (empty x s) (starts_of (heads x) s)
-no_turn x o s = record { history = refl; machine = refl; left = refl }
+-- ---- one turn more
 
 abbrev replayed_as : Mach → List InstantNote → Replayed
 replayed_as m ns = record { machine = m; notes = ns }
 
-same_replay : {a b : Mach} {ns ms : List InstantNote} → a ≡ b → ns ≡ ms → replayed_as a ns ≡ replayed_as b ms
-same_replay {b = b} {ns = ns} p q = ap (λ (m : Mach). replayed_as m ns) p ∙ ap (replayed_as b) q
+-- the scheduler's machine and notes in its open instant
+in_turn : (x : Prog) (o : RunOptions) (s : SchedId) (es : List Entry) (m : Mach) (notes : List InstantNote) (batch : List Order) → HasRun x o s es m notes
+    → replayed x o.limits s (es ++ Take s batch ∷ []) ≡ one_more x o.limits (replayed_as m notes) batch
+in_turn x o s es m notes batch run =
+    ap (replay x o.limits s) (log_taken s es batch)
+    ∙ (replay_on-append x o.limits _ (log s es) batch
+    ∙ ap (λ (r : Replayed). one_more x o.limits r batch) run.machine)
 
--- one more turn, on all orders that wait
-pub one_turn : (x : Prog) (o : RunOptions) (s : SchedId) (ts : List SchedulerTurn) (m : Mach) (orders : List Order) (note : InstantNote) (next : Mach)
-    → HasRun x o s ts m orders → s.0 < length (heads x).schedulers → has_turn x o.limits m orders ≡ true
-    → note ≡ (instant x o.limits m orders).note → next ≡ (instant x o.limits m orders).machine
-    → HasRun x o s (ts ++ record { batch = orders; note = note } ∷ []) next (orders_to s note.sent)
-one_turn x o s ts m orders note next run declared turn is_note is_next =
-    let t : SchedulerTurn = record { batch = orders; note = note } in
-    let sent = (instant x o.limits m orders).note.sent in
-    let es : entries_of s (ts ++ t ∷ []) ≡ entries_of s ts ++ pair_of s orders sent =
-    entries_of-append s ts (t ∷ []) ∙ ap (λ (n : InstantNote). entries_of s ts ++ pair_of s orders n.sent) is_note in
+-- the choice of a Take, where the scheduler has a turn
+taken : (x : Prog) (o : RunOptions) (s : SchedId) (es : List Entry) (m : Mach) (notes : List InstantNote)
+    → HasRun x o s es m notes → s.0 < length (heads x).schedulers → has_turn x o.limits m (waiting (heads x) s es) ≡ true
+    → entry_of x o es (choice_of (Take s (waiting (heads x) s es))) ≡ Some (Take s (waiting (heads x) s es))
+taken x o s es m notes run declared turn =
+    take_allowed _ _ _ (Take s (waiting (heads x) s es)) (lt-ltb s.0 _ declared) run.closed
+    (ap (λ (r : Replayed). has_turn x o.limits r.machine (waiting (heads x) s es)) run.machine ∙ turn)
+
+-- the choice of its Give
+given : (x : Prog) (o : RunOptions) (s : SchedId) (es : List Entry) (m : Mach) (notes : List InstantNote) (batch : List Order)
+    → HasRun x o s es m notes → s.0 < length (heads x).schedulers
+    → entry_of x o (es ++ Take s batch ∷ []) (choice_of (Give s (instant x o.limits m batch).note.sent)) ≡ Some (Give s (instant x o.limits m batch).note.sent)
+given x o s es m notes batch run declared =
+    ap (λ (r : Replayed). if nat_lt s.0 (length (heads x).schedulers) && is_open s (es ++ Take s batch ∷ []) then Some (Give s (sent_last r.notes)) else None) (in_turn x o s es m notes batch run)
+    ∙ (give_allowed _ _ _ (lt-ltb s.0 _ declared) (opened s es batch)
+    ∙ ap (λ (sent : List Sent). Some (Give s sent)) (sent_last-append notes (instant x o.limits m batch).note))
+
+-- what has run with the entries of one turn more
+turned : (x : Prog) (o : RunOptions) (s : SchedId) (es : List Entry) (m : Mach) (notes : List InstantNote)
+    → HasRun x o s es m notes → s.0 < length (heads x).schedulers → has_turn x o.limits m (waiting (heads x) s es) ≡ true
+    → let did = instant x o.limits m (waiting (heads x) s es) in
+    HasRun x o s ((es ++ Take s (waiting (heads x) s es) ∷ []) ++ Give s did.note.sent ∷ []) did.machine (notes ++ did.note ∷ [])
+turned x o s es m notes run declared turn =
+    let batch = waiting (heads x) s es in
+    let sent = (instant x o.limits m batch).note.sent in
+    let during : List Entry = es ++ Take s batch ∷ [] in
     record {
-      history = subst (λ (h : List Entry). hist x o (map choice_of h) ≡ Ok h) (sym es) (history_after x o s ts m orders run declared turn);
-      machine = machine_after x o s ts m t run ∙ same_replay (sym is_next) (ap (λ (n : InstantNote). notes_of ts ++ n ∷ []) (sym is_note) ∙ sym (notes_of-append ts (t ∷ [])));
-      left = waiting-turn (heads x) s ts t;
+      history = grown x o during (Give s sent) (grown x o es (Take s batch) run.history (taken x o s es m notes run declared turn)) (given x o s es m notes batch run declared);
+      closed = shut s during sent;
+      idle = λ w. left_after-append x o w during (Give s sent ∷ []) [] ∙ (left_after-append x o w es (Take s batch ∷ []) [] ∙ run.idle w);
+      machine = ap (replay x o.limits s) (log_given s during sent) ∙ in_turn x o s es m notes batch run;
     }
+
+-- the world after one more turn, on all orders that wait
+pub one_turn : (x : Prog) (o : RunOptions) (s : SchedId) (w v u : State) (m next : Mach) (notes : List InstantNote) (note : InstantNote) (batch : List Order) (sent : List Sent)
+    → w.heads ≡ heads x → HasRun x o s w.history m notes → s.0 < length (heads x).schedulers → has_turn x o.limits m (waiting w.heads s w.history) ≡ true
+    → batch ≡ waiting w.heads s w.history → note ≡ (instant x o.limits m batch).note → next ≡ (instant x o.limits m batch).machine → sent ≡ note.sent
+    → v ≡ with_one_more w (Take s batch) → u ≡ with_one_more v (Give s sent)
+    → HasRun x o s u.history next (notes ++ note ∷ [])
+one_turn x o s w v u m next notes note batch sent same run declared turn due is_note is_next is_sent takes gives =
+    let all : List Order = waiting (heads x) s w.history in
+    let whole : batch ≡ all = due ∙ ap (λ (h : Heads). waiting h s w.history) same in
+    let noted : note ≡ (instant x o.limits m all).note = is_note ∙ ap (λ (b : List Order). (instant x o.limits m b).note) whole in
+    let stands : next ≡ (instant x o.limits m all).machine = is_next ∙ ap (λ (b : List Order). (instant x o.limits m b).machine) whole in
+    let grows : u.history ≡ (w.history ++ Take s all ∷ []) ++ Give s (instant x o.limits m all).note.sent ∷ [] =
+    ap (λ (q : State). q.history) gives
+    ∙ (ap (λ (q : State). q.history ++ Give s sent ∷ []) takes
+    ∙ (ap (λ (b : List Order). (w.history ++ Take s b ∷ []) ++ Give s sent ∷ []) whole
+    ∙ (ap (λ (l : List Sent). (w.history ++ Take s all ∷ []) ++ Give s l ∷ []) is_sent
+    ∙ ap (λ (n : InstantNote). (w.history ++ Take s all ∷ []) ++ Give s n.sent ∷ []) noted))) in
+    let has : has_turn x o.limits m all ≡ true = ap (λ (h : Heads). has_turn x o.limits m (waiting h s w.history)) (sym same) ∙ turn in
+    subst (λ (l : List Entry). HasRun x o s l next (notes ++ note ∷ [])) (sym grows)
+    (subst (λ (q : Mach). HasRun x o s ((w.history ++ Take s all ∷ []) ++ Give s (instant x o.limits m all).note.sent ∷ []) q (notes ++ note ∷ [])) (sym stands)
+    (subst (λ (n : InstantNote). HasRun x o s ((w.history ++ Take s all ∷ []) ++ Give s (instant x o.limits m all).note.sent ∷ []) (instant x o.limits m all).machine (notes ++ n ∷ [])) (sym noted)
+    (turned x o s w.history m notes run declared has)))
+
+-- ---- the end of a run
 
 finished : {was turn : Bool} → was ≡ false → turn ≡ false → not was && not turn ≡ true
 finished w t = rw (w, t) refl
 
--- no worker has picked anything in these turns
-left-entries_of : (x : Prog) (o : RunOptions) (w : ℕ) (s : SchedId) (left : List Sent) (ts : List SchedulerTurn) → left_after x o w left (entries_of s ts) ≡ left
-left-entries_of x o w s left [] = refl
-left-entries_of x o w s left (t ∷ ts) = left-entries_of x o w s left ts
+only_scheduler : (s : SchedId) (names : List (List ℕ)) → length names ≡ 1 → s.0 ≡ 0 → schedulers_from 0 names ≡ s ∷ []
+only_scheduler s [] one zero = absurd cc
+only_scheduler s (name ∷ []) one zero = ap (λ n. (record { 0 = n }) ∷ []) (sym zero)
+only_scheduler s (name ∷ other ∷ names) one zero = absurd (omega arith)
+
+-- a list made of the only scheduler
+for_only : {A : Type 0} (f : SchedId → A) (s : SchedId) (all : List SchedId) (value : A) → all ≡ s ∷ [] → f s ≡ value → value ∷ [] ≡ map f all
+for_only f s all value one is = ap (λ a. a ∷ []) (sym is) ∙ ap (map f) (sym one)
+
+same_stand : (m : Mach) (last : FinalState) → last.linked ≡ m.linked → last.shared ≡ m.shared → stand_of m ≡ last
+same_stand m last linked shared = ap (λ (l : List Standing). record { linked = l; shared = m.shared }) (sym linked) ∙ ap (λ (v : List ℤ). record { linked = last.linked; shared = v }) (sym shared)
 
 -- a run without a further turn is whole, where no client sends and no thread waits for a worker
-pub whole : (x : Prog) (o : RunOptions) (s : SchedId) (run : Finished) (m : Mach) (orders : List Order) → HasRun x o s run.turns.items m orders
-    → s.0 ≡ 0 → length (heads x).schedulers ≡ 1 → length (heads x).clients ≡ 0 → jobs (entries_of s run.turns.items) ≡ [] → has_turn x o.limits m orders ≡ false
-    → run.last.linked ≡ m.linked → run.last.shared ≡ m.shared → run.left ≡ orders → IsWholeRun x o s run
-whole x o s run m orders made first only no_clients no_jobs turn linked shared left =
-    let es = entries_of s run.turns.items in
+pub whole : (x : Prog) (o : RunOptions) (s : SchedId) (w : State) (m : Mach) (notes : List InstantNote) (last : FinalState) (all : List (List InstantNote)) (lasts : List FinalState)
+    → w.heads ≡ heads x → HasRun x o s w.history m notes
+    → s.0 ≡ 0 → length (heads x).schedulers ≡ 1 → length (heads x).clients ≡ 0 → jobs w.history ≡ [] → has_turn x o.limits m (waiting w.heads s w.history) ≡ false
+    → last.linked ≡ m.linked → last.shared ≡ m.shared → all ≡ notes ∷ [] → lasts ≡ last ∷ []
+    → IsWholeRun x o (record { world = w; notes = record { of = all }; finals = record { of = lasts } })
+whole x o s w m notes last all lasts same made first only no_clients no_jobs turn linked shared all_notes all_lasts =
+    let es = w.history in
+    let one : schedulers x ≡ s ∷ [] = only_scheduler s (heads x).schedulers only first in
+    let none : has_turn x o.limits m (waiting (heads x) s es) ≡ false = ap (λ (h : Heads). has_turn x o.limits m (waiting h s es)) (sym same) ∙ turn in
     record {
+      heads = same;
       history = made.history;
       ended = record {
         clients = λ c declared. absurd (omega (arith, no_clients, declared));
         no_jobs = no_jobs;
-        workers = λ w declared. left-entries_of x o w s [] run.turns.items;
+        workers = λ v declared. made.idle v;
         schedulers = λ q declared. subst (λ (r : SchedId). IsTrue (has_finished x o es r)) (same_id s q (omega arith))
-            (finished (is_open-entries_of s run.turns.items) (ap (λ (w : List Order). has_turn x o.limits (replayed x o.limits s es).machine w) made.left ∙ (ap (λ (r : Replayed). has_turn x o.limits r.machine orders) made.machine ∙ turn)));
+            (finished made.closed (ap (λ (r : Replayed). has_turn x o.limits r.machine (waiting (heads x) s es)) made.machine ∙ none));
       };
-      notes = ap (λ (r : Replayed). r.notes) made.machine;
-      linked = ap (λ (r : Replayed). r.machine.linked) made.machine ∙ sym linked;
-      shared = ap (λ (r : Replayed). r.machine.shared) made.machine ∙ sym shared;
-      left = made.left ∙ sym left;
+      replay = record {
+        told = all_notes ∙ for_only (λ (q : SchedId). (replayed x o.limits q es).notes) s (schedulers x) notes one (ap (λ (r : Replayed). r.notes) made.machine);
+        stands = all_lasts ∙ for_only (λ (q : SchedId). stand_of (replayed x o.limits q es).machine) s (schedulers x) last one (ap (λ (r : Replayed). stand_of r.machine) made.machine ∙ same_stand m last linked shared);
+      };
     }
-
-pub same_run : {x : Prog} {o : RunOptions} {s : SchedId} {ts us : List SchedulerTurn} {m : Mach} {os ps : List Order} → ts ≡ us → os ≡ ps → HasRun x o s ts m os → HasRun x o s us m ps
-same_run {x = x} {o = o} {s = s} {us = us} {m = m} {os = os} e f run =
-    subst (λ (q : List Order). HasRun x o s us m q) f (subst (λ (q : List SchedulerTurn). HasRun x o s q m os) e run)
 
 unspent_turn : (spent rest : Bool) → not spent && rest ≡ true → spent ≡ false
 unspent_turn false rest e = refl

@@ -1,63 +1,18 @@
 //! The run of a program with one scheduler, on one thread.
 
-ghost use Rattle.std.specs.Prelude.{◌≡◌, IfOk, length, false};
+ghost use Rattle.std.specs.Prelude.{◌≡◌, IfOk, [], ◌∷◌, length, false};
 ghost use Rattle.loft_sense.specs.declared.limits.RunOptions.{RunOptions};
 ghost use Rattle.loft_sense.specs.Machine.{empty, heads as heads_of};
-ghost use Rattle.loft_sense.specs.History.{is_addressed, orders_to, starts_of, has_turn as has_turn_on};
+ghost use Rattle.loft_sense.specs.History.{has_turn as has_turn_on};
 ghost use Rattle.loft_turns.specs.Running.{AlwaysFits, NeverLeaves, IsWholeRun};
 
-use loft_base::{Gate, Maker, NoMemory, SchedId, Sequence, ThreadId, Turn};
-use loft_sense::{Engine, Finished, Order, Orders, SchedulerTurn, Sent, To};
+use loft_base::{Gate, NoMemory, SchedId, Sequence, Turn};
+use loft_sense::{Engine, Orders};
 use loft_tree::Heads;
+use loft_world::{Finals, Finished, Notes, World};
 use std::alloc::Global;
-use std::mem;
 use std::sync::Wait;
 use std::thread::Threads;
-
-/// The creates of a scheduler's starts, in text order.
-fn starts(alloc: Global, heads: &Heads, scheduler: SchedId) -> Result<Orders, NoMemory>
-    ensures { IfOk result (λ orders. orders ≡ starts_of heads.now scheduler) }
-{
-    let mut orders = Sequence::new(alloc);
-    for (k, start) in heads.starts.as_slice().iter().enumerate() {
-        if scheduler.0 == start.scheduler.0 {
-            orders.push(Order::Create {
-                thread: ThreadId {
-                    maker: Maker::Source,
-                    seq: k as u64,
-                },
-                module: start.module,
-                args: Sequence::from_slice(alloc, start.arguments.as_slice())?,
-            })?;
-        }
-    }
-    Ok(orders)
-}
-
-/// Whether a scheduler is addressed.
-fn is_addressed(scheduler: SchedId, to: To) -> bool
-    ensures { result ≡ is_addressed scheduler to }
-{
-    match to {
-        To::Sched(other) => scheduler.0 == other.0,
-        To::Others(other) => scheduler.0 != other.0,
-        To::All => true,
-        To::Workers => false,
-    }
-}
-
-/// The orders that are addressed to a scheduler, in the order in which they were sent.
-fn orders_to(alloc: Global, scheduler: SchedId, sents: &[Sent]) -> Result<Orders, NoMemory>
-    ensures { IfOk result (λ orders. orders ≡ orders_to scheduler sents.now) }
-{
-    let mut orders = Sequence::new(alloc);
-    for sent in sents {
-        if is_addressed(scheduler, sent.to) {
-            orders.push(sent.order.try_clone(alloc)?)?;
-        }
-    }
-    Ok(orders)
-}
 
 /// Whether the scheduler has a turn to make on these orders.
 fn has_turn<E: Engine>(engine: &E, orders: &Orders) -> bool
@@ -68,12 +23,21 @@ fn has_turn<E: Engine>(engine: &E, orders: &Orders) -> bool
     !engine.spent() && !(engine.resting() && orders.is_empty())
 }
 
+/// A list of one.
+fn list_of<T: Drop>(alloc: Global, only: T) -> Result<Sequence<T>, NoMemory>
+    ensures { IfOk result (λ list. list ≡ only ∷ []) }
+{
+    let mut list = Sequence::new(alloc);
+    list.push(only)?;
+    Ok(list)
+}
+
 /// All turns of the only scheduler of a program without clients, of which no thread ever waits for a
-/// worker (docs/SEMANTICS.md, "History"): each takes the orders that wait, passes the gate and makes
-/// an instant, and what that sends to this scheduler waits for the next. None is made where the
-/// bounds are used up, nor where the scheduler rests and nothing waits. Of a run's options the
-/// engine's limits alone count. `NoMemory` comes where an allocation fails, of this call or of the
-/// engine.
+/// worker (docs/SEMANTICS.md, "History"), on a world of its own: each takes the orders that wait,
+/// passes the gate, makes an instant and gives what that sent, of which the orders to this scheduler
+/// wait for the next. None is made where the bounds are used up, nor where the scheduler rests and
+/// nothing waits. Of a run's options the engine's limits alone count. `NoMemory` comes where an
+/// allocation fails, of this call, of the world or of the engine.
 pub fn run_alone<R: Threads + Wait + Sync, E: Engine, G: Gate>(
     rt: &R,
     alloc: Global,
@@ -91,26 +55,32 @@ pub fn run_alone<R: Threads + Wait + Sync, E: Engine, G: Gate>(
     requires linked { NeverLeaves (E.program engine) (E.limits engine) }
     requires fits { AlwaysFits (E.program engine) (E.limits engine) scheduler }
     ensures { IfOk result (λ run. (o : RunOptions) → o.limits ≡ E.limits engine
-        → IsWholeRun (E.program engine) o scheduler run) }
+        → IsWholeRun (E.program engine) o run) }
 {
-    let mut turns = Vec::new(alloc);
-    let mut orders = starts(alloc, heads, scheduler)?;
-    'turns: while has_turn(&engine, &orders) {
+    let mut world = World::make(alloc, heads)?;
+    let mut notes = Sequence::new(alloc);
+    'turns: while has_turn(&engine, world.left(scheduler)) {
+        let batch = world.take(alloc, scheduler)?;
+        let number = engine.instant().saturating_add(1);
         gate.pass(
             rt,
             Turn::Instant {
                 s: scheduler,
-                number: engine.instant().saturating_add(1),
+                number,
             },
         );
-        let note = engine.take(alloc, &orders)?;
-        let next = orders_to(alloc, scheduler, note.sent.as_slice())?;
-        let batch = mem::replace(&mut orders, next);
-        turns.push(SchedulerTurn { batch, note })?;
+        let note = engine.take(alloc, &batch)?;
+        world.give(alloc, scheduler, &note.sent)?;
+        notes.push(note)?;
     }
+    let last = engine.last(alloc)?;
     Ok(Finished {
-        turns,
-        last: engine.last(alloc)?,
-        left: orders,
+        world,
+        notes: Notes {
+            of: list_of(alloc, notes)?,
+        },
+        finals: Finals {
+            of: list_of(alloc, last)?,
+        },
     })
 }

@@ -162,12 +162,13 @@ fn leave(
 }
 
 /// The thread ends.
-fn end(beside: Beside, end: End, left: u64) -> Result<Gone, NoMemory>
+fn end(mut beside: Beside, end: End, left: u64) -> Result<Gone, NoMemory>
     requires { left ≤ beside.around.bound }
     ensures ended { IfOk result (λ gone. gone_of gone ≡ ends end (beside_of beside) left) }
     ensures bound { IfOk result (λ gone. gone.around.bound ≡ beside.around.bound) }
 {
-    let around = around_after(beside.end(end)?, left);
+    beside.end(end)?;
+    let around = around_after(beside.around, left);
     let outcome = Outcome::Ended(end);
     Ok(Gone { outcome, around })
 }

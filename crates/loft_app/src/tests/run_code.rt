@@ -61,15 +61,7 @@ fn report_by_code<R: Threads + Wait + Sync + AllocGlobal>(
     placed.program();
     let code = compile(rt.alloc(), placed)?;
     let mut sink = MemSink::new(rt.alloc(), 4096)?;
-    let ran = run_code(
-        rt,
-        rt.alloc(),
-        &code,
-        limits,
-        workers,
-        &mut sink,
-        &OpenGate,
-    );
+    let ran = run_code(rt, rt.alloc(), &code, limits, workers, &mut sink, &OpenGate);
     if ran.is_err() {
         return Err("the run fails".into());
     }

@@ -14,7 +14,7 @@ pub fn push_sent_value(line: &mut LineBuffer, value: Option<i64>) -> Result<(), 
     ensures { OnOk result (line.new ≡ line.old ++ sent_value value) }
 {
     if let Some(number) = value {
-        line.text(" ")?;
+        line.byte(b' ')?;
         line.signed(number)?;
     }
     Ok(())
@@ -34,11 +34,11 @@ fn push_create(
 {
     line.text("create ")?;
     push_id(line, heads, thread)?;
-    line.text(" ")?;
+    line.byte(b' ')?;
     push_module_name(line, heads, module)?;
-    line.text("(")?;
+    line.byte(b'(')?;
     push_separated(line, heads, args)?;
-    line.text(")")
+    line.byte(b')')
 }
 
 /// A word, and the name of a thread.
@@ -102,6 +102,6 @@ fn push_ended(
         ++ (codes "ended " ++ (id_text heads.now thread ++ (space ++ end_text heads.now end)))) }
 {
     push_word_and_id(line, heads, "ended ", thread)?;
-    line.text(" ")?;
+    line.byte(b' ')?;
     push_end(line, heads, end)
 }

@@ -16,7 +16,7 @@ fn push_left(line: &mut LineBuffer, left: Option<i64>) -> Result<(), NoMemory>
 {
     match left {
         Some(number) => line.signed(number),
-        None => line.text("-"),
+        None => line.byte(b'-'),
     }
 }
 
@@ -44,7 +44,7 @@ fn push_events(
     };
     push_events_word(line, others)?;
     push_left(line, left)?;
-    line.text(":")?;
+    line.byte(b':')?;
     push_separated(line, heads, events)
 }
 
@@ -60,7 +60,7 @@ fn push_join(
 {
     line.text("join:")?;
     push_left(line, left)?;
-    line.text(":")?;
+    line.byte(b':')?;
     push_id(line, heads, thread)
 }
 
@@ -88,9 +88,9 @@ pub fn push_thread(line: &mut LineBuffer, heads: &Heads, thread: &Thread) -> Res
 {
     push_id(line, heads, thread.id)?;
     push_code_and_mask(line, thread.code, thread.mask)?;
-    line.text(" ")?;
+    line.byte(b' ')?;
     push_wait(line, heads, &thread.wait)?;
-    line.text(" ")?;
+    line.byte(b' ')?;
     push_separated_by(line, heads, " ", thread.frames.as_slice())
 }
 
@@ -99,8 +99,8 @@ fn push_code_and_mask(line: &mut LineBuffer, code: i64, mask: i64) -> Result<(),
     ensures { OnOk result (line.new ≡ line.old
         ++ (space ++ (signed_decimal code ++ (space ++ signed_decimal mask)))) }
 {
-    line.text(" ")?;
+    line.byte(b' ')?;
     line.signed(code)?;
-    line.text(" ")?;
+    line.byte(b' ')?;
     line.signed(mask)
 }

@@ -2,7 +2,6 @@ use Rattle.std.proofs.Common.{sym, subst}
 use Rattle.loft_tree.specs.ProgramView.{program_of}
 use Rattle.loft_tree.specs.Resolved.{resolved_of}
 use Rattle.loft_code.specs.Operations.{Automata}
-use Rattle.loft_sense.specs.declared.limits.Limits.{Limits}
 use Rattle.loft_sense.specs.Machine.{Prog, Code}
 use Rattle.loft_compile.specs.Compiled.{compiled}
 use Rattle.loft_engine.specs.CodeEngine.{limits_of}
@@ -13,7 +12,7 @@ use Rattle.loft_alike.proofs.tests.report_by_code.Goals as goal
 pub report_by-requires-clause-well : goal.report_by-requires-clause-well
 report_by-requires-clause-well g c κs within =
     subst IsWellFormed (sym c.in_ok-engine.ensures.program)
-    (record { limits = c.program.ensures.fits; valid = c.program.ensures.valid })
+    (record { limits = c.program-2.ensures.fits; valid = c.program-2.ensures.valid })
 
 pub report_by-requires-clause-linked : goal.report_by-requires-clause-linked
 report_by-requires-clause-linked g c κs within =

@@ -1,18 +1,14 @@
-use Rattle.std.proofs.Common.{◌≡◌, sym, ap, subst, length}
-use Rattle.loft_tree.specs.declared.heads.Heads.{Heads}
+use Rattle.std.proofs.Common.{◌≡◌, ◌∙◌, sym, ap, subst}
 use Rattle.loft_code.specs.declared.raw.CodeProgram.{CodeProgram}
 use Rattle.loft_code.specs.View.{automata_of}
 use Rattle.loft_sense.specs.declared.limits.Limits.{Limits}
-use Rattle.loft_sense.specs.declared.limits.RunOptions.{RunOptions}
-use Rattle.loft_sense.specs.declared.turn.Finished.{Finished}
 use Rattle.loft_sense.specs.Machine.{Prog, Code, heads}
 use Rattle.loft_stand.specs.WellFormed.{IsValidCode}
 use Rattle.loft_engine.specs.CodeEngine.{limits_of}
-use Rattle.loft_log.specs.RunReport.{run_report}
-use Rattle.loft_turns.specs.Running.{AlwaysFits, NeverLeaves, IsWholeRun}
+use Rattle.loft_turns.specs.Running.{AlwaysFits, NeverLeaves}
 use Rattle.loft_app.specs.Promise.{IsReport}
 use Rattle.loft_app.specs.Alone.{options_of}
-use Rattle.loft_app.proofs.Reported.{only, whole_report}
+use Rattle.loft_app.proofs.Reported.{only, text_of_run, whole_run, written_report}
 use Rattle.loft_app.proofs.Written.{appends, begun, err_holds}
 use Rattle.loft_app.proofs.run_code.run_code.Goals as goal
 
@@ -28,20 +24,21 @@ run_alone-requires-clause-linked g c κs within =
     subst (λ (x : Prog). NeverLeaves x (limits_of c.in_ok-engine.engine)) (sym c.in_ok-engine.ensures.program)
     (subst (λ (l : Limits). NeverLeaves (Code (automata_of c.args.c.now)) l) (sym c.in_ok-engine.ensures.limits) c.requires.linked)
 
--- the report of the run
-written : (x y : Prog) (h : Heads) (limits : Limits) (o : RunOptions) (run : Finished) → length (heads x).schedulers ≡ 1 → h ≡ heads x
-    → y ≡ x → limits ≡ o.limits → ((q : RunOptions) → q.limits ≡ limits → IsWholeRun y q only run)
-    → IsReport x o (run_report h o only run)
-written x y h limits o run one declared same bounds made =
-    subst (λ (q : Heads). IsReport x o (run_report q o only run)) (sym declared) (whole_report x y limits o run one same bounds made)
+pub write_report-requires : goal.write_report-requires
+write_report-requires g c =
+    let x = Code (automata_of c.args.c.now) in
+    let o = options_of c.args.l c.args.workers in
+    let declared : c.program.result.now.heads ≡ heads x = ap (λ (q : CodeProgram). q.heads) c.program.ensures.program in
+    record { heads = (whole_run x o _ _ c.in_ok-run.run' (c.in_ok-engine.ensures.program, c.in_ok-engine.ensures.limits, c.in_ok-run.ensures)).heads ∙ sym declared }
 
 pub returns-clause-report : goal.returns-clause-report
 returns-clause-report g c =
     let x = Code (automata_of c.args.c.now) in
     let o = options_of c.args.l c.args.workers in
     let declared : c.program.result.now.heads ≡ heads x = ap (λ (q : CodeProgram). q.heads) c.program.ensures.program in
-    appends {P = IsReport x o} (run_report c.program.result.now.heads o only c.in_ok-run.run') c.in_ok-write_report.ensures.ok
-    (written x _ c.program.result.now.heads _ o c.in_ok-run.run' c.requires.alone.scheduler declared c.in_ok-engine.ensures.program c.in_ok-engine.ensures.limits c.in_ok-run.ensures)
+    appends {P = IsReport x o} (text_of_run c.program.result.now.heads o c.in_ok-run.run') c.in_ok-write_report.ensures.ok
+    (written_report x o _ _ c.in_ok-run.run' c.program.result.now.heads c.reports_of_worlds_are_of_histories.ensures declared
+    (c.in_ok-engine.ensures.program, c.in_ok-engine.ensures.limits, c.in_ok-run.ensures))
 
 pub returns-in_err-write_report-clause-failed : goal.returns-in_err-write_report-clause-failed
 returns-in_err-write_report-clause-failed g c =
@@ -49,5 +46,6 @@ returns-in_err-write_report-clause-failed g c =
     let o = options_of c.args.l c.args.workers in
     let declared : c.program.result.now.heads ≡ heads x = ap (λ (q : CodeProgram). q.heads) c.program.ensures.program in
     err_holds c.from_residual-in_err-write_report.result
-    (begun (IsReport x o) (run_report c.program.result.now.heads o only c.in_ok-run.run') c.in_err-write_report.ensures.failed
-    (written x _ c.program.result.now.heads _ o c.in_ok-run.run' c.requires.alone.scheduler declared c.in_ok-engine.ensures.program c.in_ok-engine.ensures.limits c.in_ok-run.ensures))
+    (begun (IsReport x o) (text_of_run c.program.result.now.heads o c.in_ok-run.run') c.in_err-write_report.ensures.failed
+    (written_report x o _ _ c.in_ok-run.run' c.program.result.now.heads c.reports_of_worlds_are_of_histories.ensures declared
+    (c.in_ok-engine.ensures.program, c.in_ok-engine.ensures.limits, c.in_ok-run.ensures)))

@@ -3,4 +3,4 @@ use Rattle.loft_sense.proofs.copy.frames_from.Given as goal
 
 -- those so far
 abbrev pub invariant-loop-frame : goal.invariant-loop-frame
-invariant-loop-frame l = l.copy ≡ take l.frame-index l.frames
+invariant-loop-frame l = l.copy.items ≡ take l.frame-index l.frames

@@ -5,5 +5,5 @@ use Rattle.loft_step.proofs.thread.end.Goals as goal
 
 pub returns-clause-ended : goal.returns-clause-ended
 returns-clause-ended c =
-    c.in_ok-around.ensures.ended (steps_left c.in_ok-around.around)
-    ∙ ap (λ (p : Pace). ends c.args.end (beside_of c.args.beside) (p.bound - p.steps)) c.in_ok-around.ensures.pace
+    c.in_ok-end.ensures.ended (steps_left c.end.new.self.around)
+    ∙ ap (λ (p : Pace). ends c.args.end (beside_of c.args.beside.now) (p.bound - p.steps)) c.in_ok-end.ensures.pace

@@ -7,4 +7,4 @@ use Rattle.loft_walk.proofs.thread.end.Goals as goal
 pub returns-clause-ended : goal.returns-clause-ended
 returns-clause-ended c =
     ap (λ (a : Around). Ended c.args.end a (steps_left c.around_after-around.result)) c.around_after-around.ensures.same
-    ∙ (ap (Ended c.args.end (around_of c.in_ok-end.field-0)) c.around_after-around.ensures.left ∙ c.in_ok-end.ensures.ended c.args.left)
+    ∙ (ap (Ended c.args.end (around_of c.end.new.self.around)) c.around_after-around.ensures.left ∙ c.in_ok-end.ensures.ended c.args.left)

@@ -5,16 +5,10 @@ use Rattle.loft_code.specs.Operations.{Automata}
 use Rattle.loft_sense.specs.Machine.{Code}
 use Rattle.loft_compile.specs.Compiled.{compiled}
 use Rattle.loft_turns.specs.Running.{NeverLeaves}
-use Rattle.loft_app.specs.Alone.{RunsAlone}
-use Rattle.loft_app.proofs.Reported.{built_alone}
 use Rattle.loft_app.proofs.tests.run_code.report_by_code.Goals as goal
 
-pub run_code-requires-clause-alone : goal.run_code-requires-clause-alone
-run_code-requires-clause-alone g c κs within =
-    subst (λ (a : Automata). RunsAlone a.heads) (sym c.in_ok-code.ensures) (built_alone (program_of c.args.placed.now) c.requires.built)
-
-pub run_code-requires-clause-linked : goal.run_code-requires-clause-linked
-run_code-requires-clause-linked g c κs within =
+pub run_code-ran-requires-clause-linked : goal.run_code-ran-requires-clause-linked
+run_code-ran-requires-clause-linked g c κs within =
     let n = program_of c.args.placed.now in
     subst (λ (a : Automata). NeverLeaves (Code a) c.args.limits) (sym c.in_ok-code.ensures)
     (c.programs_without_unlink_stay_linked.ensures.made n (Code (compiled (resolved_of n))) c.requires.built

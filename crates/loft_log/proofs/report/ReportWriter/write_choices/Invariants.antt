@@ -2,13 +2,12 @@ use Rattle.std.proofs.Common.{drop, map}
 use Rattle.loft_sense.specs.Lines.{text_of}
 use Rattle.loft_sense.specs.Report.{choice_line}
 use Rattle.loft_sense.specs.History.{choice_of}
-use Rattle.loft_sense.specs.Turns.{entries_of}
 use Rattle.loft_base.proofs.WritesLemmas.{Going}
 use Rattle.loft_log.proofs.report.ReportWriter.write_choices.Given as goal
 
--- the choices of the turns from here on are left
-abbrev pub invariant-loop-turn : goal.invariant-loop-turn
-invariant-loop-turn g l =
+-- the choices of the entries from here on are left
+abbrev pub invariant-loop-index : goal.invariant-loop-index
+invariant-loop-index g l =
     Going (g.S.Sink.written l.initial.sink) (g.S.Sink.written l.sink) (g.S.Sink.faults l.initial.sink) (g.S.Sink.faults l.sink)
-    (text_of (map (choice_line l.self.heads.now) (map choice_of (entries_of l.s (drop l._turn-index l.turns)))))
-    (text_of (map (choice_line l.self.heads.now) (map choice_of (entries_of l.s l.turns))))
+    (text_of (map (choice_line l.self.heads.now) (map choice_of (drop l.index l.world.history))))
+    (text_of (map (choice_line l.self.heads.now) (map choice_of l.world.history)))

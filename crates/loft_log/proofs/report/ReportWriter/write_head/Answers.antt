@@ -1,7 +1,8 @@
-use Rattle.std.proofs.Common.{◌≡◌, Err, refl}
+use Rattle.std.proofs.Common.{◌≡◌, Err, refl, sym, ◌∙◌}
 use Rattle.std.proofs.lemmas.Result.{err_from_is_err_and}
 use Rattle.loft_base.proofs.WritesLemmas.{begins, goes_on, fails, closes}
-use Rattle.loft_log.proofs.ReportLemmas.{choices-count}
+use Rattle.std.proofs.lemmas.List.{length-map}
+use Rattle.loft_sense.specs.History.{choice_of}
 use Rattle.loft_log.proofs.report.ReportWriter.write_head.Goals as goal
 
 pub returns-in_err-write_text : goal.returns-in_err-write_text
@@ -38,7 +39,7 @@ pub returns-in_err-write_number-5 : goal.returns-in_err-write_number-5
 returns-in_err-write_number-5 g c =
     let p = err_from_is_err_and c.from_residual-in_err-write_number-5.result c.from_residual-in_err-write_number-5.ensures.1 in
     let is : c.from_residual-in_err-write_number-5.result ≡ Err c.in_err-write_number-5.field-0.0 = rw (p.1, p.2) refl in
-    fails _ is (rw (choices-count c.args.s c.args.turns.now) at c.in_err-write_number-5.ensures) (goes_on _ (rw c.from.ensures at c.in_ok-write_number-4.ensures) (goes_on _ c.in_ok-write_number-3.ensures (goes_on _ c.in_ok-write_number-2.ensures (goes_on _ c.in_ok-write_number.ensures (goes_on _ c.in_ok-write_text.ensures (begins _ _ _))))))
+    fails _ is (rw (c.length.ensures.length ∙ sym (length-map c.args.world.now.history choice_of)) at c.in_err-write_number-5.ensures) (goes_on _ (rw c.from.ensures at c.in_ok-write_number-4.ensures) (goes_on _ c.in_ok-write_number-3.ensures (goes_on _ c.in_ok-write_number-2.ensures (goes_on _ c.in_ok-write_number.ensures (goes_on _ c.in_ok-write_text.ensures (begins _ _ _))))))
 
 pub returns : goal.returns
-returns g c = closes c.write_choices.ensures (goes_on _ (rw (choices-count c.args.s c.args.turns.now) at c.in_ok-write_number-5.ensures) (goes_on _ (rw c.from.ensures at c.in_ok-write_number-4.ensures) (goes_on _ c.in_ok-write_number-3.ensures (goes_on _ c.in_ok-write_number-2.ensures (goes_on _ c.in_ok-write_number.ensures (goes_on _ c.in_ok-write_text.ensures (begins _ _ _)))))))
+returns g c = closes c.write_choices.ensures (goes_on _ (rw (c.length.ensures.length ∙ sym (length-map c.args.world.now.history choice_of)) at c.in_ok-write_number-5.ensures) (goes_on _ (rw c.from.ensures at c.in_ok-write_number-4.ensures) (goes_on _ c.in_ok-write_number-3.ensures (goes_on _ c.in_ok-write_number-2.ensures (goes_on _ c.in_ok-write_number.ensures (goes_on _ c.in_ok-write_text.ensures (begins _ _ _)))))))

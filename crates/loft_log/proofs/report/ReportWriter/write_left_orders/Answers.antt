@@ -7,8 +7,8 @@ use Rattle.loft_sense.specs.Lines.{text_of}
 use Rattle.loft_sense.specs.Report.{left_line}
 use Rattle.loft_log.proofs.report.ReportWriter.write_left_orders.Goals as goal
 
-pub returns-in_err-left_order_line : goal.returns-in_err-left_order_line
-returns-in_err-left_order_line g c =
+pub returns-in_err-make_left_order_line : goal.returns-in_err-make_left_order_line
+returns-in_err-make_left_order_line g c =
     let p = err_from_is_err_and c.from_residual.result c.from_residual.ensures.1 in
     let is : c.from_residual.result ≡ Err NoMemory = rw (p.1, p.2) refl in
     lacks_memory is c.loop-order.invariant
@@ -17,7 +17,7 @@ pub returns-in_err-write_line : goal.returns-in_err-write_line
 returns-in_err-write_line g c =
     let p = err_from_is_err_and c.from_residual-in_err-write_line.result c.from_residual-in_err-write_line.ensures.1 in
     let is : c.from_residual-in_err-write_line.result ≡ Err c.in_err-write_line.field-0.0 = rw (p.1, p.2) refl in
-    fails _ is (rw c.in_ok-left_order_line.ensures at c.in_err-write_line.ensures) (rest_is (ap (λ items. text_of (map (left_line c.args.self.now.heads.now c.args.s) items)) (drop-at c.args.orders.now c.loop-order.order-index c.order-item.result c.loop-order-test.true c.order-item.is)) c.loop-order.invariant)
+    fails _ is (rw c.in_ok-make_left_order_line.ensures at c.in_err-write_line.ensures) (rest_is (ap (λ items. text_of (map (left_line c.args.self.now.heads.now c.args.s) items)) (drop-at c.args.orders.now c.loop-order.order-index c.order-item.result c.loop-order-test.true c.order-item.is)) c.loop-order.invariant)
 
 pub loop-order-preserved : goal.loop-order-preserved
-loop-order-preserved g c = goes_on _ (rw c.in_ok-left_order_line.ensures at c.in_ok-write_line.ensures) (rest_is (ap (λ items. text_of (map (left_line c.args.self.now.heads.now c.args.s) items)) (drop-at c.args.orders.now c.loop-order.order-index c.order-item.result c.loop-order-test.true c.order-item.is)) c.loop-order.invariant)
+loop-order-preserved g c = goes_on _ (rw c.in_ok-make_left_order_line.ensures at c.in_ok-write_line.ensures) (rest_is (ap (λ items. text_of (map (left_line c.args.self.now.heads.now c.args.s) items)) (drop-at c.args.orders.now c.loop-order.order-index c.order-item.result c.loop-order-test.true c.order-item.is)) c.loop-order.invariant)

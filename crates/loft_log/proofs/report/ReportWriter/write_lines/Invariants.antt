@@ -7,5 +7,5 @@ use Rattle.loft_log.proofs.report.ReportWriter.write_lines.Given as goal
 abbrev pub invariant-loop-item : goal.invariant-loop-item
 invariant-loop-item g l =
     Going (g.S.Sink.written l.initial.sink) (g.S.Sink.written l.sink) (g.S.Sink.faults l.initial.sink) (g.S.Sink.faults l.sink)
-    (text_of (map (g.T.InOneLine.line l.self.heads.now) (drop l.item-index l.items)))
-    (text_of (map (g.T.InOneLine.line l.self.heads.now) l.items))
+    (text_of (map (g.T.InOneLine.text l.self.heads.now) (drop l.item-index l.items)))
+    (text_of (map (g.T.InOneLine.text l.self.heads.now) l.items))

@@ -1,0 +1,29 @@
+use Rattle.std.proofs.Common.{rules, List, length, ap, ◌∙◌, sym, arith, length-append}
+use Rattle.loft_sense.specs.declared.entry.Entry.{Entry}
+use Rattle.loft_world.specs.State.{count_in}
+use Rattle.loft_world.proofs.StateLemmas.{client_added, one_create, other_order, creates_within}
+use Rattle.loft_world.proofs.world.World.client.Goals as goal
+
+pub add_one-requires-clause-few : goal.add_one-requires-clause-few
+add_one-requires-clause-few c =
+    let w = c.self.inside in
+    let longer = simp length-append at (ap (λ (l : List Entry). length l) c.in_ok-add.ensures.entries) in
+    omega (arith, c.make_room.ensures.same c.args.c, c.self.invariant.clients c.args.c, creates_within c.args.c w.entries.items)
+
+pub invariant_of-self-then-is_create : goal.invariant_of-self-then-is_create
+invariant_of-self-then-is_create c =
+    let w = c.self.inside in
+    client_added w.heads w.entries.items c.add.new.entries.items w.waits.items c.add.new.waits.items w.jobs.items c.add.new.jobs.items
+    (count_in w.creates) (count_in c.add_one.new.counts) c.args.c c.in_ok-copy.copy c.args.sent.now
+    c.self.invariant c.in_ok-copy.ensures
+    (λ d. one_create d c.args.c c.args.sent.now (count_in w.creates d) (count_in c.add_one.new.counts d) (sym c.is_create.ensures ∙ c.if-is_create.true) (search rules))
+    c.in_ok-add.ensures.entries (search rules) (search rules)
+
+pub invariant_of-self-else-is_create : goal.invariant_of-self-else-is_create
+invariant_of-self-else-is_create c =
+    let w = c.self.inside in
+    client_added w.heads w.entries.items c.add.new.entries.items w.waits.items c.add.new.waits.items w.jobs.items c.add.new.jobs.items
+    (count_in w.creates) (count_in c.make_room.new.counts) c.args.c c.in_ok-copy.copy c.args.sent.now
+    c.self.invariant c.in_ok-copy.ensures
+    (λ d. c.make_room.ensures.same d ∙ other_order d c.args.c c.args.sent.now (count_in w.creates d) (sym c.is_create.ensures ∙ c.if-is_create.false))
+    c.in_ok-add.ensures.entries (search rules) (search rules)

@@ -1,0 +1,13 @@
+//! The history of a run, with what waits beside it: one call, one entry.
+#![tactic(auto)]
+
+mod counts;
+mod duplicate;
+mod orders;
+mod results;
+mod start;
+mod world;
+
+pub use loft_sense::{Actor, Entry};
+pub use results::{FinalStates, Finals, Finished, NoteList, NoteLists, Notes};
+pub use world::World;

@@ -1,0 +1,42 @@
+//! What waits before the first entry: the creates of the source's starts.
+
+ghost use Rattle.std.specs.Prelude.{◌≡◌, length, IfOk};
+ghost use Rattle.loft_sense.specs.History.{starts_of};
+ghost use Rattle.loft_world.specs.State.{scheduler, AreEach};
+
+use loft_base::{Maker, NoMemory, Sequence, ThreadId};
+use loft_sense::{Order, Orders};
+use loft_tree::Heads;
+use std::alloc::Global;
+
+/// The creates of the starts of a scheduler, by its index, in text order.
+fn starts_at(alloc: Global, heads: &Heads, at: usize) -> Result<Orders, NoMemory>
+    ensures { IfOk result (λ orders. orders ≡ starts_of heads.now (scheduler at)) }
+{
+    let mut orders = Sequence::new(alloc);
+    for (k, start) in heads.starts.as_slice().iter().enumerate() {
+        if at == start.scheduler.0 as usize {
+            orders.push(Order::Create {
+                thread: ThreadId {
+                    maker: Maker::Source,
+                    seq: k as u64,
+                },
+                module: start.module,
+                args: Sequence::from_slice(alloc, start.arguments.as_slice())?,
+            })?;
+        }
+    }
+    Ok(orders)
+}
+
+/// What waits for each scheduler at first.
+pub(crate) fn starts_of_each(alloc: Global, heads: &Heads) -> Result<Vec<Orders>, NoMemory>
+    ensures { IfOk result (λ waits. AreEach (λ k. starts_of heads.now (scheduler k))
+        (length heads.now.schedulers) waits.items) }
+{
+    let mut waits = Vec::new(alloc);
+    for at in 0..heads.schedulers.len() {
+        waits.push(starts_at(alloc, heads, at)?)?;
+    }
+    Ok(waits)
+}
