@@ -11,6 +11,7 @@ mod names;
 mod op;
 mod places;
 mod raw;
+mod shared_text;
 mod slots;
 #[cfg(test)]
 mod tests;
@@ -22,4 +23,5 @@ pub use laws::{code_is_decided, valid_code_leads_on};
 pub use limits::{MAX_DEPTH, MAX_OPERATIONS};
 pub use op::{Action, Op, Pause};
 pub use raw::{CodeLine, CodeProgram, ModuleCode, RawCode};
+pub use shared_text::SharedText;
 pub use valid::{Code, validate};

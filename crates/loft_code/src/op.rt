@@ -4,8 +4,9 @@ ghost use Rattle.std.specs.Prelude.{◌≡◌};
 ghost use Rattle.loft_code.specs.View.{operation_of};
 ghost use Rattle.loft_code.specs.Operations.{is_test, is_end, is_turn, is_last, stop_of};
 
+use crate::shared_text::SharedText;
 use loft_base::{EventId, ModuleId, SchedId};
-use loft_tree::{Control, NamedExpr, Target, Text};
+use loft_tree::{Control, NamedExpr, Target};
 
 /// What an operation does that goes on at the next one at once, or ends its thread.
 #[derive(Drop)]
@@ -24,7 +25,7 @@ pub enum Action {
     },
     /// `print "..";` or `print "..", E;`
     PrintText {
-        text: Text,
+        text: SharedText,
         value: Option<NamedExpr>,
     },
     /// `print E;`

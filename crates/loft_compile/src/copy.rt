@@ -6,6 +6,7 @@ ghost use Rattle.loft_tree.specs.Resolved.{exp_if, events_of};
 ghost use Rattle.loft_code.specs.View.{exp_in, exps_in};
 
 use loft_base::{EventId, NoMemory, Sequence};
+use loft_code::SharedText;
 use loft_tree::{
     Client, ClientOrder, EventHead, EventUse, Heads, NamedExpr, SharedHead, Signature, SlotHead,
     Start, Text,
@@ -62,10 +63,10 @@ pub fn expressions(alloc: Global, es: &[NamedExpr]) -> Result<Vec<NamedExpr>, No
 }
 
 /// A copy of a text.
-pub fn text(alloc: Global, text: &Text) -> Result<Text, NoMemory>
+pub fn text(alloc: Global, text: &Text) -> Result<SharedText, NoMemory>
     ensures { IfOk result (λ copy. copy ≡ text.now) }
 {
-    Ok(Text::new(Vec::from_slice(alloc, text.bytes())?))
+    SharedText::from_slice(alloc, text.bytes())
 }
 
 /// One event.

@@ -1,6 +1,6 @@
 //! What an action does that goes on at once, or ends its thread (docs/SEMANTICS.md, "Statements").
 
-ghost use Rattle.std.specs.Prelude.{◌≡◌, ◌++◌, map, IfOk, OnOk};
+ghost use Rattle.std.specs.Prelude.{◌≡◌, ◌++◌, map, IfOk};
 ghost use Rattle.loft_tree.specs.NamedView.{term_of, value_of};
 ghost use Rattle.loft_tree.specs.Resolved.{exp_of, exp_if, exps_of, target_of, Assign, PrintText, PrintValue, Generate, ControlThread, Broadcast};
 ghost use Rattle.loft_sense.specs.Heads.{home as home_of};
@@ -13,9 +13,10 @@ use crate::effect::Effect;
 use crate::scope::{Beside, Scope, number_if};
 use crate::value::thread_or;
 use loft_base::{Div, EventId, ModuleId, NoMemory, SchedId, Sequence, ThreadId, Value, Values};
-use loft_sense::{Act, End, Order, To};
+use loft_code::SharedText;
+use loft_sense::{Act, End, Line, Order, To};
 use loft_text::{Item, LineBuffer};
-use loft_tree::{Control, Heads, NamedExpr, Target, Text};
+use loft_tree::{Control, Heads, NamedExpr, Target};
 use std::alloc::Global;
 
 /// The scheduler on whose board the event stands.
@@ -39,14 +40,22 @@ fn order_of(control: Control, thread: ThreadId) -> Order
     }
 }
 
-/// Appends the text of a value, where there is one.
-fn push_value_if(line: &mut LineBuffer, heads: &Heads, value: Option<Value>) -> Result<(), NoMemory>
-    ensures { OnOk result (line.new ≡ line.old ++ text_of heads.now value) }
+/// The line of a text, with the text of a value after it, where there is one.
+fn text_line(
+    alloc: Global,
+    heads: &Heads,
+    text: &SharedText,
+    value: Option<Value>,
+) -> Result<Line, NoMemory>
+    ensures { IfOk result (λ line. line ≡ text.now ++ text_of heads.now value) }
 {
-    match value {
-        Some(value) => value.push_to(line, heads),
-        None => Ok(()),
-    }
+    let Some(value) = value else {
+        return Ok(Line::from_text(text.share()?));
+    };
+    let mut line = LineBuffer::new(alloc);
+    line.bytes(text.bytes())?;
+    value.push_to(&mut line, heads)?;
+    Ok(line.into_line())
 }
 
 impl Scope {
@@ -90,7 +99,7 @@ impl Scope {
     }
 
     /// A line is printed.
-    fn print(&self, beside: &mut Beside, line: LineBuffer) -> Result<Effect, NoMemory>
+    fn print(&self, beside: &mut Beside, line: Line) -> Result<Effect, NoMemory>
         ensures { IfOk result (λ e. Does e self.now beside.old self.now beside.new
             (printed line self.now.at self.now.values (beside_of beside.old))) }
     {
@@ -98,7 +107,6 @@ impl Scope {
             return Ok(Effect::Dies(End::Flood(self.at)));
         }
         let thread = beside.id;
-        let line = line.into_line();
         beside.around.enter(Act::Print { thread, line })?;
         Ok(Effect::GoesOn)
     }
@@ -109,7 +117,7 @@ impl Scope {
         alloc: Global,
         heads: &Heads,
         beside: &mut Beside,
-        text: &Text,
+        text: &SharedText,
         e: &Option<NamedExpr>,
     ) -> Result<Effect, NoMemory>
         ensures { IfOk result (λ effect. Does effect self.now beside.old self.now beside.new
@@ -118,9 +126,7 @@ impl Scope {
         let Ok(value) = self.value_if(heads, beside, e) else {
             return Ok(Effect::Dies(End::Div(self.at)));
         };
-        let mut line = LineBuffer::new(alloc);
-        line.bytes(text.bytes())?;
-        push_value_if(&mut line, heads, value)?;
+        let line = text_line(alloc, heads, text, value)?;
         self.print(beside, line)
     }
 
@@ -140,7 +146,7 @@ impl Scope {
         };
         let mut line = LineBuffer::new(alloc);
         value.push_to(&mut line, heads)?;
-        self.print(beside, line)
+        self.print(beside, line.into_line())
     }
 
     /// `generate e;` or `generate e, E;`
@@ -175,6 +181,7 @@ impl Scope {
     /// `stop E in S;`, `suspend E in S;` or `resume E in S;`
     pub fn control(
         &self,
+        alloc: Global,
         heads: &Heads,
         beside: &mut Beside,
         control: Control,
@@ -191,13 +198,14 @@ impl Scope {
             return Ok(Effect::Dies(End::Flood(self.at)));
         }
         let order = order_of(control, thread_or(beside.id, value));
-        beside.send(To::Sched(scheduler), order)?;
+        beside.send(alloc, To::Sched(scheduler), order)?;
         Ok(Effect::GoesOn)
     }
 
     /// `broadcast e;` or `broadcast e, E;`
     pub fn broadcast(
         &self,
+        alloc: Global,
         heads: &Heads,
         beside: &mut Beside,
         event: EventId,
@@ -214,6 +222,7 @@ impl Scope {
         }
         let value = number_if(value);
         beside.send(
+            alloc,
             To::Sched(home(heads, event)),
             Order::Broadcast { event, value },
         )?;
@@ -242,6 +251,7 @@ impl Scope {
         }
         let thread = beside.around.new_id();
         beside.make(
+            alloc,
             To::Sched(scheduler),
             Order::Create {
                 thread,

@@ -12,8 +12,9 @@ use crate::around::Around;
 use crate::sight::{Sight, rank};
 use crate::value::number_of;
 use loft_base::{Div, NoMemory, ThreadId, Value, Values};
-use loft_sense::{Act, At, End, Order, Sent, To};
+use loft_sense::{Act, At, BoxedSent, End, Order, Sent, To};
 use loft_tree::{Heads, NamedExpr, Target};
+use std::alloc::Global;
 
 /// What stands beside the frames of a running thread.
 #[derive(Debug, Drop)]
@@ -46,24 +47,24 @@ pub fn number_if(value: Option<Value>) -> Option<i64>
 
 impl Beside {
     /// The thread sends an order, which is an entry of the instant.
-    pub fn send(&mut self, to: To, order: Order) -> Result<(), NoMemory>
+    pub fn send(&mut self, alloc: Global, to: To, order: Order) -> Result<(), NoMemory>
         requires { self.old.around.entries < most_entries self.old.around.place }
         ensures sent { OnOk result (beside_of self.new ≡ send_to to order (beside_of self.old)) }
         ensures pace { OnOk result (pace_of self.new.around ≡ pace_of self.old.around) }
     {
         let thread = self.id;
-        let sent = Sent { to, order };
+        let sent = BoxedSent::new(alloc, Sent { to, order })?;
         self.around.enter(Act::Out { thread, sent })
     }
 
     /// The same of a create, which numbers the next one of its scheduler.
-    pub fn make(&mut self, to: To, order: Order) -> Result<(), NoMemory>
+    pub fn make(&mut self, alloc: Global, to: To, order: Order) -> Result<(), NoMemory>
         requires { self.old.around.entries < most_entries self.old.around.place }
         ensures made { OnOk result (beside_of self.new ≡ create to order (beside_of self.old)) }
         ensures pace { OnOk result (pace_of self.new.around ≡ pace_of self.old.around) }
     {
         let thread = self.id;
-        let sent = Sent { to, order };
+        let sent = BoxedSent::new(alloc, Sent { to, order })?;
         self.around.create(Act::Out { thread, sent })
     }
 

@@ -32,8 +32,8 @@ fn tell_act(alloc: Global, scheduler: SchedId, sent: &mut Sents, act: &Act) -> R
         } => Ok(()),
         Act::Out {
             thread: _,
-            sent: order,
-        } => sent.push(order.try_clone(alloc)?),
+            sent: boxed,
+        } => sent.push(boxed.as_sent().try_clone(alloc)?),
         Act::End { thread, end } => sent.push(tell_end(scheduler, *thread, *end)),
     }
 }

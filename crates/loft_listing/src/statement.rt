@@ -18,7 +18,7 @@ use loft_show::{
     put_get, put_join, put_name_line, put_print_text, put_print_value, put_run, put_select,
     put_word_line,
 };
-use loft_tree::{Creation, Expr, Heads, NamedExpr, Signature, Target};
+use loft_tree::{Creation, Expr, Heads, NamedExpr, Signature, Target, Text};
 use std::alloc::Global;
 
 /// A thread to be made.
@@ -109,7 +109,8 @@ pub fn put_action(
         }
         Action::PrintText { text, value } => {
             let value = expression::value(alloc, heads, module, value)?;
-            put_print_text(out, 0, text, &value)
+            let text = Text::new(Vec::from_slice(alloc, text.bytes())?);
+            put_print_text(out, 0, &text, &value)
         }
         Action::PrintValue(value) => {
             let value = expression::expression(alloc, heads, module, value)?;

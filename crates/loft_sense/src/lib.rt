@@ -7,6 +7,7 @@ pub mod engine;
 pub mod entry;
 pub mod laws;
 pub mod limits;
+mod line;
 pub mod note;
 pub mod order;
 pub mod run_laws;
@@ -26,8 +27,10 @@ pub use limits::{
     Limits, MAX_BLOCK, MAX_BLOCK_ENTRIES, MAX_BUDGET, MAX_ENTRIES, MAX_FRAMES, MAX_INSTANTS,
     MAX_LINKED, MAX_WORKERS, RunOptions,
 };
+pub use line::Line;
 pub use note::{
-    Act, Acts, Change, Changes, Ended, Ends, FinalState, InstantNote, Numbers, Standing, Standings,
+    Act, Acts, BoxedSent, Change, Changes, Ended, Ends, FinalState, InstantNote, Numbers, Standing,
+    Standings,
 };
 pub use order::{At, End, Mark, Marks, Order, Orders, Sent, Sents, Stop, To};
 pub use run_laws::{
@@ -35,4 +38,4 @@ pub use run_laws::{
     nobody_waits_for_a_present_event, passes_go_in_order, runs_keep_what_is_declared,
     runs_make_few_entries, threads_run_within_the_budget,
 };
-pub use thread::{Counts, Events, Frame, Frames, Line, Thread, Threads, Wait};
+pub use thread::{Counts, Events, Frame, Frames, Thread, Threads, Wait};

@@ -1,8 +1,13 @@
 //! What an instant did, and how a scheduler stands.
 
+ghost use Rattle.std.specs.Prelude.{◌≡◌, IfOk};
+
+use crate::line::Line;
 use crate::order::{End, Marks, Sent, Sents};
-use crate::thread::{Line, Thread, Threads};
-use loft_base::{EventId, Sequence, SharedId, ThreadId};
+use crate::thread::{Thread, Threads};
+use loft_base::{EventId, NoMemory, Sequence, SharedId, ThreadId};
+use std::alloc::Global;
+use std::marker::Model;
 
 /// The acts of an instant, in the order in which they were made.
 pub type Acts = Sequence<Act>;
@@ -19,6 +24,38 @@ pub type Standings = Sequence<Standing>;
 /// The values of shared variables.
 pub type Numbers = Sequence<i64>;
 
+/// An order and its address, in memory of their own: so acts are small, of which most send nothing.
+/// Contracts see what is sent.
+#[derive(Debug, Drop)]
+pub struct BoxedSent {
+    sent: Box<Sent>,
+}
+
+impl Model for BoxedSent {
+    ghost use Rattle.loft_sense.specs.declared.order.Sent.{Sent};
+
+    ghost Value = { Sent };
+
+    ghost view = { λ boxed. boxed.sent.value };
+}
+
+impl BoxedSent {
+    /// Puts what is sent into memory of its own. `NoMemory` comes where there is none.
+    pub fn new(alloc: Global, sent: Sent) -> Result<BoxedSent, NoMemory>
+        ensures { IfOk result (λ boxed. boxed ≡ sent) }
+    {
+        let sent = Box::new(alloc, sent)?;
+        Ok(BoxedSent { sent })
+    }
+
+    /// What is sent.
+    pub fn as_sent(&self) -> &Sent
+        ensures { result.now ≡ self.now }
+    {
+        &self.sent
+    }
+}
+
 /// What a thread did in an instant, as its report gives it.
 #[derive(Debug, Drop)]
 pub enum Act {
@@ -33,7 +70,7 @@ pub enum Act {
     },
     Out {
         thread: ThreadId,
-        sent: Sent,
+        sent: BoxedSent,
     },
     End {
         thread: ThreadId,

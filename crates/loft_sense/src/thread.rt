@@ -2,9 +2,6 @@
 
 use loft_base::{EventId, ModuleId, Sequence, ThreadId, Values};
 
-/// The bytes of one printed line, without its end.
-pub type Line = Sequence<u8>;
-
 /// The turns still to come of the active `repeat` loops, from the outside in.
 pub type Counts = Sequence<i64>;
 

@@ -47,8 +47,8 @@ pub fn act(
             control,
             thread,
             scheduler,
-        } => scope.control(heads, beside, *control, thread, *scheduler),
-        Action::Broadcast { event, value } => scope.broadcast(heads, beside, *event, value),
+        } => scope.control(alloc, heads, beside, *control, thread, *scheduler),
+        Action::Broadcast { event, value } => scope.broadcast(alloc, heads, beside, *event, value),
     }
 }
 

@@ -1,9 +1,9 @@
 //! A line in the making.
 
-ghost use Rattle.std.specs.Prelude.{◌≡◌, [], ◌∷◌, ◌++◌, OnOk};
+ghost use Rattle.std.specs.Prelude.{◌≡◌, ◌<◌, ◌+◌, ◌/◌, ◌%◌, [], ◌∷◌, ◌++◌, OnOk};
 ghost use Rattle.std.specs.Fmt.{decimal, signed_decimal};
 
-use loft_base::{NoMemory, Sequence};
+use loft_base::NoMemory;
 use loft_sense::Line;
 use std::alloc::Global;
 use std::marker::Model;
@@ -51,7 +51,7 @@ impl LineBuffer {
     pub fn into_line(self) -> Line
         ensures { result ≡ self }
     {
-        Sequence::from_vec(self.bytes)
+        Line::from_vec(self.bytes)
     }
 
     /// Appends bytes.
@@ -77,6 +77,16 @@ impl LineBuffer {
         self.bytes(text.as_bytes())
     }
 
+    /// Appends two digits, of which the first may be 0.
+    fn two_digits(&mut self, number: u64) -> Result<(), NoMemory>
+        requires { number < 100 }
+        ensures { OnOk result
+            (self.new ≡ self.old ++ (48 + number / 10) ∷ (48 + number % 10) ∷ []) }
+    {
+        self.byte(b'0' + (number / 10) as u8)?;
+        self.byte(b'0' + (number % 10) as u8)
+    }
+
     /// Appends the digits of a number.
     pub fn number(&mut self, number: u64) -> Result<(), NoMemory>
         ensures { OnOk result (self.new ≡ self.old ++ decimal number) }
@@ -84,8 +94,11 @@ impl LineBuffer {
         if number < 10 {
             return self.byte(b'0' + number as u8);
         }
-        self.number(number / 10)?;
-        self.byte(b'0' + (number % 10) as u8)
+        if number < 100 {
+            return self.two_digits(number);
+        }
+        self.number(number / 100)?;
+        self.two_digits(number % 100)
     }
 
     /// Appends the digits of a number, after a sign where it is negative.

@@ -10,6 +10,7 @@ ghost use Rattle.loft_walk.specs.Groups.{IsAction, action_of, IsPause, pause_in,
 ghost use Rattle.loft_walk.specs.Pieces.{step_from};
 
 use loft_base::{NoMemory, Sequence};
+use loft_code::SharedText;
 use loft_effect::{Beside, Effect, Scope};
 use loft_sense::{Events, To, Wait};
 use loft_tree::{EventUse, Heads, NamedCreation, NamedExpr, NamedStmt, Target};
@@ -62,7 +63,8 @@ pub fn act(
             create(scope, alloc, heads, beside, None, creation)
         }
         NamedStmt::PrintText { at: _, text, value } => {
-            scope.print_text(alloc, heads, beside, text, value)
+            let text = SharedText::from_slice(alloc, text.bytes())?;
+            scope.print_text(alloc, heads, beside, &text, value)
         }
         NamedStmt::PrintValue { at: _, value } => scope.print_value(alloc, heads, beside, value),
         NamedStmt::Generate {
@@ -75,12 +77,12 @@ pub fn act(
             control,
             thread,
             scheduler,
-        } => scope.control(heads, beside, *control, thread, *scheduler),
+        } => scope.control(alloc, heads, beside, *control, thread, *scheduler),
         NamedStmt::Broadcast {
             at: _,
             event,
             value,
-        } => scope.broadcast(heads, beside, event.event, value),
+        } => scope.broadcast(alloc, heads, beside, event.event, value),
         NamedStmt::Cooperate { .. }
         | NamedStmt::Await { .. }
         | NamedStmt::Select { .. }

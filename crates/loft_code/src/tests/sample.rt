@@ -7,10 +7,11 @@ ghost use Rattle.loft_code.specs.Fits.{AreFew};
 
 use crate::op::{Action, Op, Pause};
 use crate::raw::{CodeLine, ModuleCode};
+use crate::shared_text::SharedText;
 use loft_base::{EventId, ModuleId, NoMemory, SchedId, Sequence, SharedId};
 use loft_tree::{
     BinaryOperator, Builtin, Control, EventHead, Heads, Kind, NamedExpr, Place, SharedHead,
-    Signature, SlotHead, Slots, Target, Text, UnaryOperator,
+    Signature, SlotHead, Slots, Target, UnaryOperator,
 };
 use std::alloc::Global;
 
@@ -173,7 +174,7 @@ fn action(alloc: Global, act: Act) -> Result<Action, NoMemory> {
             arguments: exps(alloc, arguments)?,
         },
         Act::PrintText(value) => Action::PrintText {
-            text: Text::new(Vec::new(alloc)),
+            text: SharedText::from_slice(alloc, &[])?,
             value: exp_if(alloc, value)?,
         },
         Act::Print(value) => Action::PrintValue(exp(alloc, value)?),

@@ -235,7 +235,7 @@ impl InOneLine for Act {
                 event,
                 value,
             } => make_event_line(line, heads, *thread, *event, *value),
-            Act::Out { thread, sent } => make_sent_line(line, heads, *thread, sent),
+            Act::Out { thread, sent } => make_sent_line(line, heads, *thread, sent.as_sent()),
             Act::End { thread, end } => make_end_line(line, heads, *thread, *end),
         }
     }
