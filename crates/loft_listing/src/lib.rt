@@ -3,6 +3,7 @@
 
 mod declaration;
 mod expression;
+mod law;
 mod listing;
 mod name;
 mod operation;
@@ -10,4 +11,5 @@ mod outer;
 mod statement;
 mod text;
 
+pub use law::listings_are_lines;
 pub use listing::write;

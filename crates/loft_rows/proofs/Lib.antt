@@ -1,0 +1,10 @@
+pub mod Bare
+pub mod Cutting
+pub mod Without
+pub mod Finding
+pub mod Semicolons
+pub mod Sorting
+pub mod Columns
+pub mod Naming
+pub mod FoundRows
+pub mod Feeds
