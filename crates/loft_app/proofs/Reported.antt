@@ -1,12 +1,8 @@
--- From the turns of a run to the promise of its report.
-use Rattle.std.proofs.Common.{◌≡◌, ℕ, ◌==◌, true, List, [], ◌∷◌, ◌++◌, length, map, refl, sym, ◌∙◌, ap, subst, append_assoc}
+-- From a run to the promise of its report.
+use Rattle.std.proofs.Common.{◌≡◌, ℕ, List, [], ◌∷◌, ◌++◌, map, refl, sym, ◌∙◌, ap, subst, append_assoc}
 use Rattle.std.specs.Prelude.{◌↔◌}
-use Rattle.std.proofs.lemmas.Bool.{and_parts, eqb-true}
-use Rattle.loft_base.specs.declared.ids.SchedId.{SchedId}
 use Rattle.loft_tree.specs.declared.heads.Heads.{Heads}
-use Rattle.loft_tree.specs.NamedTree.{NamedProgram}
 use Rattle.loft_sense.specs.declared.entry.Entry.{Entry}
-use Rattle.loft_sense.specs.declared.limits.Limits.{Limits}
 use Rattle.loft_sense.specs.declared.limits.RunOptions.{RunOptions}
 use Rattle.loft_sense.specs.declared.note.FinalState.{FinalState}
 use Rattle.loft_sense.specs.declared.note.InstantNote.{InstantNote}
@@ -19,10 +15,8 @@ use Rattle.loft_sense.proofs.LegalLemmas.{made_is_legal}
 use Rattle.loft_world.specs.declared.results.Finished.{Finished}
 use Rattle.loft_world.specs.Replay.{IsReplayOf}
 use Rattle.loft_turns.specs.Running.{IsWholeRun}
-use Rattle.loft_turns.specs.Built.{is_built}
 use Rattle.loft_log.specs.WorldReport.{world_report}
 use Rattle.loft_app.specs.Promise.{BeginsWith, IsReport}
-use Rattle.loft_app.specs.Alone.{RunsAlone}
 
 text_of-append : (xs ys : List (List ℕ)) → text_of (xs ++ ys) ≡ text_of xs ++ text_of ys
 text_of-append [] ys = refl
@@ -49,30 +43,9 @@ promised x o run told whole = record {
   ended = whole.ended;
 }
 
--- the only scheduler
-abbrev pub only : SchedId
-only = record { 0 = 0 }
-
--- what a program declares that is built runs alone
-pub built_alone : (n : NamedProgram) → is_built n ≡ true → RunsAlone n.heads
-built_alone n built =
-    let parts = and_parts (length n.heads.schedulers == 1) _ built in record {
-      scheduler = eqb-true (length n.heads.schedulers) 1 parts.0;
-      clients = eqb-true (length n.heads.clients) 0 (and_parts (length n.heads.clients == 0) _ parts.1).0;
-    }
-
--- what was run is x, within these bounds
-abbrev pub IsRunOf : Prog → RunOptions → Prog → Limits → Finished → Type 0
-IsRunOf x o y limits run = (y ≡ x) × (limits ≡ o.limits) × ((q : RunOptions) → q.limits ≡ limits → IsWholeRun y q run)
-
-pub whole_run : (x : Prog) (o : RunOptions) (y : Prog) (limits : Limits) (run : Finished) → IsRunOf x o y limits run → IsWholeRun x o run
-whole_run x o y limits run is = subst (λ (q : Prog). IsWholeRun q o run) is.0 (is.2 o (sym is.1))
-
 -- what is written of it is a report of x, where these are its heads
-pub written_report : (x : Prog) (o : RunOptions) (y : Prog) (limits : Limits) (run : Finished) (h : Heads) → IsTold → h ≡ heads x → IsRunOf x o y limits run
-    → IsReport x o (text_of_run h o run)
-written_report x o y limits run h told declared is =
-    subst (λ (q : Heads). IsReport x o (text_of_run q o run)) (sym declared) (promised x o run told (whole_run x o y limits run is))
+pub written_report : (x : Prog) (o : RunOptions) (run : Finished) (h : Heads) → IsTold → h ≡ heads x → IsWholeRun x o run → IsReport x o (text_of_run h o run)
+written_report x o run h told declared is = subst (λ (q : Heads). IsReport x o (text_of_run q o run)) (sym declared) (promised x o run told is)
 
 -- nothing that is told of a run tells whether x or y was run
 pub record ToldAlike (x y : Prog) : Type 0 where

@@ -3,6 +3,6 @@ pub mod Refusals
 pub mod Stops
 pub mod Found
 pub mod Promise
-pub mod Alone
+pub mod Options
 pub mod Status
 pub mod Answer

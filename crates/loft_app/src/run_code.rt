@@ -8,15 +8,13 @@ ghost use Rattle.loft_turns.specs.Running.{NeverLeaves};
 ghost use Rattle.loft_words.specs.Ranges.{AreInRange};
 ghost use Rattle.loft_app.specs.Written.{Appends, IsPrefix};
 ghost use Rattle.loft_app.specs.Promise.{IsReport};
-ghost use Rattle.loft_app.specs.Alone.{RunsAlone, options_of};
+ghost use Rattle.loft_app.specs.Options.{options_of};
 
-use loft_base::{Gate, NoMemory, SchedId, Sink, WriteError};
+use loft_base::{Gate, NoMemory, Sink, WriteError};
 use loft_code::Code;
-use loft_engine::CodeEngine;
 use loft_log::{reports_of_worlds_are_of_histories, write_report};
-use loft_sense::{Limits, RunOptions, made_histories_are_legal};
-use loft_stand::waiting_orders_fit;
-use loft_turns::run_alone;
+use loft_run::run_whole;
+use loft_sense::{Limits, RunOptions};
 use std::alloc::Global;
 use std::sync::Wait;
 use std::thread::Threads;
@@ -55,10 +53,9 @@ impl From<WriteError> for RunError {
     }
 }
 
-/// Runs valid code of one scheduler without clients, of which no thread ever waits for a worker,
-/// within these limits and with 1 to `MAX_WORKERS` workers, and writes the report (docs/REPORT.md).
-/// `Sink` comes where the sink failed, and `NoMemory` where an allocation fails; then a prefix of a
-/// report was written.
+/// Runs valid code of which no thread ever waits for a worker, within these limits and with 1 to
+/// `MAX_WORKERS` workers, and writes the report (docs/REPORT.md). `Sink` comes where the sink failed,
+/// and `NoMemory` where an allocation fails; then a prefix of a report was written.
 pub fn run_code<R: Threads + Wait + Sync, S: Sink, G: Gate>(
     rt: &R,
     alloc: Global,
@@ -68,7 +65,6 @@ pub fn run_code<R: Threads + Wait + Sync, S: Sink, G: Gate>(
     sink: &mut S,
     gate: &G,
 ) -> Result<(), RunError>
-    requires alone { RunsAlone c.now.heads }
     requires linked { NeverLeaves (ByCode (automata_of c.now)) l }
     requires range { AreInRange (options_of l workers) }
     ensures report { OnOk result (Appends (S.written sink.old) (S.written sink.new)
@@ -78,17 +74,12 @@ pub fn run_code<R: Threads + Wait + Sync, S: Sink, G: Gate>(
     ensures sink { IsErrOf result RunError.Sink → Rose (S.faults sink.old) (S.faults sink.new) }
     ensures never_falls { S.faults sink.old ≤ S.faults sink.new }
 {
-    made_histories_are_legal();
-    waiting_orders_fit();
     reports_of_worlds_are_of_histories();
-    let heads = &c.program().heads;
-    let scheduler = SchedId(0);
     let options = RunOptions { limits: l, workers };
-    let engine = CodeEngine::new(alloc, c, scheduler, l)?;
-    let run = run_alone(rt, alloc, heads, engine, scheduler, gate)?;
+    let run = run_whole(rt, alloc, c, &options, gate)?;
     write_report(
         alloc,
-        heads,
+        &c.program().heads,
         &options,
         &run.world,
         &run.notes,

@@ -89,7 +89,7 @@ pub record IsFaithfulScheduler (x : Prog) (o : RunOptions) (s : SchedId) (list :
   pub turns : TakeTurns false list
   pub due : AtEach (IsDue x o s) list
 
--- Each Pick is followed by all that its job sends, one Post for each order, but for the last Pick by a beginning of it. These
+-- Each Pick is followed by all that its job sends, one Post for each order, but for the last Pick by a prefix of it. These
 -- orders are left from before.
 abbrev pub Works : Prog → RunOptions → List Sent → List Entry → Type 0
 Works x o left [] = Unit {0}
@@ -101,7 +101,7 @@ Works x o left (Take s batch ∷ es) = ⊥
 Works x o left (Give s sent ∷ es) = ⊥
 Works x o left (Client c sent ∷ es) = ⊥
 
--- these entries give a beginning of these orders, one by one
+-- these entries give a prefix of these orders, one by one
 abbrev pub Gives : List Sent → List Entry → Type 0
 Gives left [] = Unit {0}
 Gives [] (Client c sent ∷ es) = ⊥

@@ -81,7 +81,7 @@ call_same x y same h (Post w sent) call = absurd call
 call_same x y same h (Client c sent) call =
     (subst (λ (d : Heads). length d.clients ≤ c) same call.0, (call.1.0, one_same x y same sent.to (made_by c (creates c h)) sent.order call.1.0 call.1.1))
 
--- what holds at each entry does so in a beginning of the history
+-- what holds at each entry does so in a prefix of the history
 at_each_before : (P : List Entry → Entry → Type 0) (before after : List Entry) → AtEach P (before ++ after) → AtEach P before
 at_each_before P before after each b e a same = each b e (a ++ after) (ap (λ (l : List Entry). l ++ after) same ∙ append_assoc b (e ∷ a) after)
 

@@ -1,5 +1,5 @@
 -- What fits where it is sent, and what a batch that fits leaves.
-use Rattle.std.proofs.Common.{◌≡◌, ◌==◌, ℕ, ◌+◌, Bool, true, false, List, [], ◌∷◌, ◌++◌, length, Option, Some, None, slice_get, refl, sym, ap, ◌∙◌, subst, arith}
+use Rattle.std.proofs.Common.{◌≡◌, ◌==◌, ◌<◌, ℕ, zero, suc, ◌+◌, Bool, true, false, List, [], ◌∷◌, ◌++◌, length, Option, Some, None, slice_get, refl, sym, ap, ◌∙◌, subst, arith}
 use Rattle.std.specs.Prelude.{if◌then◌else◌, nat_lt}
 use Rattle.std.specs.Prelude.{All}
 use Rattle.std.proofs.lemmas.List.{length-set}
@@ -14,15 +14,17 @@ use Rattle.loft_tree.specs.declared.heads.Place.{Place}
 use Rattle.loft_tree.specs.declared.heads.Place.TheVariants.{Sched, Unlinked}
 use Rattle.loft_tree.specs.declared.heads.Signature.{Signature}
 use Rattle.loft_tree.specs.declared.heads.Start.{Start}
+use Rattle.loft_base.specs.declared.ids.EventId.{EventId}
 use Rattle.loft_tree.specs.declared.heads.ClientOrder.{ClientOrder}
 use Rattle.loft_tree.specs.declared.heads.ClientOrder.TheVariants as client
 use Rattle.loft_tree.specs.declared.heads.Client.{Client}
+use Rattle.loft_tree.specs.declared.heads.EventHead.{EventHead}
 use Rattle.loft_tree.specs.declared.heads.Heads.{Heads}
 use Rattle.loft_tree.specs.declared.kinds.Control.{Control}
 use Rattle.loft_tree.specs.declared.kinds.Control.TheVariants as control
 use Rattle.loft_tree.specs.Fits.{Each}
 use Rattle.loft_tree.specs.HeadsFit.{kinds_of, TakesIn}
-use Rattle.loft_tree.specs.NamedFits.{IsStarted, slots_of}
+use Rattle.loft_tree.specs.NamedFits.{IsScheduler, IsStarted, EventHolds, slots_of}
 use Rattle.loft_board.specs.Board.{values as event_values, value_list}
 use Rattle.loft_sense.specs.declared.limits.TheConstants.{MAX_LINKED}
 use Rattle.loft_sense.specs.declared.note.Act.{Act}
@@ -37,7 +39,8 @@ use Rattle.loft_sense.specs.declared.order.To.{To}
 use Rattle.loft_sense.specs.declared.order.To.TheVariants as to
 use Rattle.loft_sense.specs.declared.thread.Thread.{Thread}
 use Rattle.loft_sense.specs.declared.thread.Wait.TheVariants as wait
-use Rattle.loft_sense.specs.Heads.{first_values}
+use Rattle.loft_sense.specs.Heads.{scheduler_or_first, first_values}
+use Rattle.loft_sense.specs.Legal.{FitsOne}
 use Rattle.loft_sense.specs.Machine.{Prog, heads}
 use Rattle.loft_sense.specs.CanGo.{same_thread}
 use Rattle.loft_sense.specs.Stands.{begin_of, begin_or_unlinked, ValuesAgree, Stands}
@@ -51,7 +54,7 @@ use Rattle.loft_stand.specs.WellFormed.{IsWellFormed}
 use Rattle.loft_stand.proofs.ListLemmas.{each_append, each_at, all_of}
 use Rattle.loft_stand.proofs.ValueLemmas.{values_agree, values_name, values_fit, first_values_fit}
 use Rattle.loft_stand.proofs.LeadsToPoints.{begin_stop, LeadsToPoints}
-use Rattle.loft_stand.proofs.ProgramLemmas.{Begins as StartBegins, starts_begin, argument_names, IsOrdered, Orders, clients_order}
+use Rattle.loft_stand.proofs.ProgramLemmas.{Begins as StartBegins, starts_begin, argument_names, IsOrdered, Orders, clients_order, events_hold}
 
 -- ---- what is sent
 
@@ -224,16 +227,45 @@ control_fits x s control.Stop t is = is
 control_fits x s control.Suspend t is = is
 control_fits x s control.Resume t is = is
 
-orders_from_fit : (x : Prog) (c k : ℕ) (os : List ClientOrder) → Each (IsOrdered (heads x)) os → Each (SentFits x) (orders_from (heads x) c k os)
-orders_from_fit x c k [] f = tt
-orders_from_fit x c k (client.Create s m arguments ∷ os) f = ((tt, f.0.1, argument_names (heads x) arguments f.0.0.arguments), orders_from_fit x c (k + 1) os f.1)
-orders_from_fit x c k (client.Control control t s ∷ os) f = (control_fits x s control t (started_thread (heads x) t f.0.0.0), orders_from_fit x c k os f.1)
-orders_from_fit x c k (client.Broadcast e value ∷ os) f = (record { declared = f.0.0.0; there = refl }, orders_from_fit x c k os f.1)
+-- each goes to one declared scheduler, and fits there
+abbrev IsForOne : Prog → Sent → Type 0
+IsForOne x m = FitsOne x m.to m.order
 
-client_fits : (x : Prog) (c : ℕ) (there : Option Client) → slice_get (heads x).clients c ≡ there → Each (Orders (heads x)) (heads x).clients → Each (SentFits x) (orders_from (heads x) c 0 (orders_or_none there))
-client_fits x c None at all = tt
-client_fits x c (Some client) at all = orders_from_fit x c 0 client.orders (each_at (Orders (heads x)) (heads x).clients c client all at)
+none_past : {A Q : Type 0} (xs : List A) (i : ℕ) → slice_get xs i ≡ None → i < length xs → Q
+none_past [] i none within = absurd (omega (arith, within))
+none_past (a ∷ xs) zero none within = absurd cc
+none_past (a ∷ xs) (suc i) none within = none_past xs i none (omega (arith, within))
 
--- all that a client of the source sends fits where it goes
+home_there : (h : Heads) (e : EventId) (there : Option EventHead) → slice_get h.events e.0 ≡ there → Each (EventHolds h) h.events → e.0 < length h.events → IsScheduler h (scheduler_or_first there)
+home_there h e None at all within = none_past h.events e.0 at within
+home_there h e (Some event) at all within = (each_at (EventHolds h) h.events e.0 event all at).scheduler
+
+orders_for_one : (x : Prog) (c k : ℕ) (os : List ClientOrder) → Each (EventHolds (heads x)) (heads x).events → Each (IsOrdered (heads x)) os → Each (IsForOne x) (orders_from (heads x) c k os)
+orders_for_one x c k [] events f = tt
+orders_for_one x c k (client.Create s m arguments ∷ os) events f = ((f.0.0.scheduler, (tt, f.0.1, argument_names (heads x) arguments f.0.0.arguments)), orders_for_one x c (k + 1) os events f.1)
+orders_for_one x c k (client.Control control t s ∷ os) events f = ((f.0.0.1, control_fits x s control t (started_thread (heads x) t f.0.0.0)), orders_for_one x c k os events f.1)
+orders_for_one x c k (client.Broadcast e value ∷ os) events f =
+    ((home_there (heads x) e (slice_get (heads x).events e.0) refl events f.0.0.0, record { declared = f.0.0.0; there = refl }), orders_for_one x c k os events f.1)
+
+client_for_one : (x : Prog) (c : ℕ) (there : Option Client) → slice_get (heads x).clients c ≡ there → Each (EventHolds (heads x)) (heads x).events → Each (Orders (heads x)) (heads x).clients
+    → Each (IsForOne x) (orders_from (heads x) c 0 (orders_or_none there))
+client_for_one x c None at events all = tt
+client_for_one x c (Some client) at events all = orders_for_one x c 0 client.orders events (each_at (Orders (heads x)) (heads x).clients c client all at)
+
+-- all that a client of the source sends goes to one declared scheduler, and fits there
+pub outside_for_one : (x : Prog) → IsWellFormed x → (c : ℕ) → Each (IsForOne x) (outside_of (heads x) c)
+outside_for_one x well c = client_for_one x c (slice_get (heads x).clients c) refl (events_hold x well) (clients_order x well)
+
+one_fits : (x : Prog) (to : To) (q : Order) → FitsOne x to q → FitsAt x to q
+one_fits x (to.Sched s) q f = f.1
+one_fits x (to.Others s) q f = absurd f
+one_fits x to.All q f = absurd f
+one_fits x to.Workers q f = absurd f
+
+all_fit_one : (x : Prog) (ms : List Sent) → Each (IsForOne x) ms → Each (SentFits x) ms
+all_fit_one x [] f = tt
+all_fit_one x (m ∷ ms) f = (one_fits x m.to m.order f.0, all_fit_one x ms f.1)
+
+-- so it fits where it goes
 pub outside_fits : (x : Prog) → IsWellFormed x → (c : ℕ) → Each (SentFits x) (outside_of (heads x) c)
-outside_fits x well c = client_fits x c (slice_get (heads x).clients c) refl (clients_order x well)
+outside_fits x well c = all_fit_one x (outside_of (heads x) c) (outside_for_one x well c)

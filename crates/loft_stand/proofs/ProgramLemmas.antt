@@ -11,7 +11,7 @@ use Rattle.loft_tree.specs.declared.heads.Heads.{Heads}
 use Rattle.loft_tree.specs.Fits.{Each}
 use Rattle.loft_tree.specs.HeadsFit.{HeadsFit}
 use Rattle.loft_tree.specs.NamedTree.{NamedProgram}
-use Rattle.loft_tree.specs.NamedFits.{ArgumentHolds, StartHolds, OrderHolds, ClientHolds, NamedFits}
+use Rattle.loft_tree.specs.NamedFits.{EventHolds, ArgumentHolds, StartHolds, OrderHolds, ClientHolds, NamedFits}
 use Rattle.loft_tree.specs.Resolved.{Pause, Resolved}
 use Rattle.loft_place.specs.Links.{IsPlaced}
 use Rattle.loft_place.proofs.Declared.{start_fits, create_fits}
@@ -114,3 +114,9 @@ clients_order (Tree p) is =
     tree_clients n is.names is.links 0 n.heads.clients (λ i c e. let same : i ≡ 0 + i = omega arith in subst (λ j. slice_get n.heads.clients j ≡ Some c) same e) is.names.heads.clients in
     subst (λ (q : Resolved). Each (Orders q.heads) q.heads.clients) is.same each
 clients_order (Code c) is = code_clients c.heads c.heads.clients is.limits.heads.clients_fit is.limits.heads.clients
+
+-- ---- events
+
+pub events_hold : (x : Prog) → IsWellFormed x → Each (EventHolds (heads x)) (heads x).events
+events_hold (Tree p) is = subst (λ (q : Resolved). Each (EventHolds q.heads) q.heads.events) is.same is.names.heads.events
+events_hold (Code c) is = is.limits.heads.events

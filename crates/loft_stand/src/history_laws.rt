@@ -3,13 +3,15 @@
 ghost use Rattle.std.specs.Prelude.{◌≡◌, ℕ, List, All};
 ghost use Rattle.loft_base.specs.declared.ids.SchedId.{SchedId};
 ghost use Rattle.loft_tree.specs.declared.heads.Place.TheVariants.{Unlinked};
+ghost use Rattle.loft_tree.specs.Fits.{Each};
 ghost use Rattle.loft_tree.specs.NamedFits.{IsScheduler};
 ghost use Rattle.loft_sense.specs.declared.entry.Entry.{Entry};
 ghost use Rattle.loft_sense.specs.declared.limits.RunOptions.{RunOptions};
 ghost use Rattle.loft_sense.specs.Machine.{Prog, heads};
 ghost use Rattle.loft_sense.specs.Fits.{Fits};
+ghost use Rattle.loft_sense.specs.Clients.{outside_of};
 ghost use Rattle.loft_sense.specs.History.{waiting, jobs, left_of, unsent, replayed};
-ghost use Rattle.loft_sense.specs.Legal.{IsLegal};
+ghost use Rattle.loft_sense.specs.Legal.{FitsOne, IsLegal};
 ghost use Rattle.loft_stand.specs.WellFormed.{IsWellFormed};
 ghost use Rattle.loft_stand.specs.Machines.{ThreadFits, MachFits, SentFits};
 
@@ -17,7 +19,8 @@ ghost use Rattle.loft_stand.specs.Machines.{ThreadFits, MachFits, SentFits};
 /// and callers, what waits for a scheduler fits there, and the threads of each scheduler stand where
 /// it links them. Each order that it has sent fits at each scheduler to which it is addressed, and
 /// each thread that it has sent to the workers stands unlinked. So it is with what a worker has still
-/// to post, and with what a client of the source has still to give. So whoever makes entries may hand
+/// to post, and with what a client of the source has still to give; each order of a client goes to one
+/// declared scheduler. So whoever makes entries may hand
 /// on what they send without asking. The rules of histories stand in `docs/SEMANTICS.md`, "History"
 /// and "Legal", those of orders under "Fits".
 pub fn waiting_orders_fit()
@@ -41,4 +44,6 @@ pub fn waiting_orders_fit()
     ensures clients { (x : Prog) → IsWellFormed x
         → (o : RunOptions) (es : List Entry) → IsLegal x o es
         → (c : ℕ) → All (SentFits x) (unsent (heads x) c es) }
+    ensures for_one { (x : Prog) → IsWellFormed x
+        → (c : ℕ) → Each (λ m. FitsOne x m.to m.order) (outside_of (heads x) c) }
 {}

@@ -2,7 +2,6 @@
 use Rattle.std.proofs.Common.{◌≡◌, ℕ, zero, suc, ◌+◌, ◌==◌, inl, inr, ℤ, pos, negsuc, Bool, true, false, ◌||◌, List, [], ◌∷◌, ◌++◌, map, length, reverse, Option, Some, None, slice_get, refl, sym, ap, ◌∙◌, subst, append_assoc, append-nil}
 use Rattle.std.specs.Prelude.{◌&&◌, not, nat_lt, drop, if◌then◌else◌}
 use Rattle.std.specs.List.{list_any}
-use Rattle.std.proofs.lemmas.Bool.{and_parts}
 use Rattle.loft_base.specs.declared.ids.SchedId.{SchedId}
 use Rattle.loft_base.specs.declared.ids.ModuleId.{ModuleId}
 use Rattle.loft_base.specs.declared.ids.ThreadId.{ThreadId}
@@ -619,7 +618,4 @@ not_true false e = refl
 
 -- what has the histories of a program that is built
 pub built_stays : (n : NamedProgram) (x : Prog) → is_built n ≡ true → ((o : RunOptions) (choices : List Choice) → hist (Tree (resolved_of n)) o choices ≡ hist x o choices) → (limits : Limits) → NeverLeaves x limits
-built_stays n x built same limits o choices es bounds made =
-    let parts = and_parts (length n.heads.schedulers == 1) _ built in
-    let none : unlinks n ≡ false = not_true (unlinks n) (and_parts (length n.heads.clients == 0) _ parts.1).1 in
-    no_job_waits n none o es (made_is_legal (Tree (resolved_of n)) o choices es (same o choices ∙ made))
+built_stays n x built same limits o choices es bounds made = no_job_waits n (not_true (unlinks n) built) o es (made_is_legal (Tree (resolved_of n)) o choices es (same o choices ∙ made))

@@ -1,5 +1,5 @@
--- The programs that can be run so far: what one thread does by itself (docs/LANGUAGE.md, "Programs that run").
-use Rattle.std.specs.Prelude.{Bool, true, false, not, ◌&&◌, ◌||◌, ◌==◌, length}
+-- The programs that can be run so far: those without an `unlink` (docs/LANGUAGE.md, "Programs that run").
+use Rattle.std.specs.Prelude.{Bool, true, false, not, ◌||◌}
 use Rattle.std.specs.List.{list_any}
 use Rattle.loft_tree.specs.NamedTree.{NamedStatement, Unlink, If, While, Repeat, NamedStatements, Done, Then, NamedProgram}
 
@@ -20,6 +20,6 @@ abbrev mutual
 abbrev pub unlinks : NamedProgram → Bool
 unlinks n = list_any (λ m. body_has_unlink m.body) n.modules
 
--- one scheduler, no `outside` item, no `unlink`
+-- no `unlink`
 abbrev pub is_built : NamedProgram → Bool
-is_built n = (length n.heads.schedulers == 1) && ((length n.heads.clients == 0) && not (unlinks n))
+is_built n = not (unlinks n)

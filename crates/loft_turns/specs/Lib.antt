@@ -1,2 +1,4 @@
 pub mod Built
+pub mod Course
+pub mod Rounds
 pub mod Running

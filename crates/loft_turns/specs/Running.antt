@@ -1,20 +1,12 @@
--- Runs of a program's only scheduler, and runs that have ended (docs/SEMANTICS.md, "History").
-use Rattle.std.specs.Prelude.{◌≡◌, List, [], map, All, Ok}
-use Rattle.loft_base.specs.declared.ids.SchedId.{SchedId}
+-- Whole runs (docs/SEMANTICS.md, "History").
+use Rattle.std.specs.Prelude.{◌≡◌, List, [], map, Ok}
 use Rattle.loft_sense.specs.declared.limits.RunOptions.{RunOptions}
 use Rattle.loft_sense.specs.declared.entry.Entry.{Entry}
 use Rattle.loft_sense.specs.declared.limits.Limits.{Limits}
 use Rattle.loft_sense.specs.Machine.{Prog, heads}
-use Rattle.loft_sense.specs.Fits.{Fits}
-use Rattle.loft_sense.specs.History.{Choice, choice_of, hist, waiting, jobs, HasEnded}
+use Rattle.loft_sense.specs.History.{Choice, choice_of, hist, jobs, HasEnded}
 use Rattle.loft_world.specs.declared.results.Finished.{Finished}
 use Rattle.loft_world.specs.Replay.{IsReplayOf}
-
--- what waits for the scheduler fits there, whatever has happened so far
-abbrev pub AlwaysFits : Prog → Limits → SchedId → Type 0
-AlwaysFits x limits s =
-    (o : RunOptions) (choices : List Choice) (es : List Entry) → o.limits ≡ limits → hist x o choices ≡ Ok es
-    → All (Fits x s) (waiting (heads x) s es)
 
 -- no thread waits for a worker, whatever has happened so far
 abbrev pub NeverLeaves : Prog → Limits → Type 0

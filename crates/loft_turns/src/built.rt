@@ -51,12 +51,9 @@ fn modules_have_unlink(modules: &[Module]) -> bool
     false
 }
 
-/// Whether the program can be run so far: it has one scheduler, no `outside` item and no `unlink`
-/// statement, in inner bodies neither.
+/// Whether the program can be run so far: it has no `unlink` statement, in inner bodies neither.
 pub fn is_built(program: &NamedProgram) -> bool
     ensures { result ≡ is_built (program_of program.now) }
 {
-    program.heads.schedulers.len() == 1
-        && program.heads.clients.is_empty()
-        && !modules_have_unlink(program.modules.as_slice())
+    !modules_have_unlink(program.modules.as_slice())
 }

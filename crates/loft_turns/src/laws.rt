@@ -13,8 +13,8 @@ ghost use Rattle.loft_turns.specs.Built.{unlinks, is_built};
 ghost use Rattle.loft_turns.specs.Running.{NeverLeaves};
 
 /// In each legal history of a program without an `unlink` no thread waits for a worker
-/// (docs/SEMANTICS.md, "History"). So it is in each history that choices make of a program that is
-/// built, and of whatever has the same histories, as its code has.
+/// (docs/SEMANTICS.md, "History"). So it is in each history that choices make of whatever has the same
+/// histories, as its code has.
 pub fn programs_without_unlink_stay_linked()
     ensures legal { (n : NamedProgram) → unlinks n ≡ false
         → (o : RunOptions) (es : List Entry) → IsLegal (Tree (resolved_of n)) o es

@@ -4,7 +4,7 @@ ghost use Rattle.std.specs.Prelude.{◌≡◌, true};
 ghost use Rattle.loft_tree.specs.ProgramView.{program_of};
 ghost use Rattle.loft_turns.specs.Built.{is_built};
 ghost use Rattle.loft_words.specs.Ranges.{AreInRange};
-ghost use Rattle.loft_app.specs.Alone.{options_of};
+ghost use Rattle.loft_app.specs.Options.{options_of};
 
 use crate::run_code::run_code;
 use loft_base::{MemSink, OpenGate};

@@ -7,14 +7,9 @@ use Rattle.loft_sense.specs.Machine.{Tree, Code}
 use Rattle.loft_compile.specs.Compiled.{compiled}
 use Rattle.loft_turns.specs.Running.{NeverLeaves}
 use Rattle.loft_app.specs.Promise.{IsReport}
-use Rattle.loft_app.specs.Alone.{RunsAlone}
-use Rattle.loft_app.proofs.Reported.{built_alone, ToldAlike, report_told}
+use Rattle.loft_app.proofs.Reported.{ToldAlike, report_told}
 use Rattle.loft_app.proofs.Written.{whole_of, part_of, on_ok, on_err}
 use Rattle.loft_app.proofs.command.run_program.Goals as goal
-
-pub run_code-requires-clause-alone : goal.run_code-requires-clause-alone
-run_code-requires-clause-alone g c κs within =
-    subst (λ (a : Automata). RunsAlone a.heads) (sym c.in_ok-code.ensures) (built_alone (program_of c.args.placed.now) c.requires.built)
 
 pub run_code-requires-clause-linked : goal.run_code-requires-clause-linked
 run_code-requires-clause-linked g c κs within =

@@ -1,4 +1,5 @@
 use Rattle.loft_stand.proofs.HistoryFits.{waiting_fits, scheduler_fits, sents_fit, threads_fit, posts_fit, clients_fit}
+use Rattle.loft_stand.proofs.OrderLemmas.{outside_for_one}
 use Rattle.loft_stand.proofs.history_laws.waiting_orders_fit.Goals as goal
 
 pub returns-clause-waiting : goal.returns-clause-waiting
@@ -18,3 +19,6 @@ returns-clause-posts c = posts_fit
 
 pub returns-clause-clients : goal.returns-clause-clients
 returns-clause-clients c = clients_fit
+
+pub returns-clause-for_one : goal.returns-clause-for_one
+returns-clause-for_one c = outside_for_one

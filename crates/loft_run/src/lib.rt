@@ -1,0 +1,6 @@
+//! Whole runs of code.
+#![tactic(auto)]
+
+mod run;
+
+pub use run::run_whole;

@@ -1,0 +1,20 @@
+use Rattle.std.proofs.Common.{◌≡◌, ◌+◌, false}
+use Rattle.std.specs.Prelude.{if◌then◌else◌}
+use Rattle.loft_sense.specs.History.{HasEnded}
+use Rattle.loft_turns.specs.Course.{IsRun}
+use Rattle.loft_turns.specs.Rounds.{AllRest, left}
+use Rattle.loft_turns.proofs.course.Course.rounds.Given as goal
+
+-- the rounds so far, of which the last did nothing, where none is to come
+abbrev pub invariant-rounds : goal.invariant-rounds
+invariant-rounds g l =
+    let x = g.X.Setting.program in
+    let o = g.X.Setting.options in
+    record {
+      run : IsRun x o l.self;
+      rest : AllRest l.self.world.history;
+      ended : l.goes_on ≡ false → HasEnded x o l.self.world.history;
+    }
+
+abbrev pub decreases-rounds : goal.decreases-rounds
+decreases-rounds g l = left g.X.Setting.program g.X.Setting.options l.self.world.history + (if l.goes_on then 1 else 0)

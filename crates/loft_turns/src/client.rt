@@ -1,0 +1,109 @@
+//! The orders of the source's clients, as they are sent.
+
+ghost use Rattle.std.specs.Prelude.{◌≡◌, ◌∷◌, [], ◌+◌, ◌^◌, ◌<◌, IfOk, IsTrue, is_some, slice_get};
+ghost use Rattle.std.specs.Option.{option_map};
+ghost use Rattle.loft_tree.specs.Fits.{Each};
+ghost use Rattle.loft_sense.specs.Clients.{control_of, orders_from, orders_or_none};
+ghost use Rattle.loft_sense.specs.Legal.{FitsOne};
+ghost use Rattle.loft_sense.specs.Machine.{heads as heads_of};
+ghost use Rattle.loft_turns.specs.Course.{orders_left};
+
+use crate::setting::Setting;
+use loft_base::{Maker, NoMemory, Sequence, ThreadId};
+use loft_sense::{Order, Sent, To};
+use loft_tree::{ClientOrder, Control, Heads};
+use loft_world::World;
+use std::alloc::Global;
+
+/// The order that stops, suspends or resumes a thread.
+fn control_of(control: Control, thread: ThreadId) -> Order
+    ensures { result ≡ control_of control thread }
+{
+    match control {
+        Control::Stop => Order::Stop(thread),
+        Control::Suspend => Order::Suspend(thread),
+        Control::Resume => Order::Resume(thread),
+    }
+}
+
+/// A client's order as it is sent, where its next create is this one, counted from 0.
+fn sent_of<X: Setting>(
+    alloc: Global,
+    world: &World,
+    client: u32,
+    create: u64,
+    order: &ClientOrder,
+) -> Result<Sent, NoMemory>
+    requires heads { world.now.heads ≡ heads_of X.program }
+    requires fits { Each (λ m. FitsOne X.program m.to m.order)
+        (orders_from (heads_of X.program) client create (order.now ∷ [])) }
+    ensures { IfOk result (λ sent. orders_from (heads_of X.program) client create (order.now ∷ [])
+        ≡ sent ∷ []) }
+{
+    Ok(match order {
+        ClientOrder::Create {
+            scheduler,
+            module,
+            arguments,
+        } => Sent {
+            to: To::Sched(*scheduler),
+            order: Order::Create {
+                thread: ThreadId {
+                    maker: Maker::Client(client),
+                    seq: create,
+                },
+                module: *module,
+                args: Sequence::from_slice(alloc, arguments.as_slice())?,
+            },
+        },
+        ClientOrder::Control {
+            control,
+            thread,
+            scheduler,
+        } => Sent {
+            to: To::Sched(*scheduler),
+            order: control_of(*control, *thread),
+        },
+        ClientOrder::Broadcast { event, value } => Sent {
+            to: To::Sched(world.home(*event)),
+            order: Order::Broadcast {
+                event: *event,
+                value: *value,
+            },
+        },
+    })
+}
+
+/// The order of a client at this index, counted from 0. None where the client has no more orders,
+/// and for a client that isn't declared.
+fn order_of(heads: &Heads, client: u32, index: usize) -> Option<&ClientOrder>
+    ensures order { option_map (λ order. order.now) result
+        ≡ slice_get (orders_or_none (slice_get heads.now.clients client)) index }
+    ensures next { IsTrue (is_some result) → index + 1 < 2 ^ 64 }
+{
+    let client = heads.clients.as_slice().get(client as usize)?;
+    client.orders.as_slice().get(index)
+}
+
+/// The same as it is sent.
+pub(crate) fn order_at<X: Setting>(
+    alloc: Global,
+    heads: &Heads,
+    world: &World,
+    client: u32,
+    index: usize,
+) -> Result<Option<Sent>, NoMemory>
+    requires declared { heads.now ≡ heads_of X.program }
+    requires heads { world.now.heads ≡ heads_of X.program }
+    requires fits { Each (λ m. FitsOne X.program m.to m.order) (orders_left X.program
+        client world.now.history index) }
+    ensures order { IfOk result (λ sent.
+        sent ≡ slice_get (orders_left X.program client world.now.history index) 0) }
+    ensures next { IfOk result (λ sent. IsTrue (is_some sent) → index + 1 < 2 ^ 64) }
+{
+    let Some(order) = order_of(heads, client, index) else {
+        return Ok(None);
+    };
+    let sent = sent_of::<X>(alloc, world, client, world.creates(client), order)?;
+    Ok(Some(sent))
+}

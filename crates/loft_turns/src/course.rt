@@ -1,0 +1,146 @@
+//! A run so far, and how it goes on by one choice.
+
+ghost use Rattle.std.specs.Prelude.{◌≡◌, [], length, IfOk, OnOk};
+ghost use Rattle.loft_sense.specs.Machine.{heads as heads_of};
+ghost use Rattle.loft_sense.specs.History.{TakeBy, GiveBy, ClientBy};
+ghost use Rattle.loft_world.specs.Replay.{IsReplayOf};
+ghost use Rattle.loft_turns.specs.Course.{IsRun, CanRun, Moves, stands_after};
+
+use crate::client::order_at;
+use crate::setting::Setting;
+use crate::station::Station;
+use loft_base::{NoMemory, SchedId, Sequence};
+use loft_sense::Engine;
+use loft_tree::Heads;
+use loft_world::{Finals, Finished, Notes, World};
+use std::alloc::Global;
+use std::marker::Model;
+
+/// A run so far: its world, its schedulers in the order of their declarations, and how many orders
+/// each client of the source has given.
+#[derive(Drop)]
+pub struct Course<X: Setting, E: Engine> {
+    world: World,
+    stations: Vec<Station<X, E>>,
+    given: Vec<usize>,
+}
+
+impl<X: Setting, E: Engine> Model for Course<X, E> {
+    ghost use Rattle.loft_turns.specs.Course.{Course};
+
+    ghost Value = { Course };
+
+    ghost view = { λ c. record { world = c.world; stations = c.stations.items; given = c.given.items } };
+}
+
+impl<X: Setting, E: Engine> Course<X, E> {
+    /// A run without entries, of schedulers before their first instant.
+    pub fn new(
+        alloc: Global,
+        heads: &Heads,
+        stations: Vec<Station<X, E>>,
+    ) -> Result<Course<X, E>, NoMemory>
+        requires heads { heads.now ≡ heads_of X.program }
+        requires stations { stations.items ≡ stands_after X.program X.options []
+            (length (heads_of X.program).schedulers) }
+        ensures run { IfOk result (λ c. IsRun X.program X.options c) }
+        ensures start { IfOk result (λ c. c.world.history ≡ []) }
+    {
+        let mut given = Vec::new(alloc);
+        for _ in 0..heads.clients.len() {
+            given.push(0)?;
+        }
+        Ok(Course {
+            world: World::make(alloc, heads)?,
+            stations,
+            given,
+        })
+    }
+
+    /// The scheduler takes what waits for it and makes an instant on it, where that is allowed.
+    /// Answers whether it was.
+    pub fn take(&mut self, alloc: Global, s: SchedId) -> Result<bool, NoMemory>
+        requires run { IsRun X.program X.options self.old }
+        requires can { CanRun X.program X.options }
+        ensures run { OnOk result (IsRun X.program X.options self.new) }
+        ensures moves { IfOk result (λ moved. Moves X.program X.options self.old.world.history
+            (TakeBy s) moved self.new.world.history) }
+    {
+        let at = s.0 as usize;
+        if at >= self.stations.len() {
+            return Ok(false);
+        }
+        self.stations[at].take(alloc, s, &mut self.world)
+    }
+
+    /// The scheduler gives what its instant sent, where that is allowed. Answers whether it was.
+    pub fn give(&mut self, alloc: Global, s: SchedId) -> Result<bool, NoMemory>
+        requires run { IsRun X.program X.options self.old }
+        requires can { CanRun X.program X.options }
+        ensures run { OnOk result (IsRun X.program X.options self.new) }
+        ensures moves { IfOk result (λ moved. Moves X.program X.options self.old.world.history
+            (GiveBy s) moved self.new.world.history) }
+    {
+        let at = s.0 as usize;
+        if at >= self.stations.len() {
+            return Ok(false);
+        }
+        self.stations[at].give(alloc, s, &mut self.world)
+    }
+
+    /// The client gives its next order, where it has one. Answers whether it had.
+    pub fn client(&mut self, alloc: Global, heads: &Heads, c: u32) -> Result<bool, NoMemory>
+        requires run { IsRun X.program X.options self.old }
+        requires can { CanRun X.program X.options }
+        requires heads { heads.now ≡ heads_of X.program }
+        ensures run { OnOk result (IsRun X.program X.options self.new) }
+        ensures moves { IfOk result (λ moved. Moves X.program X.options self.old.world.history
+            (ClientBy c) moved self.new.world.history) }
+    {
+        let at = c as usize;
+        if at >= self.given.len() {
+            return Ok(false);
+        }
+        let given = self.given[at];
+        let Some(sent) = order_at::<X>(alloc, heads, &self.world, c, given)? else {
+            return Ok(false);
+        };
+        self.world.client(alloc, c, &sent)?;
+        self.given[at] = given + 1;
+        Ok(true)
+    }
+
+    /// The number of the scheduler's last instant; 0 for one that isn't declared.
+    pub(crate) fn instant(&self, s: SchedId) -> u64 {
+        match self.stations.get(s.0 as usize) {
+            Some(station) => station.instant(),
+            None => 0,
+        }
+    }
+
+    /// What the run leaves: its world, the notes, and how each scheduler stands.
+    pub fn finish(self, alloc: Global) -> Result<Finished, NoMemory>
+        requires run { IsRun X.program X.options self }
+        ensures world { IfOk result (λ run. run.world ≡ self.world) }
+        ensures replay { IfOk result (λ run. IsReplayOf X.program X.options.limits
+            self.world.history run.notes.of run.finals.of) }
+    {
+        let Course {
+            world,
+            stations,
+            ..
+        } = self;
+        let mut notes = Sequence::new(alloc);
+        let mut finals = Sequence::new(alloc);
+        for station in stations {
+            let (own, last) = station.finish(alloc)?;
+            notes.push(own)?;
+            finals.push(last)?;
+        }
+        Ok(Finished {
+            world,
+            notes: Notes { of: notes },
+            finals: Finals { of: finals },
+        })
+    }
+}

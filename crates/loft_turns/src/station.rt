@@ -1,0 +1,143 @@
+//! One scheduler in a run.
+
+ghost use Rattle.std.specs.Prelude.{◌≡◌, [], ℕ, false, All, IfOk, OnOk};
+ghost use Rattle.loft_sense.specs.Fits.{Fits};
+ghost use Rattle.loft_sense.specs.Machine.{empty, heads as heads_of};
+ghost use Rattle.loft_sense.specs.History.{TakeBy, GiveBy, has_turn, waiting};
+ghost use Rattle.loft_world.specs.State.{IsScheduler, scheduler};
+ghost use Rattle.loft_turns.specs.Course.{Moves, stand_after, IsLast};
+
+use crate::setting::Setting;
+use loft_base::{NoMemory, SchedId, Sequence};
+use loft_sense::{Engine, FinalState, InstantNote, Orders};
+use loft_world::{NoteList, World};
+use std::alloc::Global;
+use std::marker::{Model, PhantomData};
+
+/// A scheduler in a run: its engine, the notes of its instants, and the note of the instant that it
+/// is in, after a take and before the give that follows.
+#[derive(Drop)]
+pub struct Station<X: Setting, E: Engine> {
+    engine: E,
+    notes: NoteList,
+    current: Option<InstantNote>,
+    of: PhantomData<X>,
+}
+
+impl<X: Setting, E: Engine> Model for Station<X, E> {
+    ghost use Rattle.std.specs.Prelude.{◌≡◌, ◌++◌, is_some};
+    ghost use Rattle.std.specs.Option.{option_to_list};
+    ghost use Rattle.loft_turns.specs.Course.{Stand};
+
+    ghost Value = { Stand };
+
+    ghost view = { λ s. record {
+      scheduler = E.scheduler s.engine;
+      failed = E.has_failed s.engine;
+      machine = E.machine s.engine;
+      notes = s.notes ++ option_to_list s.current;
+      running = is_some s.current;
+    } };
+
+    ghost invariant = { λ s. (E.program s.engine ≡ X.program) × (E.limits s.engine ≡ X.options.limits) };
+}
+
+impl<X: Setting, E: Engine> Station<X, E> {
+    /// A scheduler before its first instant, with an engine that has made none.
+    pub fn new(alloc: Global, engine: E) -> Station<X, E>
+        requires program { E.program engine ≡ X.program }
+        requires limits { E.limits engine ≡ X.options.limits }
+        requires fresh { E.machine engine ≡ empty X.program (E.scheduler engine) }
+        requires works { E.has_failed engine ≡ false }
+        ensures { (k : ℕ) → E.scheduler engine ≡ scheduler k
+            → result ≡ stand_after X.program X.options [] k }
+    {
+        Station {
+            engine,
+            notes: Sequence::new(alloc),
+            current: None,
+            of: PhantomData,
+        }
+    }
+
+    /// Whether it has a turn to make on these orders.
+    fn has_turn(&self, orders: &Orders) -> bool
+        requires { self.now.failed ≡ false }
+        ensures { result ≡ has_turn X.program X.options.limits self.now.machine orders.now }
+    {
+        !self.engine.spent() && !(self.engine.resting() && orders.is_empty())
+    }
+
+    /// Takes what waits for the scheduler and makes an instant on it, where it has a turn to make.
+    /// Answers whether it has taken.
+    pub(crate) fn take(
+        &mut self,
+        alloc: Global,
+        s: SchedId,
+        world: &mut World,
+    ) -> Result<bool, NoMemory>
+        requires declared { IsScheduler world.old.heads s }
+        requires heads { world.old.heads ≡ heads_of X.program }
+        requires stands { self.old ≡ stand_after X.program X.options world.old.history s.0 }
+        requires fits { All (Fits X.program s) (waiting (heads_of X.program) s world.old.history) }
+        ensures stands { OnOk result
+            (self.new ≡ stand_after X.program X.options world.new.history s.0) }
+        ensures moves { IfOk result (λ moved. Moves X.program X.options world.old.history
+            (TakeBy s) moved world.new.history) }
+        ensures heads { OnOk result (world.new.heads ≡ world.old.heads) }
+    {
+        if self.current.is_some() || !self.has_turn(world.left(s)) {
+            return Ok(false);
+        }
+        let batch = world.take(alloc, s)?;
+        let note = self.engine.take(alloc, &batch)?;
+        self.current = Some(note);
+        Ok(true)
+    }
+
+    /// Gives what the instant sent, where the scheduler is in one. Answers whether it has given.
+    pub(crate) fn give(
+        &mut self,
+        alloc: Global,
+        s: SchedId,
+        world: &mut World,
+    ) -> Result<bool, NoMemory>
+        requires declared { IsScheduler world.old.heads s }
+        requires heads { world.old.heads ≡ heads_of X.program }
+        requires stands { self.old ≡ stand_after X.program X.options world.old.history s.0 }
+        ensures stands { OnOk result
+            (self.new ≡ stand_after X.program X.options world.new.history s.0) }
+        ensures moves { IfOk result (λ moved. Moves X.program X.options world.old.history
+            (GiveBy s) moved world.new.history) }
+        ensures heads { OnOk result (world.new.heads ≡ world.old.heads) }
+    {
+        let Some(note) = self.current.take() else {
+            return Ok(false);
+        };
+        world.give(alloc, s, &note.sent)?;
+        self.notes.push(note)?;
+        Ok(true)
+    }
+
+    /// The number of its last instant.
+    pub(crate) fn instant(&self) -> u64 {
+        self.engine.instant()
+    }
+
+    /// The notes of its instants, and how it stands.
+    pub(crate) fn finish(self, alloc: Global) -> Result<(NoteList, FinalState), NoMemory>
+        ensures { IfOk result (λ last. IsLast self last.0 last.1) }
+    {
+        let Station {
+            engine,
+            mut notes,
+            current,
+            ..
+        } = self;
+        let last = engine.last(alloc)?;
+        if let Some(note) = current {
+            notes.push(note)?;
+        }
+        Ok((notes, last))
+    }
+}
