@@ -1,0 +1,23 @@
+//! The choices of a history, by name.
+
+use loft_base::Sequence;
+use loft_tree::Name;
+
+/// Choices, in the order in which they are made.
+pub type Choices = Sequence<Choice>;
+
+/// Who makes the next entry of a history, and of which kind: a line of a report's history
+/// (docs/REPORT.md, "The report"). A name may be that of nobody.
+#[derive(Debug, Drop)]
+pub enum Choice {
+    /// The scheduler of this name takes.
+    Take(Name),
+    /// The scheduler of this name gives.
+    Give(Name),
+    /// The worker of this number, counted from 0, picks a thread.
+    Pick(u32),
+    /// The worker of this number, counted from 0, posts an order.
+    Post(u32),
+    /// The client of this name gives an order.
+    Client(Name),
+}
