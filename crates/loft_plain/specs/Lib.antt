@@ -1,1 +1,2 @@
 pub mod PlainEngine
+pub mod PlainJob

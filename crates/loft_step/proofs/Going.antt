@@ -154,6 +154,7 @@ module _ (c : Automata) where
 -- where operation q enters a module, the frame stands
 pub enters : (c : Automata) (lines : List Line) (q : ℕ) (l : Line) (new : Running) (b b' : BesideInMemory) (m : Option Move) (other : Move) → m ≡ Some other → lines ≡ lines_at c new.scope.at.module
     → StopsAreNumbered lines → Some l ≡ slice_get lines q → IfCalls m l.operation q new → b.around.steps < b'.around.steps → IfEnters other c new b b'
+enters c lines q l new b b' m move.Pause is is_lines numbered at calls more = more
 enters c lines q l new b b' m move.Return is is_lines numbered at calls more = tt
 enters c lines q l new b b' m (move.Enter called arguments) is is_lines numbered at calls more =
     let stop = subst (λ (x : Option Move). IfCalls x l.operation q new) is calls in
@@ -192,6 +193,10 @@ module _ (c : Automata) (top new : Running) (b b' : BesideInMemory) (outer : Lis
 
   walked : (other : Move) → m ≡ other → before ≡ advance other (code c) left (going (code c) left) (active new) (actives c outer) (beside_of b')
   walked other is = walks (actives c outer) ∙ ap (λ (x : Move). advance x (code c) left (going (code c) left) (active new) (actives c outer) (beside_of b')) is
+
+  -- the run pauses
+  pub run_pauses : m ≡ move.Pause → going (code c) left (beside_of b') (active new ∷ actives c outer) ≡ before
+  run_pauses is = sym (walked move.Pause is)
 
   -- no caller is there
   pub run_done : m ≡ move.Return → outer ≡ [] → ends Done (beside_of b') left ≡ before

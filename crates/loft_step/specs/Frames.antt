@@ -35,6 +35,7 @@ pub record Stands (c : Automata) (r : Running) : Type 0 where
 
 -- what becomes of the thread whose innermost frame is left as r, over the frames rs
 abbrev pub advance : Move → Control Point → ℕ → (Beside → List (Active Point) → Outcome) → Active Point → List (Active Point) → Beside → Outcome
+advance move.Pause c left on r rs b = on b (r ∷ rs)
 advance move.Return c left on r rs b = on b rs
 advance (move.Enter m arguments) c left on r rs b = run_on c left on (Some arguments) m r rs b
 advance (move.Hold wait) c left on r rs b = Held (thread_of c wait (r ∷ rs) b) b.around left
@@ -67,6 +68,7 @@ Steps h next old b move new b' =
 -- where operation p enters a module, the frame stands at its stop, and goes on at the next operation
 abbrev pub IfCalls : Option Move → Operation → ℕ → Running → Type 0
 IfCalls None o p r = Unit {0}
+IfCalls (Some move.Pause) o p r = Unit {0}
 IfCalls (Some move.Return) o p r = Unit {0}
 IfCalls (Some (move.Enter m arguments)) o p r = (stop_of o ≡ Some r.scope.at.stop) × (r.op ≡ p + 1)
 IfCalls (Some (move.Hold wait)) o p r = Unit {0}
@@ -87,8 +89,9 @@ Walks c old b move new b' =
     → going (code c) (steps_left b.around) (beside_of b) (active old ∷ rs)
     ≡ advance move (code c) (steps_left b'.around) (going (code c) (steps_left b'.around)) (active new) rs (beside_of b')
 
--- where a module is entered, a step was made, and the frame stands
+-- where the run pauses, a step was made; where a module is entered, too, and the frame stands
 abbrev pub IfEnters : Move → Automata → Running → BesideInMemory → BesideInMemory → Type 0
+IfEnters move.Pause c r b b' = b.around.steps < b'.around.steps
 IfEnters move.Return c r b b' = Unit {0}
 IfEnters (move.Enter m arguments) c r b b' = Stands c r × (b.around.steps < b'.around.steps)
 IfEnters (move.Hold wait) c r b b' = Unit {0}

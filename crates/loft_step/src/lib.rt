@@ -3,7 +3,9 @@
 #![tactic(auto)]
 
 mod jump;
+mod midst;
 mod operand;
+mod paused;
 mod running;
 mod step;
 mod steps;
@@ -11,7 +13,9 @@ mod thread;
 mod value;
 mod walk;
 
-pub use loft_effect::Around;
+pub use loft_effect::{Around, Gone};
+pub use midst::{Paused, Progress};
+pub use paused::{begin, go_on};
 pub use steps::Steps;
 pub use thread::go;
 pub use value::eval;

@@ -19,6 +19,8 @@ use std::alloc::Global;
 /// What becomes of a thread where its innermost frame doesn't just go on.
 #[derive(Debug, Drop)]
 pub enum Move {
+    /// The frame goes on as the run is taken up again.
+    Pause,
     /// The frame is dropped.
     Return,
     /// A module runs in a further frame, with these arguments.

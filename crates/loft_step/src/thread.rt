@@ -1,6 +1,6 @@
 //! A thread runs by its code (docs/SEMANTICS.md, "Run").
 
-ghost use Rattle.std.specs.Prelude.{◌≡◌, ◌∷◌, ◌-◌, ◌+◌, ◌≤◌, IfOk, OnOk};
+ghost use Rattle.std.specs.Prelude.{◌≡◌, ◌∷◌, ◌-◌, ◌+◌, ◌<◌, ◌≤◌, true, IfOk, OnOk};
 ghost use Rattle.loft_code.specs.Operations.{Automata};
 ghost use Rattle.loft_code.specs.View.{automata_of};
 ghost use Rattle.loft_sense.specs.declared.thread.Wait.TheVariants.{New as WaitNew};
@@ -13,7 +13,9 @@ ghost use Rattle.loft_effect.specs.View.{around_of, beside_of, pace_of, steps_le
 ghost use Rattle.loft_effect.specs.Outcomes.{outcome_of, outcome_with};
 ghost use Rattle.loft_step.specs.Frames.{active, actives};
 ghost use Rattle.loft_step.specs.Kept.{AreKept};
+ghost use Rattle.loft_step.specs.Midst.{turn_with, IfGoes};
 
+use crate::midst::{Stack, Turn};
 use crate::running::{Running, settle_all};
 use crate::step::Move;
 use crate::steps::Steps;
@@ -85,50 +87,86 @@ fn end(beside: &mut Beside, end: End) -> Result<Outcome, NoMemory>
     Ok(Outcome::Ended(end))
 }
 
-/// A thread goes on with these frames, the innermost apart.
-fn run<L: Ledger>(
+/// A thread goes on with these frames until it stops; where it pauses, also until something was done.
+pub fn run<L: Ledger>(
     alloc: Global,
     code: &Code,
-    mut top: Running,
-    mut outer: Frames,
+    stack: Stack,
     beside: &mut Beside,
+    pauses: bool,
     steps: &mut Steps<L>,
-) -> Result<Outcome, NoMemory>
-    requires { AreKept outer }
-    ensures gone { IfOk result (λ outcome. let c = automata_of code.now in
-        outcome_with outcome beside.new.around ≡ going (control_of c) (steps_left beside.old.around) (beside_of beside.old) (active top ∷ actives c outer)) }
+) -> Result<Turn, NoMemory>
+    ensures gone { IfOk result (λ turn. let c = automata_of code.now in
+        turn_with c turn beside.new ≡ going (control_of c) (steps_left beside.old.around) (beside_of beside.old) (active stack.top ∷ actives c stack.outer)) }
+    ensures pauses { IfOk result (λ turn. IfGoes turn (pauses ≡ true)) }
+    ensures fewer { IfOk result (λ turn. IfGoes turn (steps_left beside.new.around < steps_left beside.old.around)) }
     ensures bound { OnOk result (beside.new.around.bound ≡ beside.old.around.bound) }
     ensures grows { OnOk result (beside.old.around.steps ≤ beside.new.around.steps) }
     ensures counted { OnOk result (steps.new + beside.old.around.steps ≡ steps.old + beside.new.around.steps) }
 {
+    let Stack { mut top, mut outer } = stack;
     'going: loop {
-        match top.walk(alloc, code, beside, steps)? {
+        match top.walk(alloc, code, beside, pauses, steps)? {
+            Move::Pause => {
+                if pauses {
+                    return Ok(Turn::Goes(Stack { top, outer }));
+                }
+            }
             Move::Return => {
                 let Some(frame) = outer.pop() else {
-                    return end(beside, End::Done);
+                    return Ok(Turn::Stops(end(beside, End::Done)?));
                 };
                 let (caller, _) = Running::wake(code, frame);
                 top = caller;
             }
             Move::Enter(module, arguments) => {
                 if outer.len() + 1 >= MAX_FRAMES {
-                    return end(beside, End::Deep(top.scope.at));
+                    let cause = End::Deep(top.scope.at);
+                    return Ok(Turn::Stops(end(beside, cause)?));
                 }
                 let called = Running::begin(alloc, code, beside.id, module, arguments)?;
                 outer.push(mem::replace(&mut top, called).keep())?;
             }
-            Move::Hold(wait) => return hold(beside, top, outer, wait),
-            Move::Leave(to) => return leave(beside, top, outer, to),
-            Move::End(cause) => return end(beside, cause),
+            Move::Hold(wait) => return Ok(Turn::Stops(hold(beside, top, outer, wait)?)),
+            Move::Leave(to) => return Ok(Turn::Stops(leave(beside, top, outer, to)?)),
+            Move::End(cause) => return Ok(Turn::Stops(end(beside, cause)?)),
         }
     }
 }
 
-/// A thread with these frames, outermost first, goes on from where it stood.
-fn begin<L: Ledger>(
-    alloc: Global,
+/// A thread with these frames, outermost first, begins to go on from where it stood.
+pub fn begin<L: Ledger>(
     code: &Code,
     mut frames: Frames,
+    wait: &Wait,
+    beside: &mut Beside,
+    steps: &mut Steps<L>,
+) -> Result<Turn, NoMemory>
+    ensures gone { IfOk result (λ turn. let c = automata_of code.now in
+        turn_with c turn beside.new ≡ go_on (control_of c) (steps_left beside.old.around) wait.now (beside_of beside.old) (actives c frames)) }
+    ensures bound { OnOk result (beside.new.around.bound ≡ beside.old.around.bound) }
+    ensures grows { OnOk result (beside.old.around.steps ≤ beside.new.around.steps) }
+    ensures counted { OnOk result (steps.new + beside.old.around.steps ≡ steps.old + beside.new.around.steps) }
+{
+    if beside.around.steps == beside.around.bound {
+        let cause = over(frames.as_slice());
+        return Ok(Turn::Stops(end(beside, cause)?));
+    }
+    count(&mut beside.around, steps);
+    settle_all(frames.as_mut_slice());
+    let Some(frame) = frames.pop() else {
+        return Ok(Turn::Stops(end(beside, End::Done)?));
+    };
+    let (mut top, target) = Running::wake(code, frame);
+    top.scope.answer(code.heads(), beside, wait, target);
+    Ok(Turn::Goes(Stack { top, outer: frames }))
+}
+
+/// A thread goes on from where it stood, until it stops.
+fn whole<L: Ledger>(
+    alloc: Global,
+    code: &Code,
+    frames: Frames,
     wait: &Wait,
     beside: &mut Beside,
     steps: &mut Steps<L>,
@@ -139,18 +177,13 @@ fn begin<L: Ledger>(
     ensures grows { OnOk result (beside.old.around.steps ≤ beside.new.around.steps) }
     ensures counted { OnOk result (steps.new + beside.old.around.steps ≡ steps.old + beside.new.around.steps) }
 {
-    if beside.around.steps == beside.around.bound {
-        let cause = over(frames.as_slice());
-        return end(beside, cause);
+    match begin(code, frames, wait, beside, steps)? {
+        Turn::Stops(outcome) => Ok(outcome),
+        Turn::Goes(stack) => match run(alloc, code, stack, beside, false, steps)? {
+            Turn::Stops(outcome) => Ok(outcome),
+            Turn::Goes(_) => unreachable!(),
+        },
     }
-    count(&mut beside.around, steps);
-    settle_all(frames.as_mut_slice());
-    let Some(frame) = frames.pop() else {
-        return end(beside, End::Done);
-    };
-    let (mut top, target) = Running::wake(code, frame);
-    top.scope.answer(code.heads(), beside, wait, target);
-    run(alloc, code, top, frames, beside, steps)
 }
 
 /// A thread that can go runs from where it stood to the stop that holds it or by which it leaves, or to its end, in as many
@@ -175,7 +208,7 @@ pub fn go<L: Ledger>(
         mask: t.mask,
         around: take_around(alloc, around)?,
     };
-    let outcome = begin(alloc, c, frames, &t.wait, &mut beside, steps)?;
+    let outcome = whole(alloc, c, frames, &t.wait, &mut beside, steps)?;
     *around = beside.around;
     Ok(outcome.put(t))
 }

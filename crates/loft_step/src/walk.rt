@@ -31,12 +31,14 @@ pub fn count<L: Ledger>(around: &mut Around, steps: &mut Steps<L>)
 impl Running {
     ghost use Rattle.loft_step.specs.Frames.{Walks, IfEnters};
 
-    /// Steps of the frame, until it is dropped or something else becomes of its thread.
+    /// Steps of the frame, until it is dropped or something else becomes of its thread; where it pauses, also until
+    /// something was done.
     pub fn walk<L: Ledger>(
         &mut self,
         alloc: Global,
         code: &Code,
         beside: &mut Beside,
+        pauses: bool,
         steps: &mut Steps<L>,
     ) -> Result<Move, NoMemory>
         ensures walks { IfOk result (λ move. Walks (automata_of code.now) self.old beside.old move self.new beside.new) }
@@ -62,6 +64,9 @@ impl Running {
             };
             if let Some(other) = self.step(alloc, heads, beside, number, &line.op)? {
                 return Ok(other);
+            }
+            if pauses && !beside.around.acts.is_empty() {
+                return Ok(Move::Pause);
             }
         }
     }

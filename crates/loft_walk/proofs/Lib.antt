@@ -4,3 +4,4 @@ pub mod Bodies
 pub mod Counts
 pub mod Frames
 pub mod Going
+pub mod Midst

@@ -1,3 +1,4 @@
 pub mod Groups
 pub mod Pieces
 pub mod Frames
+pub mod Midst

@@ -2,6 +2,7 @@
 //! its end.
 #![tactic(auto)]
 
+mod paused;
 mod resume;
 mod running;
 mod statement;
@@ -10,4 +11,5 @@ mod thread;
 mod work;
 
 pub use loft_effect::{Gone, Outcome};
-pub use thread::go;
+pub use paused::{Paused, Progress};
+pub use thread::{begin, go, go_on};

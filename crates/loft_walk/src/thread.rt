@@ -1,6 +1,6 @@
 //! A thread walks its statements (docs/SEMANTICS.md, "Run").
 
-ghost use Rattle.std.specs.Prelude.{◌≡◌, ◌≤◌, ◌-◌, IfOk, OnOk, map, reverse};
+ghost use Rattle.std.specs.Prelude.{◌≡◌, ◌≤◌, ◌-◌, true, IfOk, OnOk, map, reverse};
 ghost use Rattle.std.specs.Option.{option_map};
 ghost use Rattle.loft_tree.specs.ProgramView.{program_of};
 ghost use Rattle.loft_tree.specs.Resolved.{Resolved, resolved_of, target_of as variable_of};
@@ -13,7 +13,9 @@ ghost use Rattle.loft_sense.specs.Tree.{tree};
 ghost use Rattle.loft_effect.specs.View.{around_of, beside_of, steps_left};
 ghost use Rattle.loft_effect.specs.Outcomes.{gone_of};
 ghost use Rattle.loft_walk.specs.Frames.{active, actives, live_of, top_target, Answers};
+ghost use Rattle.loft_walk.specs.Midst.{paused_outcome, paused_left, bound_of, progress_outcome, progress_left, bound_in, IfGoes};
 
+use crate::paused::{Paused, Progress};
 use crate::running::Running;
 use crate::step::Move;
 use crate::work::{Task, take};
@@ -173,42 +175,54 @@ fn end(mut beside: Beside, end: End, left: u64) -> Result<Gone, NoMemory>
     Ok(Gone { outcome, around })
 }
 
-/// A thread with these frames goes on, outermost first, in at most so many further steps.
+/// A thread with these frames goes on, outermost first, in at most so many further steps, until it stops; where it pauses,
+/// also until something was done.
 fn run<'a>(
     alloc: Global,
     program: &'a NamedProgram,
     mut running: Vec<Running<'a>>,
     mut beside: Beside,
     mut left: u64,
-) -> Result<Gone, NoMemory>
+    pauses: bool,
+) -> Result<Progress<'a>, NoMemory>
     requires { left ≤ beside.around.bound }
-    ensures gone { IfOk result (λ gone. gone_of gone
+    ensures gone { IfOk result (λ progress. progress_outcome (resolved_of (program_of program.now)) progress
         ≡ going (tree (resolved_of (program_of program.now))) left (beside_of beside) (actives running.entry.items)) }
-    ensures bound { IfOk result (λ gone. gone.around.bound ≡ beside.around.bound) }
+    ensures pauses { IfOk result (λ progress. IfGoes progress (pauses ≡ true)) }
+    ensures left { IfOk result (λ progress. progress_left progress ≤ left) }
+    ensures bound { IfOk result (λ progress. bound_in progress ≡ beside.around.bound) }
 {
     'going: while let Some((mut top, task)) = next_task(&mut running)? {
         if left == 0 {
-            return end(beside, End::Over(top.scope.at), 0);
+            return Ok(Progress::Stops(end(beside, End::Over(top.scope.at), 0)?));
         }
         left -= 1;
         let step = top.step(alloc, &program.heads, &mut beside, task)?;
         let at = top.scope.at;
         running.push(top)?;
         match step {
-            Move::GoOn => {}
+            Move::GoOn => {
+                if pauses && !beside.around.acts.is_empty() {
+                    return Ok(Progress::Goes(Paused::new(running, beside, left)));
+                }
+            }
             Move::Enter(module, arguments) => {
                 if running.len() >= MAX_FRAMES {
-                    return end(beside, End::Deep(at), left);
+                    return Ok(Progress::Stops(end(beside, End::Deep(at), left)?));
                 }
                 let frame = Running::begin(alloc, program, beside.id, module, arguments)?;
                 running.push(frame)?;
             }
-            Move::Hold(wait) => return hold(alloc, beside, running, wait, left),
-            Move::Leave(to) => return leave(alloc, beside, running, to, left),
-            Move::End(cause) => return end(beside, cause, left),
+            Move::Hold(wait) => {
+                return Ok(Progress::Stops(hold(alloc, beside, running, wait, left)?));
+            }
+            Move::Leave(to) => {
+                return Ok(Progress::Stops(leave(alloc, beside, running, to, left)?));
+            }
+            Move::End(cause) => return Ok(Progress::Stops(end(beside, cause, left)?)),
         }
     }
-    end(beside, End::Done, left)
+    Ok(Progress::Stops(end(beside, End::Done, left)?))
 }
 
 /// The wait of a thread with these frames ends, as it goes on; `target` is the variable that the stop of the innermost
@@ -230,19 +244,20 @@ fn answer(
     Ok(())
 }
 
-/// A thread with these frames goes on from where it stood, outermost first, in at most so many steps.
-fn walk(
+/// A thread with these frames begins to go on from where it stood, outermost first, in at most so many steps.
+fn walk<'a>(
     alloc: Global,
-    program: &NamedProgram,
+    program: &'a NamedProgram,
     frames: Vec<Frame>,
     wait: &Wait,
     mut beside: Beside,
     left: u64,
-) -> Result<Gone, NoMemory>
+) -> Result<Progress<'a>, NoMemory>
     requires { left ≤ beside.around.bound }
-    ensures gone { IfOk result (λ gone. let code = tree (resolved_of (program_of program.now)) in
-        gone_of gone ≡ go_on code left wait.now (beside_of beside) (map (active_of code) (reverse frames.items))) }
-    ensures bound { IfOk result (λ gone. gone.around.bound ≡ beside.around.bound) }
+    ensures gone { IfOk result (λ progress. let code = tree (resolved_of (program_of program.now)) in
+        progress_outcome (resolved_of (program_of program.now)) progress
+        ≡ go_on code left wait.now (beside_of beside) (map (active_of code) (reverse frames.items))) }
+    ensures bound { IfOk result (λ progress. bound_in progress ≡ beside.around.bound) }
 {
     let Woken {
         mut running,
@@ -250,23 +265,60 @@ fn walk(
     } = wake_all(alloc, program, frames)?;
     if left == 0 {
         let cause = over(running.as_slice());
-        return end(beside, cause, 0);
+        return Ok(Progress::Stops(end(beside, cause, 0)?));
     }
     answer(&program.heads, &mut running, &mut beside, wait, target)?;
-    run(alloc, program, running, beside, left - 1)
+    Ok(Progress::Goes(Paused::new(running, beside, left - 1)))
 }
 
-/// A thread that can go runs from where it stood to the stop that holds it or by which it leaves, or to its end, in as many
-/// steps as what stands around it still allows.
-pub fn go(
+/// A run goes on until it stops; where it pauses, also until something was done.
+fn run_on<'a>(
     alloc: Global,
-    program: &NamedProgram,
-    thread: Thread,
-    around: Around,
+    program: &'a NamedProgram,
+    paused: Paused<'a>,
+    pauses: bool,
+) -> Result<Progress<'a>, NoMemory>
+    ensures gone { IfOk result (λ progress. progress_outcome (resolved_of (program_of program.now)) progress
+        ≡ paused_outcome (resolved_of (program_of program.now)) paused.entry) }
+    ensures pauses { IfOk result (λ progress. IfGoes progress (pauses ≡ true)) }
+    ensures left { IfOk result (λ progress. progress_left progress ≤ paused_left paused.entry) }
+    ensures bound { IfOk result (λ progress. bound_in progress ≡ bound_of paused.entry) }
+{
+    let Paused { running, beside } = paused;
+    let left = beside.around.bound - beside.around.steps;
+    run(alloc, program, running, beside, left, pauses)
+}
+
+/// A run that has come so far goes on until it stops.
+fn finish<'a>(
+    alloc: Global,
+    program: &'a NamedProgram,
+    progress: Progress<'a>,
 ) -> Result<Gone, NoMemory>
     ensures gone { IfOk result (λ gone. gone_of gone
+        ≡ progress_outcome (resolved_of (program_of program.now)) progress.entry) }
+    ensures bound { IfOk result (λ gone. gone.around.bound ≡ bound_in progress.entry) }
+{
+    match progress {
+        Progress::Stops(gone) => Ok(gone),
+        Progress::Goes(paused) => match run_on(alloc, program, paused, false)? {
+            Progress::Stops(gone) => Ok(gone),
+            Progress::Goes(_) => unreachable!(),
+        },
+    }
+}
+
+/// A thread that can go begins to go on from where it stood, in as many steps as what stands around it still allows. It
+/// runs no statement so far.
+pub fn begin<'a>(
+    alloc: Global,
+    program: &'a NamedProgram,
+    thread: Thread,
+    around: Around,
+) -> Result<Progress<'a>, NoMemory>
+    ensures gone { IfOk result (λ progress. progress_outcome (resolved_of (program_of program.now)) progress
         ≡ run_of (Tree (resolved_of (program_of program.now))) thread (around_of around) (steps_left around)) }
-    ensures bound { IfOk result (λ gone. gone.around.bound ≡ around.bound) }
+    ensures bound { IfOk result (λ progress. bound_in progress ≡ around.bound) }
 {
     let Thread {
         id,
@@ -283,4 +335,33 @@ pub fn go(
         around,
     };
     walk(alloc, program, frames.into_vec(), &wait, beside, left)
+}
+
+/// A run goes on until something was done, or it stops. Each time it makes a step, or stops.
+pub fn go_on<'a>(
+    alloc: Global,
+    program: &'a NamedProgram,
+    paused: Paused<'a>,
+) -> Result<Progress<'a>, NoMemory>
+    ensures gone { IfOk result (λ progress. progress_outcome (resolved_of (program_of program.now)) progress
+        ≡ paused_outcome (resolved_of (program_of program.now)) paused.entry) }
+    ensures left { IfOk result (λ progress. progress_left progress ≤ paused_left paused.entry) }
+{
+    run_on(alloc, program, paused, true)
+}
+
+/// A thread that can go runs from where it stood to the stop that holds it or by which it leaves, or to its end, in as many
+/// steps as what stands around it still allows.
+pub fn go(
+    alloc: Global,
+    program: &NamedProgram,
+    thread: Thread,
+    around: Around,
+) -> Result<Gone, NoMemory>
+    ensures gone { IfOk result (λ gone. gone_of gone
+        ≡ run_of (Tree (resolved_of (program_of program.now))) thread (around_of around) (steps_left around)) }
+    ensures bound { IfOk result (λ gone. gone.around.bound ≡ around.bound) }
+{
+    let progress = begin(alloc, program, thread, around)?;
+    finish(alloc, program, progress)
 }

@@ -9,7 +9,6 @@ use Rattle.loft_effect.specs.View.{beside_of, steps_left}
 use Rattle.loft_step.specs.Frames.{actives}
 use Rattle.loft_step.specs.Kept.{settled}
 use Rattle.loft_step.proofs.Kept.{all_settled, settled_back, settled_actives, actives-push, kept-pop}
-use Rattle.loft_effect.proofs.Runs.{outcome_as}
 use Rattle.loft_step.proofs.Going.{beside_with, starts_over, starts_empty, starts_on}
 use Rattle.loft_step.proofs.thread.begin.Goals as goal
 
@@ -17,9 +16,9 @@ pub returns-then-beside-clause-gone : goal.returns-then-beside-clause-gone
 returns-then-beside-clause-gone g c =
     let a = automata_of c.args.code.now in
     let none : steps_left c.args.beside.now.around ≡ 0 = omega (arith, c.if-beside.true) in
-    outcome_as c.end.result c.end.new.beside.around _ _
-    (starts_over a (steps_left c.args.beside.now.around) (beside_of c.args.beside.now) c.args.frames c.args.wait.now c.over-cause.result none
-    (c.over-cause.ensures a (beside_of c.args.beside.now) ∙ ap (λ (fs : List Frame). no_step (beside_of c.args.beside.now) (actives a fs)) c.as_slice.ensures)) c.end.ensures.ended
+    c.in_ok-end.ensures.ended
+    ∙ (starts_over a (steps_left c.args.beside.now.around) (beside_of c.args.beside.now) c.args.frames c.args.wait.now c.over-cause.result none
+    (c.over-cause.ensures a (beside_of c.args.beside.now) ∙ ap (λ (fs : List Frame). no_step (beside_of c.args.beside.now) (actives a fs)) c.as_slice.ensures))
 
 pub returns-in_default-clause-gone : goal.returns-in_default-clause-gone
 returns-in_default-clause-gone g c =
@@ -27,20 +26,20 @@ returns-in_default-clause-gone g c =
     let b' = beside_with c.args.beside.now c.count.new.around in
     let less : steps_left c.args.beside.now.around ≡ suc (steps_left c.count.new.around) = omega (arith, c.count.ensures.made, c.count.ensures.bound, c.if-beside.false, c.args.beside.now.around.within) in
     let back = settled_back c.args.frames c.settle_all.new.frames (c.settle_all.ensures ∙ ap (map settled) c.as_mut_slice.ensures.value) in
-    outcome_as c.end-in_default.result c.end-in_default.new.beside.around _ _
-    (starts_empty a (steps_left c.args.beside.now.around) (steps_left c.count.new.around) (beside_of c.args.beside.now) (beside_of b') c.args.wait.now (actives a c.args.frames) less
+    c.in_ok-end-2.ensures.ended
+    ∙ (starts_empty a (steps_left c.args.beside.now.around) (steps_left c.count.new.around) (beside_of c.args.beside.now) (beside_of b') c.args.wait.now (actives a c.args.frames) less
     (ap (λ (x : Around). record (beside_of c.args.beside.now) { around = x }) c.count.ensures.same)
-    (sym (settled_actives a c.args.frames) ∙ ap (actives a) (sym back ∙ c.in_default.ensures.none refl))) c.end-in_default.ensures.ended
+    (sym (settled_actives a c.args.frames) ∙ ap (actives a) (sym back ∙ c.in_default.ensures.none refl)))
 
 pub wake-top-requires : goal.wake-top-requires
 wake-top-requires g c =
     let back = settled_back c.args.frames c.settle_all.new.frames (c.settle_all.ensures ∙ ap (map settled) c.as_mut_slice.ensures.value) in
     (kept-pop (map settled c.args.frames) c.pop.new.self c.in-Some.frame (sym back ∙ c.in-Some.ensures.items) (all_settled c.args.frames)).1
 
-pub run-requires : goal.run-requires
-run-requires g c =
+pub invariant_of-result : goal.invariant_of-result
+invariant_of-result g c =
     let back = settled_back c.args.frames c.settle_all.new.frames (c.settle_all.ensures ∙ ap (map settled) c.as_mut_slice.ensures.value) in
-    (kept-pop (map settled c.args.frames) c.pop.new.self c.in-Some.frame (sym back ∙ c.in-Some.ensures.items) (all_settled c.args.frames)).0
+    record { kept = (kept-pop (map settled c.args.frames) c.pop.new.self c.in-Some.frame (sym back ∙ c.in-Some.ensures.items) (all_settled c.args.frames)).0 }
 
 pub returns-clause-gone : goal.returns-clause-gone
 returns-clause-gone g c =
@@ -48,8 +47,7 @@ returns-clause-gone g c =
     let b' = beside_with c.args.beside.now c.count.new.around in
     let less : steps_left c.args.beside.now.around ≡ suc (steps_left c.count.new.around) = omega (arith, c.count.ensures.made, c.count.ensures.bound, c.if-beside.false, c.args.beside.now.around.within) in
     let back = settled_back c.args.frames c.settle_all.new.frames (c.settle_all.ensures ∙ ap (map settled) c.as_mut_slice.ensures.value) in
-    outcome_as c.run.result c.run.new.beside.around _ _
-    (starts_on a c.heads.result.now c.args.wait.now c.args.beside.now b' c.answer.new.beside c.wake-top.result.0 c.answer.new.self c.in-Some.frame c.wake-top.result.1 (actives a c.pop.new.self) c.heads.ensures less
+    starts_on a c.heads.result.now c.args.wait.now c.args.beside.now b' c.answer.new.beside c.wake-top.result.0 c.answer.new.self c.in-Some.frame c.wake-top.result.1 (actives a c.pop.new.self) c.heads.ensures less
     (ap (λ (x : Around). record (beside_of c.args.beside.now) { around = x }) c.count.ensures.same) c.answer.ensures.pace c.wake-top.ensures.frame c.wake-top.ensures.target c.answer.ensures.same_at c.answer.ensures.answered
     ∙ ap (go_on (code a) (steps_left c.args.beside.now.around) c.args.wait.now (beside_of c.args.beside.now))
-    (sym (actives-push a c.pop.new.self c.in-Some.frame) ∙ (ap (actives a) (sym c.in-Some.ensures.items ∙ back) ∙ settled_actives a c.args.frames))) c.run.ensures.gone
+    (sym (actives-push a c.pop.new.self c.in-Some.frame) ∙ (ap (actives a) (sym c.in-Some.ensures.items ∙ back) ∙ settled_actives a c.args.frames))

@@ -11,14 +11,13 @@ use Rattle.loft_step.specs.declared.step.Move.TheVariants as move
 use Rattle.loft_step.specs.Frames.{active, IfEnters}
 use Rattle.loft_step.specs.Kept.{IsKept}
 use Rattle.loft_step.proofs.Kept.{kept-pop, kept-push, stands_kept}
-use Rattle.loft_effect.proofs.Runs.{outcome_as, outcome_as_all}
 use Rattle.loft_step.proofs.Going.{run_done, run_returns, run_calls, run_stops}
 use Rattle.loft_step.proofs.thread.run.Goals as goal
 
 pub returns-in_default-clause-gone : goal.returns-in_default-clause-gone
 returns-in_default-clause-gone g c =
     let a = automata_of c.args.code.now in
-    outcome_as c.end.result c.end.new.beside.around _ _ (run_done a c.going.top c.walk.new.self c.going.beside c.walk.new.beside c.going.outer c.in_ok-walk.field-0 c.in_ok-walk.ensures.walks c.in-Return.is (c.in_default.ensures.none refl) ∙ c.going.invariant.goes) c.end.ensures.ended
+    c.in_ok-end-in-Return.ensures.ended ∙ (run_done a c.going.top c.walk.new.self c.going.beside c.walk.new.beside c.going.outer c.in_ok-walk.field-0 c.in_ok-walk.ensures.walks c.in-Return.is (c.in_default.ensures.none refl) ∙ c.going.invariant.goes)
 
 pub wake-caller-requires : goal.wake-caller-requires
 wake-caller-requires g c = (kept-pop c.going.outer c.pop.new.self c.in-Some.frame c.in-Some.ensures.items c.going.invariant.kept).1
@@ -52,9 +51,9 @@ going-preserved g c =
 pub returns-in-Hold-clause-gone : goal.returns-in-Hold-clause-gone
 returns-in-Hold-clause-gone g c =
     let a = automata_of c.args.code.now in
-    outcome_as_all c.hold.result c.walk.new.beside.around _ _ a (run_stops a c.going.top c.walk.new.self c.going.beside c.walk.new.beside c.going.outer c.in_ok-walk.field-0 c.in_ok-walk.ensures.walks (move.Hold c.in-Hold.wait) c.in-Hold.is ∙ c.going.invariant.goes) c.hold.ensures
+    c.in_ok-hold-in-Hold.ensures a ∙ (run_stops a c.going.top c.walk.new.self c.going.beside c.walk.new.beside c.going.outer c.in_ok-walk.field-0 c.in_ok-walk.ensures.walks (move.Hold c.in-Hold.wait) c.in-Hold.is ∙ c.going.invariant.goes)
 
 pub returns-in-Leave-clause-gone : goal.returns-in-Leave-clause-gone
 returns-in-Leave-clause-gone g c =
     let a = automata_of c.args.code.now in
-    outcome_as_all c.leave.result c.walk.new.beside.around _ _ a (run_stops a c.going.top c.walk.new.self c.going.beside c.walk.new.beside c.going.outer c.in_ok-walk.field-0 c.in_ok-walk.ensures.walks (move.Leave c.in-Leave.to) c.in-Leave.is ∙ c.going.invariant.goes) c.leave.ensures
+    c.in_ok-leave-in-Leave.ensures a ∙ (run_stops a c.going.top c.walk.new.self c.going.beside c.walk.new.beside c.going.outer c.in_ok-walk.field-0 c.in_ok-walk.ensures.walks (move.Leave c.in-Leave.to) c.in-Leave.is ∙ c.going.invariant.goes)

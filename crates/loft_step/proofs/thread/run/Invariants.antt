@@ -11,7 +11,7 @@ use Rattle.loft_step.proofs.thread.run.Given as goal
 abbrev pub invariant-going : goal.invariant-going
 invariant-going g l = record {
   goes : going (code (automata_of l.code)) (steps_left l.beside.around) (beside_of l.beside) (active l.top ∷ actives (automata_of l.code) l.outer)
-      ≡ going (code (automata_of l.code)) (steps_left l.fn.beside.around) (beside_of l.fn.beside) (active l.fn.top ∷ actives (automata_of l.code) l.fn.outer);
+      ≡ going (code (automata_of l.code)) (steps_left l.fn.beside.around) (beside_of l.fn.beside) (active l.fn.stack.top ∷ actives (automata_of l.code) l.fn.stack.outer);
   kept : AreKept l.outer;
   bound : l.beside.around.bound ≡ l.fn.beside.around.bound;
   grows : l.fn.beside.around.steps ≤ l.beside.around.steps;

@@ -5,21 +5,20 @@ use Rattle.loft_sense.specs.Run.{no_step}
 use Rattle.loft_walk.specs.declared.running.Running.{Running}
 use Rattle.loft_effect.specs.View.{beside_of}
 use Rattle.loft_walk.specs.Frames.{actives}
-use Rattle.loft_effect.proofs.Runs.{gone_as}
 use Rattle.loft_walk.proofs.Going.{starts_over, starts_on}
 use Rattle.loft_walk.proofs.thread.walk.Goals as goal
 
 pub returns-then-left-eq0-clause-gone : goal.returns-then-left-eq0-clause-gone
 returns-then-left-eq0-clause-gone c =
     let p = resolved_of (program_of c.args.program.now) in
-    gone_as c.end.result _ _
-    (c.over-cause.ensures (beside_of c.args.beside)
+    c.in_ok-end.ensures.ended
+    ∙ (c.over-cause.ensures (beside_of c.args.beside)
     ∙ (ap (λ (rs : List Running). no_step (beside_of c.args.beside) (actives rs)) c.as_slice.ensures.value
-    ∙ starts_over p.heads p.bodies c.args.frames.items c.args.wait.now (beside_of c.args.beside) c.args.left c.in_ok-running.field-0.running.items c.in_ok-running.ensures.frames c.if-left-eq0.true)) c.end.ensures.ended
+    ∙ starts_over p.heads p.bodies c.args.frames.items c.args.wait.now (beside_of c.args.beside) c.args.left c.in_ok-running.field-0.running.items c.in_ok-running.ensures.frames c.if-left-eq0.true))
 
 pub returns-clause-gone : goal.returns-clause-gone
 returns-clause-gone c =
     let p = resolved_of (program_of c.args.program.now) in
-    gone_as c.run.result _ _
-    (c.in_ok-answer.ensures.answers p.bodies (c.args.left - 1) c.in_ok-running.ensures.target
-    ∙ starts_on p.heads p.bodies c.args.frames.items c.args.wait.now (beside_of c.args.beside) c.args.left c.in_ok-running.field-0.running.items c.in_ok-running.ensures.frames c.if-left-eq0.false) c.run.ensures.gone
+    c.new.ensures.outcome p
+    ∙ (c.in_ok-answer.ensures.answers p.bodies (c.args.left - 1) c.in_ok-running.ensures.target
+    ∙ starts_on p.heads p.bodies c.args.frames.items c.args.wait.now (beside_of c.args.beside) c.args.left c.in_ok-running.field-0.running.items c.in_ok-running.ensures.frames c.if-left-eq0.false)

@@ -62,6 +62,17 @@ returns-in-Some-2-clause-enters g c =
     (ap line_in (sym c.in-Some.is) ∙ got c.lines_of-lines.result.now c.landing-number.result c.get-line.result c.get-line.ensures.lookup) c.in_ok-other.ensures.caller
     (omega (arith, pace, c.count.ensures.made, c.stepping.invariant.grows))
 
+pub returns-then-not-is_empty-clause-walks : goal.returns-then-not-is_empty-clause-walks
+returns-then-not-is_empty-clause-walks g c =
+    let a = automata_of c.args.code.now in
+    let b' = beside_with c.stepping.beside c.count.new.around in
+    let less : steps_left c.stepping.beside.around ≡ suc (steps_left c.count.new.around) = omega (arith, c.count.ensures.made, c.count.ensures.bound, c.if-beside.false, c.stepping.beside.around.within) in
+    λ rs. c.stepping.invariant.goes rs
+    ∙ walk_on a c.stepping.self c.stepping.beside (map line_of c.lines_of-lines.result.now) c.landing-number.result (line_in c.get-line.result)
+    (c.lines_of-lines.ensures.lines ∙ ap (lines_at a) (sym c.stepping.invariant.module)) c.landing-number.ensures (got c.lines_of-lines.result.now c.landing-number.result c.get-line.result c.get-line.ensures.lookup)
+    b' (sym c.ends_at.ensures ∙ c.if-ends_at.false) less (ap (λ (x : Around). record (beside_of c.stepping.beside) { around = x }) c.count.ensures.same)
+    c.heads-heads.result.now (line_of c.in-Some.line.now) c.in_ok-other.field-0 c.step.new.self c.step.new.beside c.heads-heads.ensures (ap line_in c.in-Some.is) c.in_ok-other.ensures c.in_default-2.is rs
+
 pub stepping-preserved : goal.stepping-preserved
 stepping-preserved g c =
     let a = automata_of c.args.code.now in

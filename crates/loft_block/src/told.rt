@@ -1,0 +1,87 @@
+//! What a run of an unlinked thread sends, and what stands around it (docs/SEMANTICS.md, "Unlinked blocks").
+
+ghost use Rattle.std.specs.Prelude.{◌≡◌, ◌≤◌, ◌++◌, [], ◌∷◌, length, IfOk, OnOk};
+ghost use Rattle.loft_tree.specs.declared.heads.Place.TheVariants.{Unlinked};
+ghost use Rattle.loft_tree.specs.declared.limits.TheConstants.{MAX_EVENTS};
+ghost use Rattle.loft_sense.specs.Machine.{Prog, heads as heads_of};
+ghost use Rattle.loft_sense.specs.Instant.{sent_by};
+ghost use Rattle.loft_sense.specs.Async.{alone as alone_in, block_sent};
+ghost use Rattle.loft_effect.specs.View.{around_of, steps_left};
+ghost use Rattle.loft_effect.specs.Outcomes.{gone_of};
+
+use loft_base::{NoMemory, Sequence};
+use loft_board::Board;
+use loft_effect::{Around, Gone, Outcome};
+use loft_sense::{Act, Order, Sent, Sents, To};
+use loft_tree::{Heads, Place};
+use std::alloc::Global;
+
+/// What stands around a thread that isn't linked and may make so many steps: no event is present.
+pub fn alone(alloc: Global, heads: &Heads, block: u64) -> Result<Around, NoMemory>
+    requires { length heads.now.events ≤ MAX_EVENTS }
+    ensures alone { IfOk result (λ around. (x : Prog) → heads_of x ≡ heads.now
+        → around_of around ≡ alone_in x) }
+    ensures left { IfOk result (λ around. steps_left around ≡ block) }
+{
+    Ok(Around {
+        place: Place::Unlinked,
+        board: Board::new(alloc, heads.events.len() as u32)?,
+        shared: Sequence::new(alloc),
+        known: Sequence::new(alloc),
+        made: 0,
+        entries: 0,
+        steps: 0,
+        bound: block,
+        acts: Sequence::new(alloc),
+    })
+}
+
+/// Adds what one act sends: an order, or to every scheduler the end of the thread.
+fn tell_act(alloc: Global, sent: &mut Sents, act: &Act) -> Result<(), NoMemory>
+    ensures { OnOk result (sent.new ≡ sent.old ++ sent_by Unlinked (act.now ∷ [])) }
+{
+    match act {
+        Act::Print { thread: _, line: _ } => Ok(()),
+        Act::Gen {
+            thread: _,
+            event: _,
+            value: _,
+        } => Ok(()),
+        Act::Out {
+            thread: _,
+            sent: boxed,
+        } => sent.push(boxed.as_sent().try_clone(alloc)?),
+        Act::End { thread, end } => sent.push(Sent {
+            to: To::All,
+            order: Order::Ended {
+                thread: *thread,
+                end: *end,
+            },
+        }),
+    }
+}
+
+/// Adds what acts of an unlinked thread send.
+pub fn tell(alloc: Global, sent: &mut Sents, acts: &[Act]) -> Result<(), NoMemory>
+    ensures { OnOk result (sent.new ≡ sent.old ++ sent_by Unlinked acts.now) }
+{
+    for act in acts {
+        tell_act(alloc, sent, act)?;
+    }
+    Ok(())
+}
+
+/// Adds what an unlinked thread sends whose run has stopped so.
+pub fn tell_gone(alloc: Global, sent: &mut Sents, gone: Gone) -> Result<(), NoMemory>
+    ensures { OnOk result (sent.new ≡ sent.old ++ block_sent (gone_of gone)) }
+{
+    let Gone { outcome, around } = gone;
+    tell(alloc, sent, around.acts.as_slice())?;
+    match outcome {
+        Outcome::Left(thread, to) => sent.push(Sent {
+            to,
+            order: Order::Arrive(thread),
+        }),
+        Outcome::Held(_) | Outcome::Ended(_) => Ok(()),
+    }
+}

@@ -1,0 +1,11 @@
+use Rattle.std.proofs.Common.{◌++◌, ap, sym, ◌∙◌}
+use Rattle.loft_sense.specs.Async.{block_sent}
+use Rattle.loft_step.specs.declared.midst.Progress.{Progress}
+use Rattle.loft_step.specs.Midst.{progress_outcome}
+use Rattle.loft_job.proofs.Gathered.{gathered}
+use Rattle.loft_job.proofs.stepping.gather.Goals as goal
+
+pub returns-in_ok-tell-in-Goes-clause-sent : goal.returns-in_ok-tell-in-Goes-clause-sent
+returns-in_ok-tell-in-Goes-clause-sent c = λ a.
+    gathered a c.in-Goes.run' c.forget_acts.new.self c.acts.result.now c.args.orders.now c.tell.new.sent c.acts.ensures c.in_ok-tell-in-Goes.ensures (c.forget_acts.ensures.outcome a)
+    ∙ ap (λ (p : Progress). c.args.orders.now ++ block_sent (progress_outcome a p)) (sym c.in-Goes.is)

@@ -1,0 +1,7 @@
+//! The orders of an unlinked thread by its code, one by one as they are made.
+#![tactic(auto)]
+
+mod job;
+mod stepping;
+
+pub use job::{Job, JobStep};
