@@ -1,0 +1,9 @@
+pub mod WalkLemmas
+pub mod BatchLemmas
+pub mod DeskLemmas
+pub mod AllowedLemmas
+pub mod SumLemmas
+pub mod ScatterLemmas
+pub mod KeptLemmas
+pub mod FreshLemmas
+pub mod WordLemmas

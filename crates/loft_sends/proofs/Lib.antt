@@ -1,0 +1,10 @@
+pub mod CountLemmas
+pub mod RunAdds
+pub mod PauseLemmas
+pub mod BlockLemmas
+pub mod WayLemmas
+pub mod ThreadLemmas
+pub mod ApplyKeeps
+pub mod ActLemmas
+pub mod InstantKeeps
+pub mod BlockKeeps

@@ -1,0 +1,4 @@
+pub mod Counts
+pub mod Adds
+pub mod Blocks
+pub mod Instants
