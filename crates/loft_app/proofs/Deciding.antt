@@ -1,5 +1,5 @@
 -- What is taken isn't refused.
-use Rattle.std.proofs.Common.{◌≡◌, true, ℕ, List, inl, inr, subst, arith}
+use Rattle.std.proofs.Common.{◌≡◌, ℕ, List, inl, inr, subst, arith}
 use Rattle.loft_tree.specs.Source.{Source}
 use Rattle.loft_tree.specs.NamedTree.{NamedProgram}
 use Rattle.loft_names.specs.declared.error.NameError.{NameError}
@@ -7,7 +7,6 @@ use Rattle.loft_names.specs.Faults.{NameFault, NamesFit}
 use Rattle.loft_names.specs.Numbers.{numbered}
 use Rattle.loft_place.specs.declared.error.PlaceError.{PlaceError}
 use Rattle.loft_place.specs.Links.{IsPlaced, PlaceFault}
-use Rattle.loft_turns.specs.Built.{is_built}
 use Rattle.loft_parse.specs.declared.error.ParseError.{ParseError}
 use Rattle.loft_parse.specs.Source.{Reads, SourceFault}
 use Rattle.loft_app.specs.declared.refusal.Refusal.{Refusal}
@@ -37,17 +36,11 @@ well_linked d contents p e schedulers text well (q, other, (fit, fault, names)) 
 pub taken_not_refused : (d : Decided) (c : Command) (contents : List ℕ) (p : Source) (r : Refusal) → IsTextOf contents p → Takes c p → Asks c r → IsCause contents r → ⊥
 taken_not_refused d c contents p (refusal.Text e) text takes asks (inl long) = let short = text.short in omega (arith, long.0)
 taken_not_refused d c contents p (refusal.Text e) text takes asks (inr fault) = d.texts contents p e text.reads fault.1
-taken_not_refused d (Run file o) contents p (refusal.Names e) text takes asks cause = well_named d contents p e text takes.0 cause
+taken_not_refused d (Run file o) contents p (refusal.Names e) text takes asks cause = well_named d contents p e text takes cause
 taken_not_refused d (Show file) contents p (refusal.Names e) text takes asks cause = absurd asks
 taken_not_refused d (Check file) contents p (refusal.Names e) text takes asks cause = well_named d contents p e text takes cause
 taken_not_refused d (Compile file) contents p (refusal.Names e) text takes asks cause = well_named d contents p e text takes cause
-taken_not_refused d (Run file o) contents p (refusal.Links e schedulers) text takes asks cause = well_linked d contents p e schedulers text takes.0 cause
+taken_not_refused d (Run file o) contents p (refusal.Links e schedulers) text takes asks cause = well_linked d contents p e schedulers text takes cause
 taken_not_refused d (Show file) contents p (refusal.Links e schedulers) text takes asks cause = absurd asks
 taken_not_refused d (Check file) contents p (refusal.Links e schedulers) text takes asks cause = well_linked d contents p e schedulers text takes cause
 taken_not_refused d (Compile file) contents p (refusal.Links e schedulers) text takes asks cause = well_linked d contents p e schedulers text takes cause
-taken_not_refused d (Run file o) contents p refusal.NotBuilt text takes asks (q, other, (well, not)) =
-    let built : is_built (numbered q) ≡ true = subst (λ (x : Source). is_built (numbered x) ≡ true) (same_program d contents p q text other) takes.1 in
-    absurd cc
-taken_not_refused d (Show file) contents p refusal.NotBuilt text takes asks cause = absurd asks
-taken_not_refused d (Check file) contents p refusal.NotBuilt text takes asks cause = absurd asks
-taken_not_refused d (Compile file) contents p refusal.NotBuilt text takes asks cause = absurd asks

@@ -23,7 +23,6 @@ cause_of : (contents : List ℕ) (p : Source) (r : Refusal) → IsTextOf content
 cause_of contents p (refusal.Text e) text refused = absurd refused
 cause_of contents p (refusal.Names e) text refused = (p, text, refused)
 cause_of contents p (refusal.Links e schedulers) text refused = (p, text, refused)
-cause_of contents p refusal.NotBuilt text refused = (p, text, refused)
 
 pub does_attempts : {c : Command} {p : Source} {known : Option (List ℕ)} {result : Result (Unit {0}) Stopped} {old new : Option (List ℕ)}
     → ((contents : List ℕ) → known ≡ Some contents → IsTextOf contents p) → Does c p result old new → Attempts c known result old new
@@ -40,7 +39,6 @@ asks_text : (c : Command) (contents : List ℕ) (r : Refusal) → IsFault conten
 asks_text c contents (refusal.Text e) fault = (tt, fault)
 asks_text c contents (refusal.Names e) fault = absurd fault
 asks_text c contents (refusal.Links e schedulers) fault = absurd fault
-asks_text c contents refusal.NotBuilt fault = absurd fault
 
 -- there is no program in the file, and nothing was written
 pub unread_attempts : (c : Command) (known : Option (List ℕ)) (e : Stopped) (old : Option (List ℕ))

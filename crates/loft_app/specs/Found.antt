@@ -11,7 +11,6 @@ abbrev pub IsFault : List ℕ → Stopped → Type 0
 IsFault contents (Refused (refusal.Text e)) = ContentsFault contents e
 IsFault contents (Refused (refusal.Names e)) = ⊥
 IsFault contents (Refused (refusal.Links e schedulers)) = ⊥
-IsFault contents (Refused refusal.NotBuilt) = ⊥
 IsFault contents FileFault = Unit {0}
 IsFault contents SinkFault = ⊥
 IsFault contents NoMemory = Unit {0}
@@ -21,7 +20,6 @@ abbrev pub IsUnfit : Source → Stopped → Type 0
 IsUnfit p (Refused (refusal.Text e)) = ⊥
 IsUnfit p (Refused (refusal.Names e)) = IsRefusedFor p (refusal.Names e)
 IsUnfit p (Refused (refusal.Links e schedulers)) = IsRefusedFor p (refusal.Links e schedulers)
-IsUnfit p (Refused refusal.NotBuilt) = ⊥
 IsUnfit p FileFault = ⊥
 IsUnfit p SinkFault = ⊥
 IsUnfit p NoMemory = Unit {0}

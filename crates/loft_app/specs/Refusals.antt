@@ -1,5 +1,5 @@
 -- Why contents are refused, and the line that says so (docs/COMMANDS.md, "Fault lines").
-use Rattle.std.specs.Prelude.{◌≡◌, true, false, ℕ, ◌<◌, ◌≤◌, ◌⊎◌, List, [], ◌++◌, length, codes, slice_get, unwrap_or}
+use Rattle.std.specs.Prelude.{◌≡◌, ℕ, ◌<◌, ◌≤◌, ◌⊎◌, List, [], ◌++◌, length, codes, slice_get, unwrap_or}
 use Rattle.std.specs.Fmt.{decimal}
 use Rattle.loft_lex.specs.declared.TheConstants.{MAX_TEXT_LEN}
 use Rattle.loft_lex.specs.declared.token.LexError.{LexError}
@@ -14,7 +14,6 @@ use Rattle.loft_names.specs.Numbers.{numbered}
 use Rattle.loft_place.specs.declared.error.PlaceError.{PlaceError}
 use Rattle.loft_place.specs.declared.error.PlaceError.TheVariants as links
 use Rattle.loft_place.specs.Links.{IsPlaced, PlaceFault}
-use Rattle.loft_turns.specs.Built.{is_built}
 use Rattle.loft_parse.specs.declared.error.ParseError.{ParseError}
 use Rattle.loft_parse.specs.declared.error.ParseError.TheVariants.{Lex, Expected, TooDeep, TooMany, TooLong, NoMemory}
 use Rattle.loft_parse.specs.Source.{Reads, SourceFault}
@@ -75,7 +74,6 @@ abbrev pub line_of : Refusal → List ℕ
 line_of (refusal.Text e) = text_line e
 line_of (refusal.Names e) = name_line e
 line_of (refusal.Links e schedulers) = link_line schedulers e
-line_of refusal.NotBuilt = codes "source: not built"
 
 -- ---- causes
 
@@ -89,7 +87,6 @@ abbrev pub IsRefusedFor : Source → Refusal → Type 0
 IsRefusedFor p (refusal.Text e) = ⊥
 IsRefusedFor p (refusal.Names e) = NameFault p e
 IsRefusedFor p (refusal.Links e schedulers) = NamesFit p × PlaceFault (numbered p) e × (schedulers ≡ (numbered p).heads.schedulers)
-IsRefusedFor p refusal.NotBuilt = Well p × (is_built (numbered p) ≡ false)
 
 -- the fault of the contents: they are too long, or else the fault of their text
 abbrev pub ContentsFault : List ℕ → ParseError → Type 0
@@ -109,11 +106,10 @@ abbrev pub IsCause : List ℕ → Refusal → Type 0
 IsCause contents (refusal.Text e) = ContentsFault contents e
 IsCause contents (refusal.Names e) = ProgramRefused contents (refusal.Names e)
 IsCause contents (refusal.Links e schedulers) = ProgramRefused contents (refusal.Links e schedulers)
-IsCause contents refusal.NotBuilt = ProgramRefused contents refusal.NotBuilt
 
 -- ---- commands
 
--- what a command asks of a program: `show` nothing, `check` and `compile` its names and links, `run` besides that it runs yet
+-- what a command asks of a program: `show` nothing, the others its names and links
 abbrev pub Asks : Command → Refusal → Type 0
 Asks c (refusal.Text e) = Unit {0}
 Asks (Run file o) (refusal.Names e) = Unit {0}
@@ -124,10 +120,6 @@ Asks (Run file o) (refusal.Links e schedulers) = Unit {0}
 Asks (Show file) (refusal.Links e schedulers) = ⊥
 Asks (Check file) (refusal.Links e schedulers) = Unit {0}
 Asks (Compile file) (refusal.Links e schedulers) = Unit {0}
-Asks (Run file o) refusal.NotBuilt = Unit {0}
-Asks (Show file) refusal.NotBuilt = ⊥
-Asks (Check file) refusal.NotBuilt = ⊥
-Asks (Compile file) refusal.NotBuilt = ⊥
 
 -- a command refuses contents by this line
 abbrev pub Refuses : Command → List ℕ → List ℕ → Type 0
@@ -137,9 +129,9 @@ Refuses c contents line = (r : Refusal) × Asks c r × IsCause contents r × (li
 abbrev pub IsRefusal : Command → List ℕ → List ℕ → Type 0
 IsRefusal c contents text = (line : List ℕ) × Refuses c contents line × IsLine line text
 
--- the command can be done for a program: each can be shown, well ones pass the check and are compiled, and those of them that are built run
+-- the command can be done for a program: each can be shown, and well ones pass the check, are compiled and run
 abbrev pub Takes : Command → Source → Type 0
-Takes (Run file o) p = Well p × (is_built (numbered p) ≡ true)
+Takes (Run file o) p = Well p
 Takes (Show file) p = Unit {0}
 Takes (Check file) p = Well p
 Takes (Compile file) p = Well p

@@ -1,19 +1,18 @@
 //! What each command does with a program.
 
-ghost use Rattle.std.specs.Prelude.{◌≡◌, ◌≤◌, true, ℕ, List, IsErrOf, OnOk, OnErr};
+ghost use Rattle.std.specs.Prelude.{◌≤◌, ℕ, List, IsErrOf, OnOk, OnErr};
 ghost use Rattle.loft_base.specs.Outside.{Rose};
 ghost use Rattle.loft_tree.specs.Resolved.{resolved_of};
 ghost use Rattle.loft_tree.specs.ProgramView.{program_of};
 ghost use Rattle.loft_tree.specs.View.{source_of};
 ghost use Rattle.loft_sense.specs.Machine.{Tree};
-ghost use Rattle.loft_turns.specs.Built.{is_built};
 ghost use Rattle.loft_words.specs.Command.{Run, Show, Check, Compile};
 ghost use Rattle.loft_words.specs.Ranges.{AreInRange};
 ghost use Rattle.loft_app.specs.Written.{Appends, IsPrefix};
 ghost use Rattle.loft_app.specs.Promise.{IsReport};
 ghost use Rattle.loft_app.specs.Answer.{Does};
 
-use crate::refusal::{Refusal, Stopped};
+use crate::refusal::Stopped;
 use crate::run_code::{RunError, run_code};
 use crate::source::placed;
 use loft_base::{Gate, Sink, write_lines};
@@ -23,12 +22,11 @@ use loft_place::Placed;
 use loft_sense::RunOptions;
 use loft_show::show;
 use loft_tree::Program;
-use loft_turns::{is_built, programs_without_unlink_stay_linked};
 use std::alloc::Global;
 use std::sync::Wait;
 use std::thread::Threads;
 
-/// Runs a program that can be run, by its code, and writes its report.
+/// Runs a program by its code, and writes its report.
 fn run_program<R: Threads + Wait + Sync, S: Sink, G: Gate>(
     rt: &R,
     alloc: Global,
@@ -37,7 +35,6 @@ fn run_program<R: Threads + Wait + Sync, S: Sink, G: Gate>(
     sink: &mut S,
     gate: &G,
 ) -> Result<(), RunError>
-    requires built { is_built (program_of placed.now) ≡ true }
     requires range { AreInRange options.now }
     ensures report { OnOk result (Appends (S.written sink.old) (S.written sink.new)
         (IsReport (Tree (resolved_of (program_of placed.now))) options.now)) }
@@ -46,7 +43,6 @@ fn run_program<R: Threads + Wait + Sync, S: Sink, G: Gate>(
     ensures sink { IsErrOf result RunError.Sink → Rose (S.faults sink.old) (S.faults sink.new) }
     ensures never_falls { S.faults sink.old ≤ S.faults sink.new }
 {
-    programs_without_unlink_stay_linked();
     compiled_code_has_the_same_histories();
     placed.program();
     let code = compile(alloc, placed)?;
@@ -77,9 +73,6 @@ pub fn run<R: Threads + Wait + Sync, S: Sink, G: Gate>(
     ensures never_falls { S.faults sink.old ≤ S.faults sink.new }
 {
     let placed = placed(alloc, program)?;
-    if !is_built(placed.program()) {
-        return Err(Stopped::Refused(Refusal::NotBuilt));
-    }
     run_program(rt, alloc, &placed, options, sink, gate)?;
     Ok(())
 }

@@ -171,7 +171,6 @@ impl Refusal {
             Refusal::Text(fault) => Ok(text_line(alloc, fault)?.into_bytes()),
             Refusal::Names(fault) => Ok(name_line(alloc, fault)?.into_bytes()),
             Refusal::Links { fault, schedulers } => link_line(alloc, schedulers, fault),
-            Refusal::NotBuilt => Ok(Vec::from_slice(alloc, b"source: not built\n")?),
         }
     }
 }

@@ -20,8 +20,6 @@ pub enum Refusal {
         fault: PlaceError,
         schedulers: Names,
     },
-    /// Not all that it does can be run yet.
-    NotBuilt,
 }
 
 /// What stops a command before its answer is whole.

@@ -4,7 +4,6 @@ ghost use Rattle.std.specs.Prelude.{◌≤◌, IsErrOf, OnOk, OnErr};
 ghost use Rattle.loft_base.specs.Outside.{Rose};
 ghost use Rattle.loft_code.specs.View.{automata_of};
 ghost use Rattle.loft_sense.specs.Machine.{Code as ByCode};
-ghost use Rattle.loft_turns.specs.Running.{NeverLeaves};
 ghost use Rattle.loft_words.specs.Ranges.{AreInRange};
 ghost use Rattle.loft_app.specs.Written.{Appends, IsPrefix};
 ghost use Rattle.loft_app.specs.Promise.{IsReport};
@@ -53,8 +52,8 @@ impl From<WriteError> for RunError {
     }
 }
 
-/// Runs valid code of which no thread ever waits for a worker, within these limits and with 1 to
-/// `MAX_WORKERS` workers, and writes the report (docs/REPORT.md). `Sink` comes where the sink failed,
+/// Runs valid code within these limits and with 1 to `MAX_WORKERS` workers, and writes the report
+/// (docs/REPORT.md). `Sink` comes where the sink failed,
 /// and `NoMemory` where an allocation fails; then a prefix of a report was written.
 pub fn run_code<R: Threads + Wait + Sync, S: Sink, G: Gate>(
     rt: &R,
@@ -65,7 +64,6 @@ pub fn run_code<R: Threads + Wait + Sync, S: Sink, G: Gate>(
     sink: &mut S,
     gate: &G,
 ) -> Result<(), RunError>
-    requires linked { NeverLeaves (ByCode (automata_of c.now)) l }
     requires range { AreInRange (options_of l workers) }
     ensures report { OnOk result (Appends (S.written sink.old) (S.written sink.new)
         (IsReport (ByCode (automata_of c.now)) (options_of l workers))) }

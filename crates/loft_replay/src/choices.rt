@@ -10,15 +10,14 @@ use loft_base::{NoMemory, SchedId};
 use loft_log::Choice;
 use loft_sense::Engine;
 use loft_tree::Heads;
-use loft_turns::{Course, Setting};
+use loft_turns::{BlockEngine, Course, Setting};
 use std::alloc::Global;
 
-/// Goes on by a choice, where it is allowed. Answers whether it was. No thread is unlinked so far,
-/// so none of a worker is.
-pub(crate) fn choose<X: Setting, E: Engine>(
+/// Goes on by a choice, where it is allowed. Answers whether it was.
+pub(crate) fn choose<X: Setting, E: Engine, B: BlockEngine>(
     alloc: Global,
     heads: &Heads,
-    course: &mut Course<X, E>,
+    course: &mut Course<X, E, B>,
     choice: &Choice,
 ) -> Result<bool, NoMemory>
     requires run { IsRun X.program X.options course.old }
@@ -37,7 +36,8 @@ pub(crate) fn choose<X: Setting, E: Engine>(
             Some(index) => course.give(alloc, SchedId(index as u32)),
             None => Ok(false),
         },
-        Choice::Pick(_) | Choice::Post(_) => Ok(false),
+        Choice::Pick(w) => course.pick(alloc, *w),
+        Choice::Post(w) => course.post(alloc, *w),
         Choice::Client(name) => match client_named(heads, name) {
             Some(index) => course.client(alloc, heads, index as u32),
             None => Ok(false),

@@ -3,8 +3,11 @@
 
 mod choices;
 mod names;
+mod plain;
+mod plain_blocks;
 mod replay;
 #[cfg(test)]
 mod tests;
 
+pub use plain::run_plainly;
 pub use replay::{FollowError, Replayed, follow};

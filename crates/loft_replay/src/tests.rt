@@ -1,9 +1,10 @@
-//! Histories of several schedulers and clients, followed choice by choice.
+//! Histories of several schedulers, workers and clients, followed choice by choice.
 
 mod table;
 
 ghost use Rattle.std.specs.Prelude.{◌≡◌};
 ghost use Rattle.loft_sense.specs.Rest.{IsInRange};
+ghost use Rattle.loft_turns.specs.Course.{HasWorkers};
 
 use crate::replay::{FollowError, Replayed, follow};
 use crate::tests::table::ROWS;
@@ -12,9 +13,8 @@ use loft_log::{Choice, Choices, write_report};
 use loft_names::resolve;
 use loft_parse::parse;
 use loft_place::{Placed, place};
-use loft_sense::{Limits, MAX_BLOCK, MAX_BUDGET, MAX_INSTANTS, RunOptions};
+use loft_sense::{Limits, MAX_BLOCK, MAX_BUDGET, MAX_INSTANTS, MAX_WORKERS, RunOptions};
 use loft_tree::Heads;
-use loft_turns::is_built;
 use std::alloc::Global;
 use std::test::Fail;
 
@@ -22,6 +22,8 @@ use std::test::Fail;
 pub enum Line {
     Take(&'static [u8]),
     Give(&'static [u8]),
+    Pick(u32),
+    Post(u32),
     Client(&'static [u8]),
 }
 
@@ -41,6 +43,7 @@ pub struct Row {
     pub instants: u64,
     pub budget: u64,
     pub block: u64,
+    pub workers: u32,
     pub choices: &'static [Line],
     pub answer: Answer,
 }
@@ -53,9 +56,10 @@ fn placed(alloc: Global, source: &[u8]) -> Result<Placed, Fail> {
     Ok(placed)
 }
 
-/// The bounds of a row, each brought into its range, and two workers.
+/// The bounds of a row and its workers, each brought into its range.
 fn options(row: &Row) -> RunOptions
-    ensures { IsInRange result.limits }
+    ensures range { IsInRange result.limits }
+    ensures workers { HasWorkers result }
 {
     RunOptions {
         limits: Limits {
@@ -63,7 +67,7 @@ fn options(row: &Row) -> RunOptions
             budget: row.budget.max(1).min(MAX_BUDGET),
             block: row.block.max(1).min(MAX_BLOCK),
         },
-        workers: 2,
+        workers: row.workers.max(1).min(MAX_WORKERS),
     }
 }
 
@@ -74,6 +78,8 @@ fn choices(alloc: Global, lines: &[Line]) -> Result<Choices, NoMemory> {
         choices.push(match line {
             Line::Take(name) => Choice::Take(Sequence::from_slice(alloc, name)?),
             Line::Give(name) => Choice::Give(Sequence::from_slice(alloc, name)?),
+            Line::Pick(w) => Choice::Pick(*w),
+            Line::Post(w) => Choice::Post(*w),
             Line::Client(name) => Choice::Client(Sequence::from_slice(alloc, name)?),
         })?;
     }
@@ -107,9 +113,6 @@ fn report(
 fn choices_are_followed(rt: HostRuntime) -> Result<(), Fail> {
     for (number, row) in ROWS.iter().enumerate() {
         let placed = placed(rt.alloc(), row.source)?;
-        if !is_built(placed.program()) {
-            return Err("it can't be run so far".into());
-        }
         let options = options(row);
         let choices = choices(rt.alloc(), row.choices)?;
         match (follow(rt.alloc(), &placed, &options, &choices), &row.answer) {

@@ -4,15 +4,15 @@ ghost use Rattle.std.specs.Prelude.{◌≡◌, [], length, IfOk};
 ghost use Rattle.loft_code.specs.View.{automata_of};
 ghost use Rattle.loft_sense.specs.Machine.{Code as ByCode};
 ghost use Rattle.loft_sense.specs.Rest.{IsInRange};
-ghost use Rattle.loft_turns.specs.Course.{stands_after};
-ghost use Rattle.loft_turns.specs.Running.{NeverLeaves, IsWholeRun};
+ghost use Rattle.loft_turns.specs.Course.{HasWorkers, stands_after, hands_after};
+ghost use Rattle.loft_turns.specs.Running.{IsWholeRun};
 
+use crate::code_blocks::CodeBlocks;
 use loft_base::{Gate, NoMemory, SchedId};
 use loft_code::Code;
 use loft_engine::CodeEngine;
-use loft_sense::{RunOptions, made_histories_are_legal};
-use loft_stand::waiting_orders_fit;
-use loft_turns::{Setting, Station, run_in_rounds};
+use loft_sense::RunOptions;
+use loft_turns::{Setting, Station, Worker, run_in_rounds, well_formed_programs_can_run};
 use loft_world::Finished;
 use std::alloc::Global;
 use std::marker::Brand;
@@ -39,6 +39,25 @@ fn stations<'a, X: Setting>(
     Ok(stations)
 }
 
+/// The workers before their first job, in the order of their numbers.
+fn workers<'a, X: Setting>(
+    alloc: Global,
+    c: &'a Code,
+    options: &RunOptions,
+) -> Result<Vec<Worker<X, CodeBlocks<'a>>>, NoMemory>
+    requires program { X.program ≡ ByCode (automata_of c.now) }
+    requires options { X.options ≡ options.now }
+    ensures { IfOk result (λ workers. workers.items
+        ≡ hands_after X.program X.options [] X.options.workers) }
+{
+    let mut workers = Vec::new(alloc);
+    'workers: for _ in 0..options.workers {
+        let blocks = CodeBlocks::new(c, options.limits.block);
+        workers.push(Worker::new(blocks))?;
+    }
+    Ok(workers)
+}
+
 /// The run in a setting.
 fn run_in<X: Setting, R: Threads + Wait + Sync, G: Gate>(
     rt: &R,
@@ -50,17 +69,17 @@ fn run_in<X: Setting, R: Threads + Wait + Sync, G: Gate>(
     requires program { X.program ≡ ByCode (automata_of c.now) }
     requires options { X.options ≡ options.now }
     requires range { IsInRange options.now.limits }
-    requires linked { NeverLeaves (ByCode (automata_of c.now)) options.now.limits }
+    requires workers { HasWorkers options.now }
     ensures { IfOk result (λ run. IsWholeRun (ByCode (automata_of c.now)) options.now run) }
 {
-    made_histories_are_legal();
-    waiting_orders_fit();
+    well_formed_programs_can_run();
     let stations = stations::<X>(alloc, c, options)?;
-    run_in_rounds(rt, alloc, &c.program().heads, stations, gate)
+    let workers = workers::<X>(alloc, c, options)?;
+    run_in_rounds(rt, alloc, &c.program().heads, stations, workers, gate)
 }
 
-/// A whole run of valid code of which no thread ever waits for a worker, with these options, in
-/// rounds on one thread (docs/SEMANTICS.md, "Rounds"). `NoMemory` comes where an allocation fails.
+/// A whole run of valid code, within bounds and with workers that are in their ranges, in rounds on one
+/// thread of the system (docs/SEMANTICS.md, "Rounds"). `NoMemory` comes where an allocation fails.
 pub fn run_whole<R: Threads + Wait + Sync, G: Gate>(
     rt: &R,
     alloc: Global,
@@ -69,7 +88,7 @@ pub fn run_whole<R: Threads + Wait + Sync, G: Gate>(
     gate: &G,
 ) -> Result<Finished, NoMemory>
     requires range { IsInRange options.now.limits }
-    requires linked { NeverLeaves (ByCode (automata_of c.now)) options.now.limits }
+    requires workers { HasWorkers options.now }
     ensures { IfOk result (λ run. IsWholeRun (ByCode (automata_of c.now)) options.now run) }
 {
     run_in::<Brand, R, G>(rt, alloc, c, options, gate)

@@ -1,10 +1,9 @@
 -- A run with one more order of a client.
-use Rattle.std.proofs.Common.{◌≡◌, ◌≢◌, ℕ, zero, suc, ◌+◌, ◌<◌, ◌≤◌, ◌==◌, Bool, true, false, List, [], ◌∷◌, ◌++◌, map, length, refl, sym, ◌∙◌, ap, subst, append-nil, Some, None, slice_get, slice_index_or, eq-eqb}
+use Rattle.std.proofs.Common.{◌≡◌, ◌≢◌, ℕ, zero, suc, ◌+◌, ◌<◌, ◌≤◌, ◌==◌, Bool, true, false, List, [], ◌∷◌, ◌++◌, length, refl, sym, ◌∙◌, ap, subst, append-nil, Some, None, slice_get, slice_index_or, eq-eqb}
 use Rattle.std.proofs.lemmas.Bool.{eqb-true}
 use Rattle.std.proofs.lemmas.List.{drop-drop, length-append}
 use Rattle.std.proofs.lemmas.List.FromFn.{length-map-range_with_len, get_or-map-range_with_len}
 use Rattle.std.proofs.Math.ListN.{set}
-use Rattle.std.specs.List.{range_with_len}
 use Rattle.std.specs.Prelude.{if◌then◌else◌, ◌&&◌, drop}
 use Rattle.loft_tree.specs.declared.heads.ClientOrder.{ClientOrder}
 use Rattle.loft_tree.specs.declared.heads.ClientOrder.TheVariants as client
@@ -21,14 +20,14 @@ use Rattle.loft_sense.specs.declared.order.To.{To}
 use Rattle.loft_sense.specs.declared.order.To.TheVariants.{Sched, Others, All, Workers}
 use Rattle.loft_sense.specs.Machine.{Prog, heads}
 use Rattle.loft_sense.specs.Clients.{orders_from, orders_or_none, outside_of}
-use Rattle.loft_sense.specs.History.{ClientBy, log, in_instant, unsent_after, unsent, is_create, creates_after, creates, entry_of_first, entry_of}
+use Rattle.loft_sense.specs.History.{ClientBy, unsent, is_create, creates, entry_of_first, entry_of}
 use Rattle.loft_sense.specs.Legal.{of, FitsOne}
 use Rattle.loft_sense.proofs.HistoryLemmas.{log-append, in_instant-append, unsent_after-append, unsent_none}
 use Rattle.loft_sense.proofs.OwnLemmas.{given}
 use Rattle.loft_world.specs.State.{State, scheduler, IsToOne, IsForClients, with_entry}
-use Rattle.loft_turns.specs.Course.{stand_after, gave, orders_left, Course, IsRun, CanRun, Moves}
+use Rattle.loft_turns.specs.Course.{stand_after, hand_after, gave, orders_left, Course, IsRun, CanRun, Moves}
 use Rattle.loft_turns.proofs.CourseLemmas.{moved_by}
-use Rattle.loft_turns.proofs.RunsOn.{grown, still_idle, creates_after-append, gave_more, same_stand_by, same_map, set_one, from_none, stays}
+use Rattle.loft_turns.proofs.RunsOn.{grown, hand_kept, hand_is, creates_after-append, gave_more, same_stand_by, same_map, set_one, from_none, stays}
 
 -- ---- no further order
 
@@ -185,22 +184,23 @@ stands_still x o h c m j =
     (in_instant-append (scheduler j) h (Client c m ∷ []) false)
 
 -- the run after an order of a client
-pub ordered : (x : Prog) (o : RunOptions) (r : Course) (c : ℕ) (m : Sent) (w : State) (n : ℕ) → IsRun x o r → CanRun x o → slice_get (orders_left x c r.world.history (gave r.world.history c)) 0 ≡ Some m
+pub ordered : (x : Prog) (o : RunOptions) (r : Course) (c : ℕ) (m : Sent) (w : State) (n : ℕ) → IsRun x o r → slice_get (orders_left x c r.world.history (gave r.world.history c)) 0 ≡ Some m
     → w ≡ with_entry r.world (Client c m) → n ≡ gave r.world.history c + 1
-    → IsRun x o (record { world = w; stations = r.stations; given = set r.given c n })
-ordered x o r c m w n run can first grows counts =
+    → IsRun x o (record { world = w; stations = r.stations; workers = r.workers; given = set r.given c n })
+ordered x o r c m w n run first grows counts =
     let h = r.world.history in
-    let none = can.linked _ h run.made in
     let is = the_entry x o r c m run first in
-    subst (λ (v : State). IsRun x o (record { world = v; stations = r.stations; given = set r.given c n })) (sym grows)
+    let kept = hand_kept x o h (Client c m) (λ none. none) in
+    subst (λ (v : State). IsRun x o (record { world = v; stations = r.stations; workers = r.workers; given = set r.given c n })) (sym grows)
     (record {
       heads = run.heads;
       made = grown x o h (ClientBy c) (Client c m) run.made is;
       stations = run.stations ∙ same_map (stand_after x o h) (stand_after x o (h ++ Client c m ∷ [])) 0 (length (heads x).schedulers) (λ j later. stands_still x o h c m j);
+      workers = run.workers ∙ same_map (hand_after x o h) (hand_after x o (h ++ Client c m ∷ [])) 0 o.workers (λ v later. kept v);
       given = ap (λ (l : List ℕ). set l c n) run.given
           ∙ set_one (gave h) (gave (h ++ Client c m ∷ [])) (length (heads x).clients) c n (λ k other. sym (gave_else h c m k (apart k c other))) (counts ∙ sym (gave_now h c m));
       orders = orders_now x o r c m run first;
-      idle = still_idle x o h (ClientBy c) (Client c m) run.idle none is;
+      hands = λ v. hand_is x o h (h ++ Client c m ∷ []) v (kept v) (run.hands v);
     })
 
 pub so_many_given : (x : Prog) (o : RunOptions) (r : Course) → IsRun x o r → length r.given ≡ length (heads x).clients

@@ -1,7 +1,8 @@
 pub mod ClientLemmas
 pub mod ClientsRun
 pub mod CourseLemmas
+pub mod JobLemmas
 pub mod LastLemmas
 pub mod RoundLemmas
 pub mod RunsOn
-mod StaysLinked
+pub mod WorkersRun

@@ -1,13 +1,12 @@
 -- What a turn and an order leave of a run.
-use Rattle.std.proofs.Common.{◌≡◌, ◌≢◌, ℕ, zero, suc, ◌+◌, ◌-◌, ◌<◌, ◌==◌, Bool, true, false, List, [], ◌∷◌, ◌++◌, map, length, refl, sym, ◌∙◌, ap, subst, arith, Option, Some, None, ◌||◌, ◌⊎◌, inl, inr, sum_by, eq-eqb, Result, Ok, Err}
+use Rattle.std.proofs.Common.{◌≡◌, ◌≢◌, ℕ, zero, suc, ◌+◌, ◌-◌, ◌<◌, ◌≤◌, ◌==◌, Bool, true, false, List, [], ◌∷◌, ◌++◌, length, refl, sym, ◌∙◌, ap, subst, arith, Option, Some, None, ◌||◌, ◌⊎◌, inl, inr, sum_by, eq-eqb, Result, Ok, Err}
 use Rattle.std.proofs.lemmas.Bool.{eqb-true, eqb-false, lt-ltb, ltb-true, ltb-false, leb-false}
 use Rattle.std.proofs.lemmas.List.Sums.{sum_by-cons}
 use Rattle.std.specs.List.{range_with_len}
 use Rattle.std.specs.Prelude.{if◌then◌else◌, not, ◌&&◌, nat_lt, drop, MatchOption, OnOk, IfOk}
 use Rattle.loft_base.specs.declared.ids.SchedId.{SchedId}
-use Rattle.loft_sense.specs.declared.entry.Actor.TheVariants as actor
 use Rattle.loft_sense.specs.declared.entry.Entry.{Entry}
-use Rattle.loft_sense.specs.declared.entry.Entry.TheVariants.{Take, Give, Client}
+use Rattle.loft_sense.specs.declared.entry.Entry.TheVariants.{Take, Give, Pick, Client}
 use Rattle.loft_sense.specs.declared.limits.RunOptions.{RunOptions}
 use Rattle.loft_sense.specs.declared.order.Order.{Order}
 use Rattle.loft_sense.specs.declared.order.Sent.{Sent}
@@ -15,11 +14,11 @@ use Rattle.loft_sense.specs.Heads.{same_scheduler}
 use Rattle.loft_sense.specs.Machine.{Prog, heads}
 use Rattle.loft_sense.specs.Rest.{is_spent}
 use Rattle.loft_sense.specs.Instant.{Replayed, replay}
-use Rattle.loft_sense.specs.History.{Choice, TakeBy, GiveBy, ClientBy, choice_of, in_instant, is_open, unsent_after, unsent, replayed, has_turn, waiting, sent_last, entry_of_first, entry_of, HasEnded}
+use Rattle.loft_sense.specs.History.{Choice, TakeBy, GiveBy, ClientBy, in_instant, is_open, jobs, left_of, unsent, replayed, has_turn, waiting, sent_last, entry_of_first, pick_of, entry_of, HasEnded}
 use Rattle.loft_sense.proofs.AroundLemmas.{instant_number}
-use Rattle.loft_sense.proofs.HistoryLemmas.{in_instant-append, unsent_after-append, unsent_none, on_first}
-use Rattle.loft_turns.specs.Course.{Stand, Course, IsRun, CanRun, Moves}
-use Rattle.loft_turns.specs.Rounds.{instants_left, orders_left, left, AllRest, Nears, turn_of, order_of}
+use Rattle.loft_sense.proofs.HistoryLemmas.{in_instant-append, left_after-append, unsent_after-append, unsent_none, on_first}
+use Rattle.loft_turns.specs.Course.{Stand, HasWorkers, Moves}
+use Rattle.loft_turns.specs.Rounds.{instants_left, orders_unsent, left, AllRest, Nears, WorksOff, EndsOrNears, turn_of, job_of, order_of}
 use Rattle.loft_turns.proofs.CourseLemmas.{replayed_taken, log_given, opened, give_entry}
 use Rattle.loft_turns.proofs.RunsOn.{other_stands, clients_kept}
 use Rattle.loft_turns.proofs.ClientsRun.{stands_still}
@@ -51,7 +50,7 @@ on_take false was turn a e is on = absurd cc
 
 -- ---- sums
 
-sum_same : (f g : ℕ → ℕ) (a n : ℕ) → ((j : ℕ) → a < j + 1 → g j ≡ f j) → sum_by g (range_with_len a n) ≡ sum_by f (range_with_len a n)
+pub sum_same : (f g : ℕ → ℕ) (a n : ℕ) → ((j : ℕ) → a < j + 1 → g j ≡ f j) → sum_by g (range_with_len a n) ≡ sum_by f (range_with_len a n)
 sum_same f g a zero same = refl
 sum_same f g a (suc n) same =
     let rest = sum_same f g (a + 1) n (λ j later. same j (omega (arith, later))) in
@@ -104,11 +103,16 @@ rest_again : (own : Bool) (was : Bool) → was ≡ false → not own && (own || 
 rest_again true was e = refl
 rest_again false was e = e
 
-all_rest : (h : List Entry) (s : SchedId) (batch : List Order) (sent : List Sent) → AllRest h → AllRest (turned h s batch sent)
-all_rest h s batch sent rest q =
-    in_instant-append q (h ++ Take s batch ∷ []) (Give s sent ∷ []) false
-    ∙ (ap (λ (b : Bool). not (same_scheduler q s) && b) (in_instant-append q h (Take s batch ∷ []) false)
-    ∙ rest_again (same_scheduler q s) (in_instant q false h) (rest q))
+all_rest : (x : Prog) (o : RunOptions) (h : List Entry) (s : SchedId) (batch : List Order) (sent : List Sent) → AllRest x o h → AllRest x o (turned h s batch sent)
+all_rest x o h s batch sent rest = record {
+  schedulers = λ q.
+      in_instant-append q (h ++ Take s batch ∷ []) (Give s sent ∷ []) false
+      ∙ (ap (λ (b : Bool). not (same_scheduler q s) && b) (in_instant-append q h (Take s batch ∷ []) false)
+      ∙ rest_again (same_scheduler q s) (in_instant q false h) (rest.schedulers q));
+  workers = λ w.
+      left_after-append x o w (h ++ Take s batch ∷ []) (Give s sent ∷ []) []
+      ∙ (left_after-append x o w h (Take s batch ∷ []) [] ∙ rest.workers w);
+}
 
 number_after : (x : Prog) (o : RunOptions) (h : List Entry) (s : SchedId) (batch : List Order) (sent : List Sent)
     → (replayed x o.limits s (turned h s batch sent)).machine.number ≡ (replayed x o.limits s h).machine.number + 1
@@ -123,7 +127,7 @@ others_left x o h s batch sent j other =
     let late = other_stands x o (h ++ Take s batch ∷ []) (Give s sent) s refl j other in
     ap (λ (q : Stand). o.limits.instants - q.machine.number) (sym (early ∙ late))
 
-orders_same : (x : Prog) (h : List Entry) (s : SchedId) (batch : List Order) (sent : List Sent) (k : ℕ) → orders_left x (turned h s batch sent) k ≡ orders_left x h k
+orders_same : (x : Prog) (h : List Entry) (s : SchedId) (batch : List Order) (sent : List Sent) (k : ℕ) → orders_unsent x (turned h s batch sent) k ≡ orders_unsent x h k
 orders_same x h s batch sent k =
     ap length ((clients_kept x (h ++ Take s batch ∷ []) (Give s sent) s refl).unsent k ∙ (clients_kept x h (Take s batch) s refl).unsent k)
 
@@ -140,16 +144,16 @@ less_after x o h s batch sent declared turn =
     let below : (replayed x o.limits s h).machine.number < o.limits.instants = leb-false o.limits.instants (replayed x o.limits s h).machine.number (unspent_turn (is_spent x o.limits (replayed x o.limits s h).machine) _ turn) in
     let instants = sum_less (instants_left x o h) (instants_left x o (turned h s batch sent)) (length (heads x).schedulers) s.0 declared (others_left x o h s batch sent)
     (less_by_one o.limits.instants (replayed x o.limits s h).machine.number _ below (number_after x o h s batch sent)) in
-    let orders = sum_same (orders_left x h) (orders_left x (turned h s batch sent)) 0 (length (heads x).clients) (λ k later. orders_same x h s batch sent k) in
+    let orders = sum_same (orders_unsent x h) (orders_unsent x (turned h s batch sent)) 0 (length (heads x).clients) (λ k later. orders_same x h s batch sent k) in
     omega (arith, instants, orders)
 
 -- a turn: the Take was allowed, so the Give was, and then no scheduler is in an instant and less is left
 pub record Turned (x : Prog) (o : RunOptions) (h g : List Entry) (went : Bool) : Type 0 where
   pub moved : went ≡ true
-  pub rest : AllRest g
+  pub rest : AllRest x o g
   pub less : left x o g < left x o h
 
-pub one_turn : (x : Prog) (o : RunOptions) (s : SchedId) (h f g : List Entry) (moved : Bool) → AllRest h → Moves x o h (TakeBy s) true f → Moves x o f (GiveBy s) moved g → Turned x o h g moved
+pub one_turn : (x : Prog) (o : RunOptions) (s : SchedId) (h f g : List Entry) (moved : Bool) → AllRest x o h → Moves x o h (TakeBy s) true f → Moves x o f (GiveBy s) moved g → Turned x o h g moved
 one_turn x o s h f g moved rest takes gives =
     moved_some x o h f (TakeBy s) takes (λ e is grows.
     on_take (nat_lt s.0 (length (heads x).schedulers)) (is_open s h) (has_turn x o.limits (replayed x o.limits s h).machine (waiting (heads x) s h)) (Take s (waiting (heads x) s h)) e is (λ declared turn same.
@@ -161,16 +165,19 @@ one_turn x o s h f g moved rest takes gives =
     let did = has_moved x o (h ++ Take s batch ∷ []) g (GiveBy s) (Give s sent) moved due (subst (λ (l : List Entry). Moves x o l (GiveBy s) moved g) took gives) in
     record {
       moved = did.0;
-      rest = subst AllRest (sym did.1) (all_rest h s batch sent rest);
+      rest = subst (AllRest x o) (sym did.1) (all_rest x o h s batch sent rest);
       less = subst (λ (l : List Entry). left x o l < left x o h) (sym did.1) (less_after x o h s batch sent within turn);
     }))
 
 -- ---- one order
 
-rest_still : (h : List Entry) (c : ℕ) (m : Sent) → AllRest h → AllRest (h ++ Client c m ∷ [])
-rest_still h c m rest q = in_instant-append q h (Client c m ∷ []) false ∙ rest q
+rest_still : (x : Prog) (o : RunOptions) (h : List Entry) (c : ℕ) (m : Sent) → AllRest x o h → AllRest x o (h ++ Client c m ∷ [])
+rest_still x o h c m rest = record {
+  schedulers = λ q. in_instant-append q h (Client c m ∷ []) false ∙ rest.schedulers q;
+  workers = λ w. left_after-append x o w h (Client c m ∷ []) [] ∙ rest.workers w;
+}
 
-other_orders : (x : Prog) (h : List Entry) (c : ℕ) (m : Sent) (k : ℕ) → k ≢ c → orders_left x (h ++ Client c m ∷ []) k ≡ orders_left x h k
+other_orders : (x : Prog) (h : List Entry) (c : ℕ) (m : Sent) (k : ℕ) → k ≢ c → orders_unsent x (h ++ Client c m ∷ []) k ≡ orders_unsent x h k
 other_orders x h c m k other =
     ap length (unsent_after-append k h (Client c m ∷ []) _ ∙ ap (λ (b : Bool). if b then drop 1 (unsent (heads x) k h) else unsent (heads x) k h) (apart (k == c) refl))
   where
@@ -178,12 +185,12 @@ other_orders x h c m k other =
     apart true e = absurd (other (eqb-true k c e))
     apart false e = e
 
-fewer_orders : (x : Prog) (h : List Entry) (c : ℕ) (m : Sent) (rest : List Sent) → unsent (heads x) c h ≡ m ∷ rest → orders_left x (h ++ Client c m ∷ []) c < orders_left x h c
+fewer_orders : (x : Prog) (h : List Entry) (c : ℕ) (m : Sent) (rest : List Sent) → unsent (heads x) c h ≡ m ∷ rest → orders_unsent x (h ++ Client c m ∷ []) c < orders_unsent x h c
 fewer_orders x h c m rest all =
-    let now : orders_left x (h ++ Client c m ∷ []) c ≡ length rest =
+    let now : orders_unsent x (h ++ Client c m ∷ []) c ≡ length rest =
     ap length (unsent_after-append c h (Client c m ∷ []) _
     ∙ (ap (λ (b : Bool). if b then drop 1 (unsent (heads x) c h) else unsent (heads x) c h) (eq-eqb c c refl) ∙ ap (drop 1) all)) in
-    let before : orders_left x h c ≡ suc (length rest) = ap length all in
+    let before : orders_unsent x h c ≡ suc (length rest) = ap length all in
     omega (arith, now, before)
 
 same_number : (x : Prog) (o : RunOptions) (h : List Entry) (c : ℕ) (m : Sent) (j : ℕ) → instants_left x o (h ++ Client c m ∷ []) j ≡ instants_left x o h j
@@ -192,7 +199,7 @@ same_number x o h c m j = ap (λ (q : Stand). o.limits.instants - q.machine.numb
 less_by_order : (x : Prog) (o : RunOptions) (h : List Entry) (c : ℕ) (m : Sent) (rest : List Sent) → unsent (heads x) c h ≡ m ∷ rest → left x o (h ++ Client c m ∷ []) < left x o h
 less_by_order x o h c m rest all =
     let instants = sum_same (instants_left x o h) (instants_left x o (h ++ Client c m ∷ [])) 0 (length (heads x).schedulers) (λ j later. same_number x o h c m j) in
-    let orders = sum_less (orders_left x h) (orders_left x (h ++ Client c m ∷ [])) (length (heads x).clients) c (declared (nat_lt c (length (heads x).clients)) refl) (other_orders x h c m) (fewer_orders x h c m rest all) in
+    let orders = sum_less (orders_unsent x h) (orders_unsent x (h ++ Client c m ∷ [])) (length (heads x).clients) c (declared (nat_lt c (length (heads x).clients)) refl) (other_orders x h c m) (fewer_orders x h c m rest all) in
     omega (arith, instants, orders)
   where
     declared : (is : Bool) → nat_lt c (length (heads x).clients) ≡ is → c < length (heads x).clients
@@ -203,22 +210,22 @@ less_by_order x o h c m rest all =
         none_of f = absurd cc
 
 -- an order that a client has given, or has not
-pub one_order : (x : Prog) (o : RunOptions) (c : ℕ) (h g : List Entry) (moved : Bool) → AllRest h → Moves x o h (ClientBy c) moved g → AllRest g × Nears x o h (λ k. ClientBy c) 1 moved g
+pub one_order : (x : Prog) (o : RunOptions) (c : ℕ) (h g : List Entry) (moved : Bool) → AllRest x o h → Moves x o h (ClientBy c) moved g → AllRest x o g × Nears x o h (λ k. ClientBy c) 1 moved g
 one_order x o c h g false rest moves =
     let same = moved_not x o h g (ClientBy c) moves in
-    (subst AllRest (sym same.0) rest, (same.0, λ k one. same.1))
+    (subst (AllRest x o) (sym same.0) rest, (same.0, λ k one. same.1))
 one_order x o c h g true rest moves =
     moved_some x o h g (ClientBy c) moves (λ e is grows.
     on_first (Client c) (unsent (heads x) c h) e is (λ m others all same.
     let gave : g ≡ h ++ Client c m ∷ [] = grows ∙ ap (λ (q : Entry). h ++ q ∷ []) (sym same) in
-    (subst AllRest (sym gave) (rest_still h c m rest), subst (λ (l : List Entry). left x o l < left x o h) (sym gave) (less_by_order x o h c m others all))))
+    (subst (AllRest x o) (sym gave) (rest_still x o h c m rest), subst (λ (l : List Entry). left x o l < left x o h) (sym gave) (less_by_order x o h c m others all))))
 
 -- ---- one choice after another
 
 pub none_yet : (x : Prog) (o : RunOptions) (h : List Entry) (choice : ℕ → Choice) → Nears x o h choice 0 false h
 none_yet x o h choice = (refl, λ k below. absurd (omega (arith, below)))
 
-less_than : (k n : ℕ) → k < n + 1 → (is : Bool) → k == n ≡ is → ((k ≡ n) ⊎ (k < n))
+pub less_than : (k n : ℕ) → k < n + 1 → (is : Bool) → k == n ≡ is → ((k ≡ n) ⊎ (k < n))
 less_than k n below true e = inl (eqb-true k n e)
 less_than k n below false e = inr (by_order k n below (eqb-false k n e))
   where
@@ -260,35 +267,75 @@ no_turn true false true a d w none = cc
 no_turn true true turn a d w none = cc
 no_turn false was turn a d w none = cc
 
--- a run has ended where no scheduler has a turn to make and no client has an order left
-pub all_ended : (x : Prog) (o : RunOptions) (r : Course) → IsRun x o r → CanRun x o → AllRest r.world.history
-    → ((k : ℕ) → k < length (heads x).schedulers → entry_of x o r.world.history (turn_of k) ≡ None)
-    → ((c : ℕ) → c < length (heads x).clients → entry_of x o r.world.history (order_of c) ≡ None)
-    → HasEnded x o r.world.history
-all_ended x o r run can rest turns orders =
-    let h = r.world.history in
-    record {
-      clients = λ c declared. none_first (Client c) (unsent (heads x) c h) (orders c declared);
-      no_jobs = can.linked (map choice_of h) h run.made;
-      workers = λ w declared. run.idle w;
-      schedulers = λ s declared. no_turn (nat_lt s.0 (length (heads x).schedulers)) (is_open s h) (has_turn x o.limits (replayed x o.limits s h).machine (waiting (heads x) s h)) (Take s (waiting (heads x) s h))
-          (lt-ltb s.0 _ declared) (rest s) (turns s.0 declared);
-    }
+-- a run has ended where no scheduler has a turn to make, no worker a job and no client an order left
+pub all_ended : (x : Prog) (o : RunOptions) (h : List Entry) → HasWorkers o → AllRest x o h
+    → ((k : ℕ) → k < length (heads x).schedulers → entry_of x o h (turn_of k) ≡ None)
+    → ((w : ℕ) → w < o.workers → entry_of x o h (job_of w) ≡ None)
+    → ((c : ℕ) → c < length (heads x).clients → entry_of x o h (order_of c) ≡ None)
+    → HasEnded x o h
+all_ended x o h some rest turns jobs_none orders = record {
+  clients = λ c declared. none_first (Client c) (unsent (heads x) c h) (orders c declared);
+  no_jobs = no_job (nat_lt 0 o.workers) (lt-ltb 0 o.workers (at_least_one o.workers some.0)) (jobs_none 0 (at_least_one o.workers some.0));
+  workers = λ w declared. rest.workers w;
+  schedulers = λ s declared. no_turn (nat_lt s.0 (length (heads x).schedulers)) (is_open s h) (has_turn x o.limits (replayed x o.limits s h).machine (waiting (heads x) s h)) (Take s (waiting (heads x) s h))
+      (lt-ltb s.0 _ declared) (rest.schedulers s) (turns s.0 declared);
+}
+  where
+    at_least_one : (n : ℕ) → 1 ≤ n → 0 < n
+    at_least_one n some_ = omega (arith, some_)
 
--- one round: the turns of all schedulers, and an order of each client
-pub less_or_done : (x : Prog) (o : RunOptions) (h f g : List Entry) (n m : ℕ) (turned ordered : Bool) → Nears x o h turn_of n turned f → Nears x o f order_of m ordered g
-    → left x o g + (if turned || ordered then 1 else 0) < left x o h + 1
-less_or_done x o h f g n m true true turns orders = omega (arith, turns, orders)
-less_or_done x o h f g n m true false turns orders = let same : left x o g ≡ left x o f = ap (left x o) orders.0 in omega (arith, turns, same)
-less_or_done x o h f g n m false true turns orders = let same : left x o f ≡ left x o h = ap (left x o) turns.0 in omega (arith, orders, same)
-less_or_done x o h f g n m false false turns orders = let same : left x o g ≡ left x o h = ap (left x o) (orders.0 ∙ turns.0) in omega (arith, same)
+    no_job : (declared : Bool) → declared ≡ true → (if declared then pick_of 0 (left_of x o 0 h) (jobs h) else None) ≡ None → jobs h ≡ []
+    no_job true d none = none_first (Pick 0) (jobs h) (sym (ap (λ (l : List Sent). pick_of 0 l (jobs h)) (rest.workers 0)) ∙ none)
+    no_job false d none = absurd cc
 
-pub round_ended : (x : Prog) (o : RunOptions) (r : Course) (h f : List Entry) (turned ordered : Bool) → IsRun x o r → CanRun x o → AllRest r.world.history
-    → Nears x o h turn_of (length (heads x).schedulers) turned f → Nears x o f order_of (length (heads x).clients) ordered r.world.history → turned || ordered ≡ false
-    → HasEnded x o r.world.history
-round_ended x o r h f true ordered run can rest turns orders none = absurd cc
-round_ended x o r h f false true run can rest turns orders none = absurd cc
-round_ended x o r h f false false run can rest turns orders none =
-    all_ended x o r run can rest
-    (λ k there. ap (λ (l : List Entry). entry_of x o l (turn_of k)) (orders.0 ∙ turns.0) ∙ turns.1 k there)
-    (λ c there. ap (λ (l : List Entry). entry_of x o l (order_of c)) orders.0 ∙ orders.1 c there)
+-- ---- rounds
+
+-- as much is left as before, where no scheduler had a turn and no client an order
+pub stays_as_left : (x : Prog) (o : RunOptions) (start h f g l : List Entry) (n k m : ℕ) (worked : Bool) → left x o h ≡ left x o start
+    → Nears x o h turn_of n false f → WorksOff x o f job_of k worked g → Nears x o g order_of m false l → left x o l ≡ left x o start
+stays_as_left x o start h f g l n k m true same turns works orders =
+    ap (left x o) orders.0 ∙ (works.0 ∙ (ap (left x o) turns.0 ∙ same))
+stays_as_left x o start h f g l n k m false same turns works orders =
+    ap (left x o) orders.0 ∙ (ap (left x o) works.0 ∙ (ap (left x o) turns.0 ∙ same))
+
+-- fewer threads wait for a worker, or no worker had a job
+pub fewer_jobs : (x : Prog) (o : RunOptions) (h f g l : List Entry) (n k m : ℕ) (worked : Bool) → Nears x o h turn_of n false f → WorksOff x o f job_of k worked g → Nears x o g order_of m false l
+    → length (jobs l) + (if worked then 1 else 0) < length (jobs h) + 1
+fewer_jobs x o h f g l n k m true turns works orders =
+    let last : length (jobs l) ≡ length (jobs g) = ap (λ (q : List Entry). length (jobs q)) orders.0 in
+    let first : length (jobs f) ≡ length (jobs h) = ap (λ (q : List Entry). length (jobs q)) turns.0 in
+    let fewer = works.1 in
+    omega (arith, last, first, fewer)
+fewer_jobs x o h f g l n k m false turns works orders =
+    let all : length (jobs l) ≡ length (jobs h) = ap (λ (q : List Entry). length (jobs q)) (orders.0 ∙ (works.0 ∙ turns.0)) in
+    omega (arith, all)
+
+-- nobody had anything to do
+pub round_ended : (x : Prog) (o : RunOptions) (h f g l : List Entry) → HasWorkers o → AllRest x o l
+    → Nears x o h turn_of (length (heads x).schedulers) false f → WorksOff x o f job_of o.workers false g → Nears x o g order_of (length (heads x).clients) false l
+    → HasEnded x o l
+round_ended x o h f g l some rest turns works orders =
+    all_ended x o l some rest
+    (λ k there. ap (λ (q : List Entry). entry_of x o q (turn_of k)) (orders.0 ∙ (works.0 ∙ turns.0)) ∙ turns.1 k there)
+    (λ w there. ap (λ (q : List Entry). entry_of x o q (job_of w)) (orders.0 ∙ works.0) ∙ works.1 w there)
+    (λ c there. ap (λ (q : List Entry). entry_of x o q (order_of c)) orders.0 ∙ orders.1 c there)
+
+-- a scheduler had a turn, or a client an order
+pub less_left : (x : Prog) (o : RunOptions) (start h f g l : List Entry) (n k m : ℕ) (turned worked ordered : Bool) → left x o h ≡ left x o start
+    → Nears x o h turn_of n turned f → WorksOff x o f job_of k worked g → Nears x o g order_of m ordered l → turned || ordered ≡ true → left x o l < left x o start
+less_left x o start h f g l n k m turned worked ordered same turns works orders some =
+    by turned ordered (as_left worked works) turns orders some
+  where
+    as_left : (w : Bool) → WorksOff x o f job_of k w g → left x o g ≡ left x o f
+    as_left true works_ = works_.0
+    as_left false works_ = ap (left x o) works_.0
+
+    by : (t d : Bool) → left x o g ≡ left x o f → Nears x o h turn_of n t f → Nears x o g order_of m d l → t || d ≡ true → left x o l < left x o start
+    by true true mid turns_ orders_ e = omega (arith, mid, turns_, orders_, same)
+    by true false mid turns_ orders_ e = let last : left x o l ≡ left x o g = ap (left x o) orders_.0 in omega (arith, mid, turns_, last, same)
+    by false true mid turns_ orders_ e = let first : left x o f ≡ left x o h = ap (left x o) turns_.0 in omega (arith, mid, orders_, first, same)
+    by false false mid turns_ orders_ e = absurd cc
+
+pub nearer : (x : Prog) (o : RunOptions) (before after : List Entry) (went : Bool) → EndsOrNears x o before went after → left x o after + (if went then 1 else 0) < left x o before + 1
+nearer x o before after true less = omega (arith, less)
+nearer x o before after false ended = let same = ended.1 in omega (arith, same)

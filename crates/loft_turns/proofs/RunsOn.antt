@@ -7,9 +7,6 @@ use Rattle.std.proofs.lemmas.List.FromFn.{length-map-range_with_len, get_or-map-
 use Rattle.std.specs.List.{range_with_len}
 use Rattle.std.specs.Prelude.{if◌then◌else◌, not, ◌&&◌, nat_lt, drop, MatchOption, OnOk, IfOk}
 use Rattle.loft_base.specs.declared.ids.SchedId.{SchedId}
-use Rattle.loft_tree.specs.declared.heads.ClientOrder.{ClientOrder}
-use Rattle.loft_tree.specs.declared.heads.ClientOrder.TheVariants as client
-use Rattle.loft_tree.specs.declared.kinds.Control.TheVariants as control
 use Rattle.loft_tree.specs.declared.heads.Heads.{Heads}
 use Rattle.loft_sense.specs.declared.entry.Actor.{Actor}
 use Rattle.loft_sense.specs.declared.entry.Actor.TheVariants as actor
@@ -17,15 +14,17 @@ use Rattle.loft_sense.specs.declared.entry.Entry.{Entry}
 use Rattle.loft_sense.specs.declared.entry.Entry.TheVariants.{Take, Give, Pick, Post, Client}
 use Rattle.loft_sense.specs.declared.limits.RunOptions.{RunOptions}
 use Rattle.loft_sense.specs.declared.order.Order.{Order}
+use Rattle.loft_sense.specs.declared.order.Sent.{Sent}
 use Rattle.loft_sense.specs.Heads.{same_scheduler}
 use Rattle.loft_sense.specs.Machine.{Prog, heads}
 use Rattle.loft_sense.specs.Instant.{replay}
 use Rattle.loft_sense.specs.Clients.{orders_from, orders_or_none}
-use Rattle.loft_sense.specs.History.{Choice, TakeBy, GiveBy, PickBy, PostBy, ClientBy, choice_of, log, in_instant, is_open, jobs, left_after, left_of, unsent_after, unsent, is_create, creates_after, creates, replayed, has_turn, waiting, sent_last, entry_of_first, pick_of, entry_of, with_entry, hist_on, hist}
+use Rattle.loft_sense.specs.History.{Choice, TakeBy, GiveBy, PickBy, PostBy, ClientBy, choice_of, log, in_instant, is_open, left_of, ends_block, in_hand, is_busy, unsent, is_create, creates_after, creates, replayed, has_turn, waiting, sent_last, entry_of, with_entry, hist_on, hist}
 use Rattle.loft_sense.specs.Legal.{actor_of, same_actor, of}
-use Rattle.loft_sense.proofs.HistoryLemmas.{choice_kept, on_if, on_first, on_pick, log-append, in_instant-append, left_after-append, unsent_after-append}
+use Rattle.loft_sense.proofs.HistoryLemmas.{choice_kept, log-append, in_instant-append, left_after-append, unsent_after-append}
 use Rattle.loft_world.specs.State.{State, scheduler, no_entries}
-use Rattle.loft_turns.specs.Course.{Stand, stand_after, stands_after, gave, orders_left, Course, IsRun, CanRun, Moves}
+use Rattle.loft_turns.specs.Blocks.{IsHand}
+use Rattle.loft_turns.specs.Course.{Stand, stand_after, stands_after, Hand, hand_after, hands_after, gave, orders_left, Course, IsRun, Moves}
 
 -- ---- the history
 
@@ -54,24 +53,47 @@ grown x o h c e made is =
 
 -- ---- workers
 
-no_element : {A Q : Type 0} (a : A) (rest : List A) → a ∷ rest ≡ [] → Q
-no_element a rest e = absurd cc
+pub in_hand-append : (w : ℕ) (xs ys : List Entry) (had : Bool) → in_hand w had (xs ++ ys) ≡ in_hand w (in_hand w had xs) ys
+in_hand-append w [] ys had = refl
+in_hand-append w (Take s batch ∷ xs) ys had = in_hand-append w xs ys had
+in_hand-append w (Give s sent ∷ xs) ys had = in_hand-append w xs ys had
+in_hand-append w (Pick v job ∷ xs) ys had = in_hand-append w xs ys (w == v || had)
+in_hand-append w (Post v sent ∷ xs) ys had = in_hand-append w xs ys (if w == v then not (ends_block sent.order) else had)
+in_hand-append w (Client c sent ∷ xs) ys had = in_hand-append w xs ys had
 
--- no worker has had a job, where none waits
-idle_on : (x : Prog) (o : RunOptions) (h : List Entry) (e : Entry) → ((w : ℕ) → left_of x o w h ≡ []) → jobs h ≡ [] → entry_of x o h (choice_of e) ≡ Some e → (w : ℕ) → left_of x o w (h ++ e ∷ []) ≡ []
-idle_on x o h (Take s batch) idle none is w = left_after-append x o w h (Take s batch ∷ []) [] ∙ idle w
-idle_on x o h (Give s sent) idle none is w = left_after-append x o w h (Give s sent ∷ []) [] ∙ idle w
-idle_on x o h (Client c sent) idle none is w = left_after-append x o w h (Client c sent ∷ []) [] ∙ idle w
-idle_on x o h (Pick v job) idle none is w =
-    on_if (nat_lt v o.workers) (pick_of v (left_of x o v h) (jobs h)) (Pick v job) is (λ declared picks.
-    on_pick v (left_of x o v h) (jobs h) (Pick v job) picks (λ free first.
-    on_first (Pick v) (jobs h) (Pick v job) first (λ t rest all same. no_element t rest (sym all ∙ none))))
-idle_on x o h (Post v sent) idle none is w =
-    on_if (nat_lt v o.workers) (entry_of_first (Post v) (left_of x o v h)) (Post v sent) is (λ declared first.
-    on_first (Post v) (left_of x o v h) (Post v sent) first (λ m rest all same. no_element m rest (sym all ∙ idle v)))
+pub same_hand : (a b : Hand) → a.left ≡ b.left → a.busy ≡ b.busy → a ≡ b
+same_hand a b l y = ap (λ (q : List Sent). record { left = q; busy = a.busy }) l ∙ ap (λ (q : Bool). record { left = b.left; busy = q }) y
 
-pub still_idle : (x : Prog) (o : RunOptions) (h : List Entry) (c : Choice) (e : Entry) → ((w : ℕ) → left_of x o w h ≡ []) → jobs h ≡ [] → entry_of x o h c ≡ Some e → (w : ℕ) → left_of x o w (h ++ e ∷ []) ≡ []
-still_idle x o h c e idle none is = idle_on x o h e idle none (subst (λ (d : Choice). entry_of x o h d ≡ Some e) (sym (choice_kept x o h c e is)) is)
+-- it is an entry of a worker
+abbrev pub IsWork : Entry → Type 0
+IsWork (Take s batch) = ⊥
+IsWork (Give s sent) = ⊥
+IsWork (Pick w job) = Unit {0}
+IsWork (Post w sent) = Unit {0}
+IsWork (Client c sent) = ⊥
+
+-- the entries of schedulers and clients leave workers as they are
+pub hand_kept : (x : Prog) (o : RunOptions) (h : List Entry) (e : Entry) → (IsWork e → ⊥) → (w : ℕ) → hand_after x o h w ≡ hand_after x o (h ++ e ∷ []) w
+hand_kept x o h (Take s batch) other w = same_hand _ _ (sym (left_after-append x o w h (Take s batch ∷ []) [])) (sym (in_hand-append w h (Take s batch ∷ []) false))
+hand_kept x o h (Give s sent) other w = same_hand _ _ (sym (left_after-append x o w h (Give s sent ∷ []) [])) (sym (in_hand-append w h (Give s sent ∷ []) false))
+hand_kept x o h (Client c sent) other w = same_hand _ _ (sym (left_after-append x o w h (Client c sent ∷ []) [])) (sym (in_hand-append w h (Client c sent ∷ []) false))
+hand_kept x o h (Pick v job) other w = absurd (other tt)
+hand_kept x o h (Post v sent) other w = absurd (other tt)
+
+-- a worker has as much in hand as before
+pub hand_is : (x : Prog) (o : RunOptions) (h g : List Entry) (w : ℕ) → hand_after x o h w ≡ hand_after x o g w → IsHand (heads x) (is_busy w h) (left_of x o w h) → IsHand (heads x) (is_busy w g) (left_of x o w g)
+hand_is x o h g w same is = subst (λ (q : Hand). IsHand (heads x) q.busy q.left) same is
+
+-- ---- lists by index
+
+pub from_none : (k : ℕ) → 0 + k ≡ k
+from_none k = omega arith
+
+pub same_map : {A : Type 0} (f g : ℕ → A) (a n : ℕ) → ((j : ℕ) → a < j + 1 → f j ≡ g j) → map f (range_with_len a n) ≡ map g (range_with_len a n)
+same_map f g a zero same = refl
+same_map {A} f g a (suc n) same =
+    ap (λ (v : A). v ∷ map f (range_with_len (a + 1) n)) (same a (omega arith))
+    ∙ ap (λ (l : List A). g a ∷ l) (same_map f g (a + 1) n (λ j later. same j (omega (arith, later))))
 
 -- ---- what an entry leaves as it is
 
@@ -115,6 +137,18 @@ clients_kept x h (Pick w job) s is = absurd cc
 clients_kept x h (Post w sent) s is = absurd cc
 clients_kept x h (Client c sent) s is = absurd cc
 
+-- each client has given as many orders, and has the same to give
+pub given_same : (x : Prog) (r : Course) (g : List Entry) → r.given ≡ map (gave r.world.history) (range_with_len 0 (length (heads x).clients)) → SameClients x r.world.history g
+    → r.given ≡ map (gave g) (range_with_len 0 (length (heads x).clients))
+given_same x r g given same = given ∙ same_map (gave r.world.history) (gave g) 0 (length (heads x).clients) (λ k later. sym (same.gave k))
+
+pub orders_same : (x : Prog) (h g : List Entry) (k : ℕ) → SameClients x h g → unsent (heads x) k h ≡ orders_left x k h (gave h k) → unsent (heads x) k g ≡ orders_left x k g (gave g k)
+orders_same x h g k same is =
+    same.unsent k
+    ∙ (is
+    ∙ (ap (λ (n : ℕ). orders_from (heads x) k n (drop (gave h k) (orders_or_none (slice_get (heads x).clients k)))) (sym (same.creates k))
+    ∙ ap (λ (n : ℕ). orders_from (heads x) k (creates k g) (drop n (orders_or_none (slice_get (heads x).clients k)))) (sym (same.gave k))))
+
 -- another scheduler stands as before
 other_index : (a b : SchedId) → a.0 ≢ b.0 → same_scheduler a b ≡ false
 other_index a b other = by (a.0 == b.0) refl
@@ -146,16 +180,7 @@ other_stands x o h (Pick w job) s is j other = absurd cc
 other_stands x o h (Post w sent) s is j other = absurd cc
 other_stands x o h (Client c sent) s is j other = absurd cc
 
--- ---- lists by index
-
-pub from_none : (k : ℕ) → 0 + k ≡ k
-from_none k = omega arith
-
-pub same_map : {A : Type 0} (f g : ℕ → A) (a n : ℕ) → ((j : ℕ) → a < j + 1 → f j ≡ g j) → map f (range_with_len a n) ≡ map g (range_with_len a n)
-same_map f g a zero same = refl
-same_map {A} f g a (suc n) same =
-    ap (λ (v : A). v ∷ map f (range_with_len (a + 1) n)) (same a (omega arith))
-    ∙ ap (λ (l : List A). g a ∷ l) (same_map f g (a + 1) n (λ j later. same j (omega (arith, later))))
+-- ---- one element of a list by index
 
 -- one element is set, and the others are the same by both
 set_at : {A : Type 0} (f g : ℕ → A) (a n k : ℕ) (v : A) → ((j : ℕ) → j ≢ a + k → f j ≡ g j) → v ≡ g (a + k) → set (map f (range_with_len a n)) k v ≡ map g (range_with_len a n)
@@ -189,18 +214,25 @@ pub record GoesOn (x : Prog) (o : RunOptions) (s : SchedId) (h g : List Entry) :
   pub made : hist x o (map choice_of g) ≡ Ok g
   pub others : (j : ℕ) → j ≢ s.0 → stand_after x o h j ≡ stand_after x o g j
   pub clients : SameClients x h g
-  pub idle : (w : ℕ) → left_of x o w g ≡ []
+  pub hands : (w : ℕ) → hand_after x o h w ≡ hand_after x o g w
 
-same_goes_on : (x : Prog) (o : RunOptions) (s : SchedId) (h g : List Entry) → g ≡ h → hist x o (map choice_of h) ≡ Ok h → ((w : ℕ) → left_of x o w h ≡ []) → GoesOn x o s h g
-same_goes_on x o s h g same made idle =
+same_goes_on : (x : Prog) (o : RunOptions) (s : SchedId) (h g : List Entry) → g ≡ h → hist x o (map choice_of h) ≡ Ok h → GoesOn x o s h g
+same_goes_on x o s h g same made =
     subst (λ (l : List Entry). GoesOn x o s h l) (sym same)
-    (record { made = made; others = λ j other. refl; clients = record { gave = λ k. refl; creates = λ k. refl; unsent = λ k. refl }; idle = idle })
+    (record { made = made; others = λ j other. refl; clients = record { gave = λ k. refl; creates = λ k. refl; unsent = λ k. refl }; hands = λ w. refl })
+
+no_work : (e : Entry) (s : SchedId) → actor_of e ≡ actor.Sched s → IsWork e → ⊥
+no_work (Take q batch) s own work = work
+no_work (Give q sent) s own work = work
+no_work (Pick w job) s own work = absurd cc
+no_work (Post w sent) s own work = absurd cc
+no_work (Client c sent) s own work = work
 
 entry_goes_on : (x : Prog) (o : RunOptions) (s : SchedId) (h g : List Entry) (c : Choice) (e : Entry) → actor_of e ≡ actor.Sched s → entry_of x o h c ≡ Some e → g ≡ h ++ e ∷ []
-    → hist x o (map choice_of h) ≡ Ok h → ((w : ℕ) → left_of x o w h ≡ []) → jobs h ≡ [] → GoesOn x o s h g
-entry_goes_on x o s h g c e own is grows made idle none =
+    → hist x o (map choice_of h) ≡ Ok h → GoesOn x o s h g
+entry_goes_on x o s h g c e own is grows made =
     subst (λ (l : List Entry). GoesOn x o s h l) (sym grows)
-    (record { made = grown x o h c e made is; others = other_stands x o h e s own; clients = clients_kept x h e s own; idle = still_idle x o h c e idle none is })
+    (record { made = grown x o h c e made is; others = other_stands x o h e s own; clients = clients_kept x h e s own; hands = hand_kept x o h e (no_work e s own) })
 
 -- the choices of a scheduler
 abbrev pub IsTurn : SchedId → Choice → Type 0
@@ -218,32 +250,28 @@ turn_entry s (Post w sent) is = absurd is
 turn_entry s (Client c sent) is = absurd is
 
 turn_goes_on : (x : Prog) (o : RunOptions) (s : SchedId) (h g : List Entry) (c : Choice) (moved : Bool) → IsTurn s c → Moves x o h c moved g
-    → hist x o (map choice_of h) ≡ Ok h → ((w : ℕ) → left_of x o w h ≡ []) → jobs h ≡ [] → GoesOn x o s h g
-turn_goes_on x o s h g c moved turn moves made idle none = by (entry_of x o h c) refl moves
+    → hist x o (map choice_of h) ≡ Ok h → GoesOn x o s h g
+turn_goes_on x o s h g c moved turn moves made = by (entry_of x o h c) refl moves
   where
     by : (next : Option Entry) → entry_of x o h c ≡ next → MatchOption next ((moved ≡ false) × (g ≡ h)) (λ e. (moved ≡ true) × (g ≡ h ++ e ∷ [])) → GoesOn x o s h g
-    by None is m = same_goes_on x o s h g m.1 made idle
-    by (Some e) is m = entry_goes_on x o s h g c e (turn_entry s e (subst (IsTurn s) (sym (choice_kept x o h c e is)) turn)) is m.1 made idle none
+    by None is m = same_goes_on x o s h g m.1 made
+    by (Some e) is m = entry_goes_on x o s h g c e (turn_entry s e (subst (IsTurn s) (sym (choice_kept x o h c e is)) turn)) is m.1 made
 
 -- the run after a choice of a scheduler
-pub turned : (x : Prog) (o : RunOptions) (r : Course) (w : State) (s : SchedId) (st : Stand) (c : Choice) (moved : Bool) → IsRun x o r → CanRun x o → IsTurn s c
+pub turned : (x : Prog) (o : RunOptions) (r : Course) (w : State) (s : SchedId) (st : Stand) (c : Choice) (moved : Bool) → IsRun x o r → IsTurn s c
     → Moves x o r.world.history c moved w.history → w.heads ≡ r.world.heads → st ≡ stand_after x o w.history s.0
-    → IsRun x o (record { world = w; stations = set r.stations s.0 st; given = r.given })
-turned x o r w s st c moved run can turn moves same stands =
-    let on = turn_goes_on x o s r.world.history w.history c moved turn moves run.made run.idle (can.linked (map choice_of r.world.history) r.world.history run.made) in
+    → IsRun x o (record { world = w; stations = set r.stations s.0 st; workers = r.workers; given = r.given })
+turned x o r w s st c moved run turn moves same stands =
+    let on = turn_goes_on x o s r.world.history w.history c moved turn moves run.made in
     record {
       heads = same ∙ run.heads;
       made = on.made;
       stations = ap (λ (l : List Stand). set l s.0 st) run.stations ∙ set_one (stand_after x o r.world.history) (stand_after x o w.history) (length (heads x).schedulers) s.0 st on.others stands;
-      given = run.given ∙ same_map (gave r.world.history) (gave w.history) 0 (length (heads x).clients) (λ k later. sym (on.clients.gave k));
-      orders = λ k. on.clients.unsent k ∙ (run.orders k ∙ left_same k (on.clients.creates k) (on.clients.gave k));
-      idle = on.idle;
+      workers = run.workers ∙ same_map (hand_after x o r.world.history) (hand_after x o w.history) 0 o.workers (λ v later. on.hands v);
+      given = given_same x r w.history run.given on.clients;
+      orders = λ k. orders_same x r.world.history w.history k on.clients (run.orders k);
+      hands = λ v. hand_is x o r.world.history w.history v (on.hands v) (run.hands v);
     }
-  where
-    left_same : (k : ℕ) → creates k w.history ≡ creates k r.world.history → gave w.history k ≡ gave r.world.history k → orders_left x k r.world.history (gave r.world.history k) ≡ orders_left x k w.history (gave w.history k)
-    left_same k cs gs =
-        ap (λ (n : ℕ). orders_from (heads x) k n (drop (gave r.world.history k) (orders_or_none (slice_get (heads x).clients k)))) (sym cs)
-        ∙ ap (λ (n : ℕ). orders_from (heads x) k (creates k w.history) (drop n (orders_or_none (slice_get (heads x).clients k)))) (sym gs)
 
 -- ---- a scheduler of a run
 
@@ -281,13 +309,13 @@ not_below a b beyond = by (nat_lt a b) refl
 
 -- ---- before the first entry
 
-pub begun : (x : Prog) (o : RunOptions) (h : Heads) (w : State) (stations : List Stand) (counts : List ℕ) → h ≡ heads x → w ≡ no_entries h
-    → stations ≡ stands_after x o [] (length (heads x).schedulers) → counts ≡ map (λ k. 0) (range_with_len 0 (length (heads x).clients))
-    → IsRun x o (record { world = w; stations = stations; given = counts })
-begun x o h w stations counts same none stands zeros =
+pub begun : (x : Prog) (o : RunOptions) (h : Heads) (w : State) (stations : List Stand) (workers : List Hand) (counts : List ℕ) → h ≡ heads x → w ≡ no_entries h
+    → stations ≡ stands_after x o [] (length (heads x).schedulers) → workers ≡ hands_after x o [] o.workers → counts ≡ map (λ k. 0) (range_with_len 0 (length (heads x).clients))
+    → IsRun x o (record { world = w; stations = stations; workers = workers; given = counts })
+begun x o h w stations workers counts same none stands hands zeros =
     let start : w ≡ no_entries (heads x) = none ∙ ap no_entries same in
-    subst (λ (v : State). IsRun x o (record { world = v; stations = stations; given = counts })) (sym start)
-    (record { heads = refl; made = refl; stations = stands; given = zeros; orders = λ k. refl; idle = λ v. refl })
+    subst (λ (v : State). IsRun x o (record { world = v; stations = stations; workers = workers; given = counts })) (sym start)
+    (record { heads = refl; made = refl; stations = stands; workers = hands; given = zeros; orders = λ k. refl; hands = λ v. refl })
 
 -- ---- results
 

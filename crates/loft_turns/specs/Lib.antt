@@ -1,4 +1,4 @@
-pub mod Built
+pub mod Blocks
 pub mod Course
 pub mod Rounds
 pub mod Running

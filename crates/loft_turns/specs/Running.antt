@@ -1,16 +1,10 @@
 -- Whole runs (docs/SEMANTICS.md, "History").
-use Rattle.std.specs.Prelude.{◌≡◌, List, [], map, Ok}
+use Rattle.std.specs.Prelude.{◌≡◌, map, Ok}
 use Rattle.loft_sense.specs.declared.limits.RunOptions.{RunOptions}
-use Rattle.loft_sense.specs.declared.entry.Entry.{Entry}
-use Rattle.loft_sense.specs.declared.limits.Limits.{Limits}
 use Rattle.loft_sense.specs.Machine.{Prog, heads}
-use Rattle.loft_sense.specs.History.{Choice, choice_of, hist, jobs, HasEnded}
+use Rattle.loft_sense.specs.History.{choice_of, hist, HasEnded}
 use Rattle.loft_world.specs.declared.results.Finished.{Finished}
 use Rattle.loft_world.specs.Replay.{IsReplayOf}
-
--- no thread waits for a worker, whatever has happened so far
-abbrev pub NeverLeaves : Prog → Limits → Type 0
-NeverLeaves x limits = (o : RunOptions) (choices : List Choice) (es : List Entry) → o.limits ≡ limits → hist x o choices ≡ Ok es → jobs es ≡ []
 
 -- a whole run: the world is the program's, its history is that of its choices, and has ended; the notes and the last states are those of the replay
 pub record IsWholeRun (x : Prog) (o : RunOptions) (run : Finished) : Type 0 where

@@ -2,13 +2,15 @@
 
 ghost use Rattle.std.specs.Prelude.{◌≡◌, [], length, IfOk, OnOk};
 ghost use Rattle.loft_sense.specs.Machine.{heads as heads_of};
-ghost use Rattle.loft_sense.specs.History.{TakeBy, GiveBy, ClientBy};
+ghost use Rattle.loft_sense.specs.History.{TakeBy, GiveBy, PickBy, PostBy, ClientBy};
 ghost use Rattle.loft_world.specs.Replay.{IsReplayOf};
-ghost use Rattle.loft_turns.specs.Course.{IsRun, CanRun, Moves, stands_after};
+ghost use Rattle.loft_turns.specs.Course.{IsRun, CanRun, Moves, stands_after, hands_after};
 
+use crate::block_engine::BlockEngine;
 use crate::client::order_at;
 use crate::setting::Setting;
 use crate::station::Station;
+use crate::worker::Worker;
 use loft_base::{NoMemory, SchedId, Sequence};
 use loft_sense::Engine;
 use loft_tree::Heads;
@@ -16,33 +18,43 @@ use loft_world::{Finals, Finished, Notes, World};
 use std::alloc::Global;
 use std::marker::Model;
 
-/// A run so far: its world, its schedulers in the order of their declarations, and how many orders
-/// each client of the source has given.
+/// A run so far: its world, its schedulers in the order of their declarations, its workers in the
+/// order of their numbers, and how many orders each client of the source has given.
 #[derive(Drop)]
-pub struct Course<X: Setting, E: Engine> {
+pub struct Course<X: Setting, E: Engine, B: BlockEngine> {
     world: World,
     stations: Vec<Station<X, E>>,
+    workers: Vec<Worker<X, B>>,
     given: Vec<usize>,
 }
 
-impl<X: Setting, E: Engine> Model for Course<X, E> {
+impl<X: Setting, E: Engine, B: BlockEngine> Model for Course<X, E, B> {
     ghost use Rattle.loft_turns.specs.Course.{Course};
 
     ghost Value = { Course };
 
-    ghost view = { λ c. record { world = c.world; stations = c.stations.items; given = c.given.items } };
+    ghost view = { λ c. record {
+      world = c.world;
+      stations = c.stations.items;
+      workers = c.workers.items;
+      given = c.given.items;
+    } };
 }
 
-impl<X: Setting, E: Engine> Course<X, E> {
-    /// A run without entries, of schedulers before their first instant.
+impl<X: Setting, E: Engine, B: BlockEngine> Course<X, E, B> {
+    /// A run without entries, of schedulers before their first instant and workers before their first
+    /// job.
     pub fn new(
         alloc: Global,
         heads: &Heads,
         stations: Vec<Station<X, E>>,
-    ) -> Result<Course<X, E>, NoMemory>
+        workers: Vec<Worker<X, B>>,
+    ) -> Result<Course<X, E, B>, NoMemory>
         requires heads { heads.now ≡ heads_of X.program }
         requires stations { stations.items ≡ stands_after X.program X.options []
             (length (heads_of X.program).schedulers) }
+        requires workers { workers.items ≡ hands_after X.program X.options []
+            X.options.workers }
         ensures run { IfOk result (λ c. IsRun X.program X.options c) }
         ensures start { IfOk result (λ c. c.world.history ≡ []) }
     {
@@ -53,6 +65,7 @@ impl<X: Setting, E: Engine> Course<X, E> {
         Ok(Course {
             world: World::make(alloc, heads)?,
             stations,
+            workers,
             given,
         })
     }
@@ -88,6 +101,38 @@ impl<X: Setting, E: Engine> Course<X, E> {
         self.stations[at].give(alloc, s, &mut self.world)
     }
 
+    /// The worker picks the thread that has waited longest, where that is allowed. Answers whether it
+    /// was.
+    pub fn pick(&mut self, alloc: Global, w: u32) -> Result<bool, NoMemory>
+        requires run { IsRun X.program X.options self.old }
+        requires can { CanRun X.program X.options }
+        ensures run { OnOk result (IsRun X.program X.options self.new) }
+        ensures moves { IfOk result (λ moved. Moves X.program X.options self.old.world.history
+            (PickBy w) moved self.new.world.history) }
+    {
+        let at = w as usize;
+        if at >= self.workers.len() {
+            return Ok(false);
+        }
+        self.workers[at].pick(alloc, w, &mut self.world)
+    }
+
+    /// The worker posts the next order of its job in hand, where that is allowed. Answers whether it
+    /// was.
+    pub fn post(&mut self, alloc: Global, w: u32) -> Result<bool, NoMemory>
+        requires run { IsRun X.program X.options self.old }
+        requires can { CanRun X.program X.options }
+        ensures run { OnOk result (IsRun X.program X.options self.new) }
+        ensures moves { IfOk result (λ moved. Moves X.program X.options self.old.world.history
+            (PostBy w) moved self.new.world.history) }
+    {
+        let at = w as usize;
+        if at >= self.workers.len() {
+            return Ok(false);
+        }
+        self.workers[at].post(alloc, w, &mut self.world)
+    }
+
     /// The client gives its next order, where it has one. Answers whether it had.
     pub fn client(&mut self, alloc: Global, heads: &Heads, c: u32) -> Result<bool, NoMemory>
         requires run { IsRun X.program X.options self.old }
@@ -116,6 +161,15 @@ impl<X: Setting, E: Engine> Course<X, E> {
             Some(station) => station.instant(),
             None => 0,
         }
+    }
+
+    /// How many workers there are.
+    pub(crate) fn workers(&self) -> u32
+        requires run { IsRun X.program X.options self.now }
+        requires can { CanRun X.program X.options }
+        ensures { result ≡ X.options.workers }
+    {
+        self.workers.len() as u32
     }
 
     /// What the run leaves: its world, the notes, and how each scheduler stands.

@@ -1,17 +1,20 @@
-//! The turns of schedulers: taking what waits, passing the gate, making an instant, with any engine.
+//! A run so far, which goes on by one choice a call, with any engine for each scheduler and each worker; and whole runs in
+//! rounds.
 #![tactic(auto)]
 
-mod built;
+mod block_engine;
 mod client;
 mod course;
 mod laws;
 mod rounds;
 mod setting;
 mod station;
+mod worker;
 
-pub use built::is_built;
+pub use block_engine::BlockEngine;
 pub use course::Course;
-pub use laws::programs_without_unlink_stay_linked;
+pub use laws::well_formed_programs_can_run;
 pub use rounds::run_in_rounds;
 pub use setting::Setting;
 pub use station::Station;
+pub use worker::Worker;

@@ -8,7 +8,7 @@ pub struct Row {
     pub report: &'static [u8],
 }
 
-pub static PROGRAMS: [Row; 19] = [
+pub static PROGRAMS: [Row; 20] = [
     // Prints around a `cooperate`.
     Row {
         source: b"scheduler A; module m() in A print \"one\"; cooperate; print \"two\"; end start \
@@ -622,6 +622,38 @@ scheduler A
 instant 1
 in create start.0 r()
 end start.0 deep r:1
+state 0
+left 0
+end
+",
+    },
+    // A thread that is unlinked for a loop, and its broadcast from there.
+    Row {
+        source: b"scheduler A; event e in A; module j() in A local int i; local int s; unlink; i = 1; while (i <= 1000) do s = s + i; if (i == 500) then broadcast e, s; end i = i + 1; end link A; print s; end start A.j();",
+        instants: 100,
+        budget: 10000,
+        report: b"loft-report 1
+instants 100
+budget 10000
+block 1000000
+workers 2
+history 7
+take A
+give A
+pick 0
+post 0
+post 0
+take A
+give A
+scheduler A
+instant 1
+in create start.0 j()
+leave start.0 unlinked
+instant 2
+in broadcast e 125250
+in arrive start.0 0 0 new j:2[](1001,500500)
+print start.0 500500
+end start.0 done
 state 0
 left 0
 end

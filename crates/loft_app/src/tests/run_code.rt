@@ -1,19 +1,15 @@
 //! `run_code` by itself: it is given code, and no source.
 
-ghost use Rattle.std.specs.Prelude.{◌≡◌, true};
-ghost use Rattle.loft_tree.specs.ProgramView.{program_of};
-ghost use Rattle.loft_turns.specs.Built.{is_built};
 ghost use Rattle.loft_words.specs.Ranges.{AreInRange};
 ghost use Rattle.loft_app.specs.Options.{options_of};
 
 use crate::run_code::run_code;
 use loft_base::{MemSink, OpenGate};
-use loft_compile::{compile, compiled_code_has_the_same_histories};
+use loft_compile::compile;
 use loft_names::resolve;
 use loft_parse::parse;
 use loft_place::{Placed, place};
 use loft_sense::Limits;
-use loft_turns::{is_built, programs_without_unlink_stay_linked};
 use std::sync::Wait;
 use std::test::Fail;
 use std::thread::Threads;
@@ -46,19 +42,15 @@ left 0
 end
 ";
 
-/// The report of a run of the code of a program that is built.
+/// The report of a run of the code of a program.
 fn report_by_code<R: Threads + Wait + Sync + AllocGlobal>(
     rt: &R,
     placed: &Placed,
     limits: Limits,
     workers: u32,
 ) -> Result<MemSink, Fail>
-    requires built { is_built (program_of placed.now) ≡ true }
     requires range { AreInRange (options_of limits workers) }
 {
-    compiled_code_has_the_same_histories();
-    programs_without_unlink_stay_linked();
-    placed.program();
     let code = compile(rt.alloc(), placed)?;
     let mut sink = MemSink::new(rt.alloc(), 4096)?;
     let ran = run_code(rt, rt.alloc(), &code, limits, workers, &mut sink, &OpenGate);
@@ -74,9 +66,6 @@ fn runs_the_code_that_it_is_given(rt: HostRuntime) -> Result<(), Fail> {
     let program = parse(rt.alloc(), PRINTS_OWT)?;
     let named = resolve(rt.alloc(), program).map_err(|_| "a name is wrong")?;
     let placed = place(rt.alloc(), named).map_err(|_| "a link is wrong")?;
-    if !is_built(placed.program()) {
-        return Err("it can't be run so far".into());
-    }
     let limits = Limits {
         instants: 2,
         budget: 7,

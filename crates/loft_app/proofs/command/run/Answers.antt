@@ -1,12 +1,10 @@
-use Rattle.std.proofs.Common.{◌≡◌, true, ◌∙◌, sym, ap, subst, Err}
+use Rattle.std.proofs.Common.{◌≡◌, ◌∙◌, ap, subst, Err}
 use Rattle.std.proofs.lemmas.Result.{err_from_is_err_and}
-use Rattle.loft_tree.specs.declared.named.NamedProgram.{NamedProgram as InMemory}
 use Rattle.loft_tree.specs.NamedTree.{NamedProgram}
 use Rattle.loft_tree.specs.ProgramView.{program_of}
 use Rattle.loft_tree.specs.Resolved.{resolved_of}
 use Rattle.loft_tree.specs.View.{source_of}
 use Rattle.loft_names.specs.Numbers.{numbered}
-use Rattle.loft_turns.specs.Built.{is_built}
 use Rattle.loft_sense.specs.Machine.{Tree}
 use Rattle.loft_app.specs.declared.refusal.Stopped.{Stopped}
 use Rattle.loft_app.specs.Stops.{stop_of_run}
@@ -24,8 +22,7 @@ returns-in_err-run_program-clause-does g c = λ file.
     let n = program_of c.in_ok-placed.placed in
     let same : n ≡ numbered (source_of c.args.program) = c.in_ok-placed.ensures.program in
     let o = c.args.options.now in
-    let built : is_built n ≡ true = subst (λ (q : InMemory). is_built (program_of q) ≡ true) c.program.ensures.program (sym c.is_built.ensures ∙ c.if-not-is_built.false) in
     failed_does (run_stops e c.from_residual-in_err-run_program.result is)
     (part_of (IsReport (Tree (resolved_of n)) o) (IsAnswerFor (Run file o) (source_of c.args.program))
-    (λ text holds. ((c.in_ok-placed.ensures.well, subst (λ (m : NamedProgram). is_built m ≡ true) same built), subst (λ (m : NamedProgram). IsReport (Tree (resolved_of m)) o text) same holds))
+    (λ text holds. (c.in_ok-placed.ensures.well, subst (λ (m : NamedProgram). IsReport (Tree (resolved_of m)) o text) same holds))
     c.in_err-run_program.ensures.failed)

@@ -4,19 +4,10 @@ use Rattle.loft_tree.specs.Resolved.{resolved_of}
 use Rattle.loft_code.specs.Operations.{Automata}
 use Rattle.loft_code.specs.View.{automata_of}
 use Rattle.loft_sense.specs.Machine.{Tree, Code}
-use Rattle.loft_compile.specs.Compiled.{compiled}
-use Rattle.loft_turns.specs.Running.{NeverLeaves}
 use Rattle.loft_app.specs.Promise.{IsReport}
 use Rattle.loft_app.proofs.Reported.{ToldAlike, report_told}
 use Rattle.loft_app.proofs.Written.{whole_of, part_of, on_ok, on_err}
 use Rattle.loft_app.proofs.command.run_program.Goals as goal
-
-pub run_code-requires-clause-linked : goal.run_code-requires-clause-linked
-run_code-requires-clause-linked g c κs within =
-    let n = program_of c.args.placed.now in
-    subst (λ (a : Automata). NeverLeaves (Code a) c.args.options.now.limits) (sym c.in_ok-code.ensures)
-    (c.programs_without_unlink_stay_linked.ensures.made n (Code (compiled (resolved_of n))) c.requires.built
-    (c.compiled_code_has_the_same_histories.ensures.histories n c.program.ensures.fits c.program.ensures.placed) c.args.options.now.limits)
 
 pub returns-clause-report : goal.returns-clause-report
 returns-clause-report g c =

@@ -13,12 +13,6 @@ follow_all-requires-clause-can g c =
     let x = Tree (resolved_of n) in
     let o = c.args.o.now in
     let well : IsPlacedTree (resolved_of n) = record { source = n; names = c.program.ensures.fits; links = c.program.ensures.placed; same = refl } in
-    let can : CanRun x o = record {
-      waiting = λ choices es made. c.waiting_orders_fit.ensures.waiting x well o es (c.made_histories_are_legal.ensures.legal x o choices es made);
-      linked = λ choices es made. c.programs_without_unlink_stay_linked.ensures.made n x c.requires.built (λ q cs. refl) o.limits o choices es refl made;
-      clients = c.waiting_orders_fit.ensures.for_one x well;
-      few_schedulers = well.names.heads.few_schedulers;
-      few_clients = well.names.heads.few_clients;
-    } in
+    let can : CanRun x o = c.well_formed_programs_can_run.ensures x o well c.requires.workers in
     subst (λ (y : Prog). CanRun y g.X.Setting.options) (sym c.requires.program)
     (subst (λ (q : RunOptions). CanRun x q) (sym c.requires.options) can)

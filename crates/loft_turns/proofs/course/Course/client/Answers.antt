@@ -14,7 +14,7 @@ pub returns-then-at-len-clause-moves : goal.returns-then-at-len-clause-moves
 returns-then-at-len-clause-moves g c =
     let x = g.X.Setting.program in
     let o = g.X.Setting.options in
-    let run : IsRun x o (record { world = c.self.inside.world; stations = c.self.inside.stations.items; given = c.self.inside.given.items }) = subst (IsRun x o) (sym c.self.view_is) c.requires.run in
+    let run : IsRun x o (record { world = c.self.inside.world; stations = c.self.inside.stations.items; workers = c.self.inside.workers.items; given = c.self.inside.given.items }) = subst (IsRun x o) (sym c.self.view_is) c.requires.run in
     let beyond : length c.self.inside.given.items ≤ c.args.c = subst (λ (n : ℕ). n ≤ c.args.c) (c.len.ensures ∙ c.self.inside.given.ok.0) c.if-at-len.true in
     no_client x o c.args.self.now.world.history c.args.c (subst (λ (n : ℕ). n ≤ c.args.c) (so_many_given x o _ run) beyond)
 
@@ -23,7 +23,7 @@ order_at-requires-clause-fits g c =
     let x = g.X.Setting.program in
     let o = g.X.Setting.options in
     let h = c.self.inside.world.history in
-    let run : IsRun x o (record { world = c.self.inside.world; stations = c.self.inside.stations.items; given = c.self.inside.given.items }) = subst (IsRun x o) (sym c.self.view_is) c.requires.run in
+    let run : IsRun x o (record { world = c.self.inside.world; stations = c.self.inside.stations.items; workers = c.self.inside.workers.items; given = c.self.inside.given.items }) = subst (IsRun x o) (sym c.self.view_is) c.requires.run in
     let there : c.args.c < length c.self.inside.given.items = subst (λ (n : ℕ). c.args.c < n) (c.len.ensures ∙ c.self.inside.given.ok.0) c.if-at-len.false in
     let is : c.index-given.result.now ≡ gave h c.args.c = c.index-given.ensures ∙ gave_there x o _ c.args.c c.index-given.result.now run (subst (λ (n : ℕ). c.args.c < n) (so_many_given x o _ run) there) in
     subst (λ (n : ℕ). Each (λ (m : Sent). FitsOne x m.to m.order) (orders_left x c.args.c h n)) (sym is) (orders_fit x o _ c.args.c run c.requires.can)
@@ -33,7 +33,7 @@ returns-in_default-clause-moves g c =
     let x = g.X.Setting.program in
     let o = g.X.Setting.options in
     let h = c.self.inside.world.history in
-    let run : IsRun x o (record { world = c.self.inside.world; stations = c.self.inside.stations.items; given = c.self.inside.given.items }) = subst (IsRun x o) (sym c.self.view_is) c.requires.run in
+    let run : IsRun x o (record { world = c.self.inside.world; stations = c.self.inside.stations.items; workers = c.self.inside.workers.items; given = c.self.inside.given.items }) = subst (IsRun x o) (sym c.self.view_is) c.requires.run in
     let there : c.args.c < length c.self.inside.given.items = subst (λ (n : ℕ). c.args.c < n) (c.len.ensures ∙ c.self.inside.given.ok.0) c.if-at-len.false in
     let is : c.index-given.result.now ≡ gave h c.args.c = c.index-given.ensures ∙ gave_there x o _ c.args.c c.index-given.result.now run (subst (λ (n : ℕ). c.args.c < n) (so_many_given x o _ run) there) in
     let first : slice_get (orders_left x c.args.c h (gave h c.args.c)) 0 ≡ None =
@@ -45,7 +45,7 @@ client-requires-clause-one g c =
     let x = g.X.Setting.program in
     let o = g.X.Setting.options in
     let h = c.self.inside.world.history in
-    let run : IsRun x o (record { world = c.self.inside.world; stations = c.self.inside.stations.items; given = c.self.inside.given.items }) = subst (IsRun x o) (sym c.self.view_is) c.requires.run in
+    let run : IsRun x o (record { world = c.self.inside.world; stations = c.self.inside.stations.items; workers = c.self.inside.workers.items; given = c.self.inside.given.items }) = subst (IsRun x o) (sym c.self.view_is) c.requires.run in
     let there : c.args.c < length c.self.inside.given.items = subst (λ (n : ℕ). c.args.c < n) (c.len.ensures ∙ c.self.inside.given.ok.0) c.if-at-len.false in
     let is : c.index-given.result.now ≡ gave h c.args.c = c.index-given.ensures ∙ gave_there x o _ c.args.c c.index-given.result.now run (subst (λ (n : ℕ). c.args.c < n) (so_many_given x o _ run) there) in
     let first : slice_get (orders_left x c.args.c h (gave h c.args.c)) 0 ≡ Some c.in-Some.sent =
@@ -57,7 +57,7 @@ client-requires-clause-kind g c =
     let x = g.X.Setting.program in
     let o = g.X.Setting.options in
     let h = c.self.inside.world.history in
-    let run : IsRun x o (record { world = c.self.inside.world; stations = c.self.inside.stations.items; given = c.self.inside.given.items }) = subst (IsRun x o) (sym c.self.view_is) c.requires.run in
+    let run : IsRun x o (record { world = c.self.inside.world; stations = c.self.inside.stations.items; workers = c.self.inside.workers.items; given = c.self.inside.given.items }) = subst (IsRun x o) (sym c.self.view_is) c.requires.run in
     let there : c.args.c < length c.self.inside.given.items = subst (λ (n : ℕ). c.args.c < n) (c.len.ensures ∙ c.self.inside.given.ok.0) c.if-at-len.false in
     let is : c.index-given.result.now ≡ gave h c.args.c = c.index-given.ensures ∙ gave_there x o _ c.args.c c.index-given.result.now run (subst (λ (n : ℕ). c.args.c < n) (so_many_given x o _ run) there) in
     let first : slice_get (orders_left x c.args.c h (gave h c.args.c)) 0 ≡ Some c.in-Some.sent =
@@ -69,19 +69,19 @@ returns-clause-run g c =
     let x = g.X.Setting.program in
     let o = g.X.Setting.options in
     let h = c.self.inside.world.history in
-    let run : IsRun x o (record { world = c.self.inside.world; stations = c.self.inside.stations.items; given = c.self.inside.given.items }) = subst (IsRun x o) (sym c.self.view_is) c.requires.run in
+    let run : IsRun x o (record { world = c.self.inside.world; stations = c.self.inside.stations.items; workers = c.self.inside.workers.items; given = c.self.inside.given.items }) = subst (IsRun x o) (sym c.self.view_is) c.requires.run in
     let there : c.args.c < length c.self.inside.given.items = subst (λ (n : ℕ). c.args.c < n) (c.len.ensures ∙ c.self.inside.given.ok.0) c.if-at-len.false in
     let is : c.index-given.result.now ≡ gave h c.args.c = c.index-given.ensures ∙ gave_there x o _ c.args.c c.index-given.result.now run (subst (λ (n : ℕ). c.args.c < n) (so_many_given x o _ run) there) in
     let first : slice_get (orders_left x c.args.c h (gave h c.args.c)) 0 ≡ Some c.in-Some.sent =
     ap (λ (n : ℕ). slice_get (orders_left x c.args.c h n) 0) (sym is) ∙ (sym c.in_ok-sent.ensures.order ∙ c.in-Some.is) in
-    ordered x o _ c.args.c c.in-Some.sent c.client.new.self (c.index-given.result.now + 1) run c.requires.can first c.in_ok-client.ensures.ok (ap (λ (n : ℕ). n + 1) is)
+    ordered x o _ c.args.c c.in-Some.sent c.client.new.self (c.index-given.result.now + 1) run first c.in_ok-client.ensures.ok (ap (λ (n : ℕ). n + 1) is)
 
 pub returns-clause-moves : goal.returns-clause-moves
 returns-clause-moves g c =
     let x = g.X.Setting.program in
     let o = g.X.Setting.options in
     let h = c.self.inside.world.history in
-    let run : IsRun x o (record { world = c.self.inside.world; stations = c.self.inside.stations.items; given = c.self.inside.given.items }) = subst (IsRun x o) (sym c.self.view_is) c.requires.run in
+    let run : IsRun x o (record { world = c.self.inside.world; stations = c.self.inside.stations.items; workers = c.self.inside.workers.items; given = c.self.inside.given.items }) = subst (IsRun x o) (sym c.self.view_is) c.requires.run in
     let there : c.args.c < length c.self.inside.given.items = subst (λ (n : ℕ). c.args.c < n) (c.len.ensures ∙ c.self.inside.given.ok.0) c.if-at-len.false in
     let is : c.index-given.result.now ≡ gave h c.args.c = c.index-given.ensures ∙ gave_there x o _ c.args.c c.index-given.result.now run (subst (λ (n : ℕ). c.args.c < n) (so_many_given x o _ run) there) in
     let first : slice_get (orders_left x c.args.c h (gave h c.args.c)) 0 ≡ Some c.in-Some.sent =

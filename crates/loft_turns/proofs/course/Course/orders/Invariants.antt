@@ -9,6 +9,6 @@ invariant-clients g l =
     let o = g.X.Setting.options in
     record {
       run : IsRun x o l.self;
-      rest : AllRest l.self.world.history;
+      rest : AllRest x o l.self.world.history;
       nears : Nears x o l.fn.self.world.history order_of l.c l.went l.self.world.history;
     }

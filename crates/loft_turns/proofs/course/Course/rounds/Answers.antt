@@ -1,13 +1,15 @@
-use Rattle.std.proofs.Common.{◌∙◌, ◌||◌, Bool, ap}
-use Rattle.loft_turns.proofs.RoundLemmas.{round_ended}
+use Rattle.std.proofs.Common.{◌<◌, ◌+◌, Bool, sym, subst}
+use Rattle.std.specs.Prelude.{if◌then◌else◌}
+use Rattle.loft_turns.specs.Rounds.{left}
+use Rattle.loft_turns.proofs.RoundLemmas.{nearer}
 use Rattle.loft_turns.proofs.course.Course.rounds.Goals as goal
 
-pub rounds-preserved : goal.rounds-preserved
-rounds-preserved g c = record {
-  run = c.in_ok-ordered.ensures.run;
-  rest = c.in_ok-ordered.ensures.rest;
-  ended = λ none.
-      round_ended g.X.Setting.program g.X.Setting.options c.orders.new.self c.rounds.self.world.history c.turns.new.self.world.history c.in_ok-turned.turned c.in_ok-ordered.ordered
-      c.in_ok-ordered.ensures.run c.requires.can c.in_ok-ordered.ensures.rest c.in_ok-turned.ensures.nears c.in_ok-ordered.ensures.nears
-      (ap (λ (b : Bool). b || c.in_ok-ordered.ordered) c.if-turned.false ∙ none);
-}
+pub all-smaller : goal.all-smaller
+all-smaller g c =
+    let x = g.X.Setting.program in
+    let o = g.X.Setting.options in
+    let h = c.all.self.world.history in
+    let last = c.some_rounds.new.self.world.history in
+    let goes_on = c.in_ok-goes_on.goes_on in
+    subst (λ (b : Bool). left x o last + (if goes_on then 1 else 0) < left x o h + (if b then 1 else 0)) (sym c.all-test.true)
+    (nearer x o h last goes_on c.in_ok-goes_on.ensures.nears)

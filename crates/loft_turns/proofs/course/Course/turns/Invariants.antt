@@ -9,6 +9,6 @@ invariant-schedulers g l =
     let o = g.X.Setting.options in
     record {
       run : IsRun x o l.self;
-      rest : AllRest l.self.world.history;
+      rest : AllRest x o l.self.world.history;
       nears : Nears x o l.fn.self.world.history turn_of l.k l.went l.self.world.history;
     }

@@ -1,0 +1,97 @@
+//! Runs by the statements of a program.
+
+ghost use Rattle.std.specs.Prelude.{◌≡◌, [], length, IfOk};
+ghost use Rattle.loft_tree.specs.ProgramView.{program_of};
+ghost use Rattle.loft_tree.specs.Resolved.{resolved_of};
+ghost use Rattle.loft_sense.specs.Machine.{Tree, heads as heads_of};
+ghost use Rattle.loft_sense.specs.Rest.{IsInRange};
+ghost use Rattle.loft_turns.specs.Course.{HasWorkers, stands_after, hands_after};
+ghost use Rattle.loft_turns.specs.Running.{IsWholeRun};
+
+use crate::plain_blocks::PlainBlocks;
+use loft_base::{Gate, NoMemory, SchedId};
+use loft_place::Placed;
+use loft_plain::PlainEngine;
+use loft_sense::RunOptions;
+use loft_turns::{Setting, Station, Worker, run_in_rounds, well_formed_programs_can_run};
+use loft_world::Finished;
+use std::alloc::Global;
+use std::marker::Brand;
+use std::sync::Wait;
+use std::thread::Threads;
+
+/// The schedulers of a program before their first instant, in the order of their declarations.
+pub(crate) fn stations<'a, X: Setting>(
+    alloc: Global,
+    p: &'a Placed,
+    o: &RunOptions,
+) -> Result<Vec<Station<X, PlainEngine<'a>>>, NoMemory>
+    requires program { X.program ≡ Tree (resolved_of (program_of p.now)) }
+    requires options { X.options ≡ o.now }
+    requires range { IsInRange o.now.limits }
+    ensures { IfOk result (λ stations. stations.items
+        ≡ stands_after X.program X.options [] (length (heads_of X.program).schedulers)) }
+{
+    let mut stations = Vec::new(alloc);
+    'schedulers: for k in 0..p.program().heads.schedulers.len() {
+        let engine = PlainEngine::new(alloc, p, SchedId(k as u32), o.limits)?;
+        stations.push(Station::new(alloc, engine))?;
+    }
+    Ok(stations)
+}
+
+/// The workers before their first job, in the order of their numbers.
+pub(crate) fn workers<'a, X: Setting>(
+    alloc: Global,
+    p: &'a Placed,
+    o: &RunOptions,
+) -> Result<Vec<Worker<X, PlainBlocks<'a>>>, NoMemory>
+    requires program { X.program ≡ Tree (resolved_of (program_of p.now)) }
+    requires options { X.options ≡ o.now }
+    ensures { IfOk result (λ workers. workers.items
+        ≡ hands_after X.program X.options [] X.options.workers) }
+{
+    let mut workers = Vec::new(alloc);
+    'workers: for _ in 0..o.workers {
+        let blocks = PlainBlocks::new(p, o.limits.block);
+        workers.push(Worker::new(blocks))?;
+    }
+    Ok(workers)
+}
+
+/// The run in a setting.
+fn run_in<X: Setting, R: Threads + Wait + Sync, G: Gate>(
+    rt: &R,
+    alloc: Global,
+    p: &Placed,
+    o: &RunOptions,
+    gate: &G,
+) -> Result<Finished, NoMemory>
+    requires program { X.program ≡ Tree (resolved_of (program_of p.now)) }
+    requires options { X.options ≡ o.now }
+    requires range { IsInRange o.now.limits }
+    requires workers { HasWorkers o.now }
+    ensures { IfOk result (λ run. IsWholeRun (Tree (resolved_of (program_of p.now))) o.now run) }
+{
+    well_formed_programs_can_run();
+    let stations = stations::<X>(alloc, p, o)?;
+    let workers = workers::<X>(alloc, p, o)?;
+    run_in_rounds(rt, alloc, &p.program().heads, stations, workers, gate)
+}
+
+/// A whole run of a placed program by its statements, within bounds and with workers that are in their
+/// ranges, in rounds on one thread of the system (docs/SEMANTICS.md, "Rounds"): the plain way to what
+/// `run_whole` of `loft_run` does by code. `NoMemory` comes where an allocation fails.
+pub fn run_plainly<R: Threads + Wait + Sync, G: Gate>(
+    rt: &R,
+    alloc: Global,
+    p: &Placed,
+    o: &RunOptions,
+    gate: &G,
+) -> Result<Finished, NoMemory>
+    requires range { IsInRange o.now.limits }
+    requires workers { HasWorkers o.now }
+    ensures { IfOk result (λ run. IsWholeRun (Tree (resolved_of (program_of p.now))) o.now run) }
+{
+    run_in::<Brand, R, G>(rt, alloc, p, o, gate)
+}
