@@ -12,7 +12,7 @@ ghost use Rattle.loft_effect.specs.Outcomes.{gone_of};
 use loft_base::{NoMemory, Sequence};
 use loft_board::Board;
 use loft_effect::{Around, Gone, Outcome};
-use loft_sense::{Act, Order, Sent, Sents, To};
+use loft_sense::{Act, Order, Sent, Sents, SharedThread, To};
 use loft_tree::{Heads, Place};
 use std::alloc::Global;
 
@@ -80,7 +80,7 @@ pub fn tell_gone(alloc: Global, sent: &mut Sents, gone: Gone) -> Result<(), NoMe
     match outcome {
         Outcome::Left(thread, to) => sent.push(Sent {
             to,
-            order: Order::Arrive(thread),
+            order: Order::Arrive(SharedThread::new(alloc, thread)?),
         }),
         Outcome::Held(_) | Outcome::Ended(_) => Ok(()),
     }

@@ -53,7 +53,7 @@ fn new_thread(
 {
     let args = Sequence::from_slice(alloc, args.as_slice())?;
     let values = first_values(heads, thread, module, args)?;
-    let mut frames = Sequence::new(alloc);
+    let mut frames = Vec::with_capacity(alloc, 1)?;
     frames.push(Frame {
         module,
         stop: 0,
@@ -65,7 +65,7 @@ fn new_thread(
         code: 0,
         mask: 0,
         wait: Wait::New,
-        frames,
+        frames: Sequence::from_vec(frames),
     })
 }
 
@@ -229,7 +229,7 @@ impl Batch {
                 args,
             } => self.create(alloc, heads, scheduler, *thread, *module, args),
             Order::Arrive(thread) => {
-                self.link(thread.try_clone(alloc)?)?;
+                self.link(thread.as_thread().try_clone(alloc)?)?;
                 self.mark(Mark::Done)
             }
             Order::Stop(thread) => self.stop(heads, scheduler, *thread),

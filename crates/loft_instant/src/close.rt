@@ -7,7 +7,7 @@ ghost use Rattle.loft_instant.specs.View.{standings_of, linked_of, runners_of, i
 use crate::runner::Runner;
 use loft_base::{NoMemory, Sequence};
 use loft_effect::take_thread;
-use loft_sense::{Order, Sent, Sents, Stop, Threads, Wait};
+use loft_sense::{Order, Sent, Sents, SharedThread, Stop, Threads, Wait};
 use std::alloc::Global;
 
 /// A number left in a wait, one lower where it is positive.
@@ -67,7 +67,8 @@ fn close_one(
             Ok(())
         }
         Stop::Leaves(to) => {
-            let order = Order::Arrive(take_thread(alloc, &mut runner.thread));
+            let thread = take_thread(alloc, &mut runner.thread);
+            let order = Order::Arrive(SharedThread::new(alloc, thread)?);
             sent.push(Sent { to, order })
         }
         Stop::Ends(_) => Ok(()),

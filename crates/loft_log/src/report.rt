@@ -304,7 +304,7 @@ impl ReportWriter<'_> {
             (text_of (leave_line self.now.heads.now sent.now.to sent.now.order)) }
     {
         if let Order::Arrive(thread) = &sent.order {
-            make_leaver_line(line, self.heads, thread.id, sent.to)?;
+            make_leaver_line(line, self.heads, thread.as_thread().id, sent.to)?;
             write_line(line, sink)?;
         }
         Ok(())

@@ -88,7 +88,7 @@ impl Order {
                 module: *module,
                 args: Sequence::from_slice(alloc, args.as_slice())?,
             },
-            Order::Arrive(thread) => Order::Arrive(thread.try_clone(alloc)?),
+            Order::Arrive(thread) => Order::Arrive(thread.share()?),
             Order::Stop(thread) => Order::Stop(*thread),
             Order::Suspend(thread) => Order::Suspend(*thread),
             Order::Resume(thread) => Order::Resume(*thread),

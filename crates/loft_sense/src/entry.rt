@@ -1,7 +1,7 @@
 //! The entries of a history, and who makes them (docs/SEMANTICS.md, "History").
 
 use crate::order::{Orders, Sent, Sents};
-use crate::thread::Thread;
+use crate::shared_thread::SharedThread;
 use loft_base::SchedId;
 
 /// Who makes entries: a scheduler, a worker or a client, the last two by their number from 0.
@@ -20,7 +20,7 @@ pub enum Entry {
     /// All that a scheduler's instant sent is accepted.
     Give { s: SchedId, sent: Sents },
     /// A worker takes the unlinked thread that has waited longest.
-    Pick { w: u32, job: Thread },
+    Pick { w: u32, job: SharedThread },
     /// One order of a worker is accepted.
     Post { w: u32, sent: Sent },
     /// One order of a client is accepted.

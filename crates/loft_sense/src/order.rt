@@ -1,6 +1,6 @@
 //! Orders to schedulers, and how threads end.
 
-use crate::thread::Thread;
+use crate::shared_thread::SharedThread;
 use loft_base::{EventId, ModuleId, SchedId, Sequence, ThreadId, Values};
 
 /// Orders, in the order in which they were accepted.
@@ -46,7 +46,7 @@ pub enum Order {
         module: ModuleId,
         args: Values,
     },
-    Arrive(Thread),
+    Arrive(SharedThread),
     Stop(ThreadId),
     Suspend(ThreadId),
     Resume(ThreadId),

@@ -8,6 +8,9 @@ use loft_sense::Line;
 use std::alloc::Global;
 use std::marker::Model;
 
+/// Up to so many bytes are appended one by one.
+const FEW: usize = 8;
+
 /// The bytes of a line so far. Contracts see it as their list. One buffer serves for many lines: a
 /// cleared one keeps its room.
 #[derive(Drop)]
@@ -58,7 +61,20 @@ impl LineBuffer {
     pub fn bytes(&mut self, bytes: &[u8]) -> Result<(), NoMemory>
         ensures { OnOk result (self.new ≡ self.old ++ bytes.now) }
     {
+        if bytes.len() <= FEW {
+            return self.few_bytes(bytes);
+        }
         self.bytes.extend_from_slice(bytes)?;
+        Ok(())
+    }
+
+    /// Appends bytes one by one: a few are there sooner so.
+    fn few_bytes(&mut self, bytes: &[u8]) -> Result<(), NoMemory>
+        ensures { OnOk result (self.new ≡ self.old ++ bytes.now) }
+    {
+        for byte in bytes {
+            self.byte(*byte)?;
+        }
         Ok(())
     }
 
@@ -66,6 +82,10 @@ impl LineBuffer {
     pub fn byte(&mut self, byte: u8) -> Result<(), NoMemory>
         ensures { OnOk result (self.new ≡ self.old ++ byte ∷ []) }
     {
+        if self.bytes.len() < self.bytes.capacity() {
+            self.bytes.push_reserved(byte);
+            return Ok(());
+        }
         self.bytes.push(byte)?;
         Ok(())
     }

@@ -21,11 +21,11 @@ pub(crate) trait Duplicate: Drop {
 pub(crate) fn duplicates<T: Duplicate>(alloc: Global, items: &[T]) -> Result<Sequence<T>, NoMemory>
     ensures { IfOk result (λ copy. copy ≡ items.now) }
 {
-    let mut copy = Sequence::new(alloc);
+    let mut copy = Vec::with_capacity(alloc, items.len())?;
     for item in items {
         copy.push(item.duplicate(alloc)?)?;
     }
-    Ok(copy)
+    Ok(Sequence::from_vec(copy))
 }
 
 impl Duplicate for Order {

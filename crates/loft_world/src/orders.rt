@@ -6,7 +6,7 @@ ghost use Rattle.loft_sense.specs.History.{is_addressed, orders_to, job_before, 
 ghost use Rattle.loft_world.specs.State.{scheduler, each_with};
 
 use loft_base::NoMemory;
-use loft_sense::{Order, Orders, Sent, Thread, To};
+use loft_sense::{Order, Orders, Sent, SharedThread, To};
 use std::alloc::Global;
 use std::collections::VecDeque;
 
@@ -70,7 +70,7 @@ fn add_from(alloc: Global, at: usize, waits: &mut [Orders], sents: &[Sent]) -> R
 }
 
 /// The thread that an order takes to the workers.
-fn job_of(sent: &Sent) -> Option<&Thread>
+fn job_of(sent: &Sent) -> Option<&SharedThread>
     ensures { job_before sent.now.to sent.now.order []
         ≡ option_to_list (option_map (λ t. t.now) result) }
 {
@@ -80,15 +80,14 @@ fn job_of(sent: &Sent) -> Option<&Thread>
     }
 }
 
-/// Adds copies of the threads that are sent to the workers. Where it is out of memory, some may be
-/// there.
-fn add_jobs(alloc: Global, jobs: &mut VecDeque<Thread>, sents: &[Sent]) -> Result<(), NoMemory>
+/// Adds the threads that are sent to the workers. Where it is out of memory, some may be there.
+fn add_jobs(jobs: &mut VecDeque<SharedThread>, sents: &[Sent]) -> Result<(), NoMemory>
     ensures ok { OnOk result (jobs.new.items ≡ jobs.old.items ++ jobs_sent sents.now) }
     ensures err { take (length jobs.old.items) jobs.new.items ≡ jobs.old.items }
 {
     for sent in sents {
         if let Some(thread) = job_of(sent) {
-            jobs.push_back(thread.try_clone(alloc)?)?;
+            jobs.push_back(thread.share()?)?;
         }
     }
     Ok(())
@@ -99,7 +98,7 @@ fn add_jobs(alloc: Global, jobs: &mut VecDeque<Thread>, sents: &[Sent]) -> Resul
 pub(crate) fn add_all(
     alloc: Global,
     waits: &mut Vec<Orders>,
-    jobs: &mut VecDeque<Thread>,
+    jobs: &mut VecDeque<SharedThread>,
     sents: &[Sent],
 ) -> Result<(), NoMemory>
     ensures waits { OnOk result (waits.new.items ≡ each_with 0 sents.now waits.old.items) }
@@ -108,7 +107,7 @@ pub(crate) fn add_all(
     ensures same_jobs { OnErr result (jobs.new.items ≡ jobs.old.items) }
 {
     let before = jobs.len();
-    let mut added = add_jobs(alloc, jobs, sents);
+    let mut added = add_jobs(jobs, sents);
     if added.is_ok() {
         added = add_from(alloc, 0, waits.as_mut_slice(), sents);
     }

@@ -12,7 +12,7 @@ use crate::duplicate::{Duplicate, duplicates};
 use crate::orders::add_all;
 use crate::start::starts_of_each;
 use loft_base::{EventId, NoMemory, SchedId, Sequence};
-use loft_sense::{Entry, Order, Orders, Sent, Sents, Thread};
+use loft_sense::{Entry, Order, Orders, Sent, Sents, SharedThread, Thread};
 use loft_tree::Heads;
 use std::alloc::Global;
 use std::collections::{BTreeMap, VecDeque};
@@ -29,7 +29,7 @@ pub struct World {
     heads: Heads,
     entries: Vec<Entry>,
     waits: Vec<Orders>,
-    jobs: VecDeque<Thread>,
+    jobs: VecDeque<SharedThread>,
     creates: Counts,
 }
 
@@ -111,9 +111,11 @@ impl World {
         let Some(first) = self.jobs.front() else {
             return Ok(None);
         };
-        let job = first.try_clone(alloc)?;
+        let thread = first.as_thread().try_clone(alloc)?;
+        let job = first.share()?;
         self.entries.push(Entry::Pick { w, job })?;
-        Ok(self.jobs.pop_front())
+        self.jobs.pop_front();
+        Ok(Some(thread))
     }
 
     /// One order of a worker with a job in hand is accepted. An arrive or an `ended` is the last of
@@ -234,7 +236,7 @@ fn add(
     alloc: Global,
     entries: &mut Vec<Entry>,
     waits: &mut Vec<Orders>,
-    jobs: &mut VecDeque<Thread>,
+    jobs: &mut VecDeque<SharedThread>,
     entry: Entry,
     sents: &[Sent],
 ) -> Result<(), NoMemory>

@@ -66,7 +66,7 @@ pub fn push_order(line: &mut LineBuffer, heads: &Heads, order: &Order) -> Result
         } => push_create(line, heads, *thread, *module, args.as_slice()),
         Order::Arrive(thread) => {
             line.text("arrive ")?;
-            push_thread(line, heads, thread)
+            push_thread(line, heads, thread.as_thread())
         }
         Order::Stop(thread) => push_word_and_id(line, heads, "stop ", *thread),
         Order::Suspend(thread) => push_word_and_id(line, heads, "suspend ", *thread),

@@ -3,4 +3,4 @@ use Rattle.loft_world.proofs.duplicate.duplicates.Given as goal
 
 -- those so far
 abbrev pub invariant-loop-item : goal.invariant-loop-item
-invariant-loop-item g l = l.copy ≡ take l.item-index l.items
+invariant-loop-item g l = l.copy.items ≡ take l.item-index l.items
