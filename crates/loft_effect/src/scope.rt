@@ -98,6 +98,7 @@ impl Scope {
     }
 
     /// The value of an expression. `Div` comes exactly where a divisor is 0.
+    #[inline(always)]
     pub fn value(&self, heads: &Heads, beside: &Beside, e: &NamedExpr) -> Result<Value, Div>
         ensures { answer_of result
             ≡ eval heads.now self.now.values (beside_of beside.now) (exp_of (term_of e.now)) }

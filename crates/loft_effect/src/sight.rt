@@ -1,6 +1,6 @@
 //! What expressions see (docs/SEMANTICS.md, "Expressions").
 
-ghost use Rattle.std.specs.Prelude.{◌≡◌, Some, filter, length};
+ghost use Rattle.std.specs.Prelude.{◌≡◌, Some, IfSome, filter, length};
 ghost use Rattle.std.specs.Option.{option_map, option_and_then};
 ghost use Rattle.loft_base.specs.declared.ids.Value.TheVariants as value;
 ghost use Rattle.loft_tree.specs.NamedView.{term_of};
@@ -114,8 +114,39 @@ impl Sight<'_> {
         same_value(self.with_number(left, m), self.with_number(right, n))
     }
 
-    /// The value of an expression as a number. `Div` comes exactly where a divisor is 0.
+    /// The value of a number or of a variable of the frame, as a number, and none for other expressions.
+    fn leaf(&self, e: &NamedExpr) -> Option<i64>
+        ensures { IfSome result (λ n. (around : Around)
+            → Some n ≡ option_map number_in (value_in self.now around e.now)) }
+    {
+        match e {
+            NamedExpr::Number(n) => Some(*n),
+            NamedExpr::Slot(slot) => Some(number_of(self.slot(*slot))),
+            NamedExpr::Shared { .. }
+            | NamedExpr::Builtin(_)
+            | NamedExpr::Unary { .. }
+            | NamedExpr::Binary { .. } => None,
+        }
+    }
+
+    /// The value of an expression as a number; that of a leaf is read without a further call. `Div` comes exactly where a
+    /// divisor is 0.
+    #[cycle(number)]
+    #[inline(always)]
     fn number(&self, e: &NamedExpr) -> Result<i64, Div>
+        ensures { (around : Around) → answer_of result
+            ≡ option_map number_in (value_in self.now around e.now) }
+    {
+        match self.leaf(e) {
+            Some(n) => Ok(n),
+            None => self.deep_number(e),
+        }
+    }
+
+    /// The same of an expression of any form.
+    #[cycle(number)]
+    #[inline(never)]
+    fn deep_number(&self, e: &NamedExpr) -> Result<i64, Div>
         ensures { (around : Around) → answer_of result
             ≡ option_map number_in (value_in self.now around e.now) }
     {
@@ -144,6 +175,7 @@ impl Sight<'_> {
     }
 
     /// The value of an expression, whatever else stands around the thread. `Div` comes exactly where a divisor is 0.
+    #[inline(always)]
     pub fn value(&self, e: &NamedExpr) -> Result<Value, Div>
         ensures { (around : Around) → answer_of result
             ≡ eval self.now.heads.now self.now.values.now (beside_in self.now around) (exp_of (term_of e.now)) }

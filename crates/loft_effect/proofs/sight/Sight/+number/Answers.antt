@@ -8,8 +8,8 @@ use Rattle.loft_effect.specs.View.{answer_of, value_in}
 use Rattle.loft_effect.proofs.ValueLemmas.{by_numbers}
 use Rattle.loft_effect.proofs.sight.Sight.+number.Goals as goal
 
-pub returns-in_default : goal.returns-in_default
-returns-in_default t c = λ around.
+pub deep_number-returns-in_default : goal.deep_number-returns-in_default
+deep_number-returns-in_default t c = λ around.
     let m_fits : FitsSigned w64 c.in_ok-m-in-Binary.m = search rules in
     let n_fits : FitsSigned w64 c.in_ok-n-in-Binary.n = search rules in
     let left : Some c.in_ok-m-in-Binary.m ≡ option_map number_in (value_in c.args.self.now around c.in-Binary.left.value) = search rules in
