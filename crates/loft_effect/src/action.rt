@@ -70,7 +70,7 @@ impl Scope {
         ensures { IfOk result (λ values. answer_of values
             ≡ eval_all heads.now self.now.values (beside_of beside.now) (exps_of (map term_of es.now))) }
     {
-        let mut values = Sequence::new(alloc);
+        let mut values = Sequence::from_vec(Vec::with_capacity(alloc, es.len())?);
         for e in es {
             match self.value(heads, beside, e) {
                 Ok(value) => values.push(value)?,

@@ -3,7 +3,7 @@
 ghost use Rattle.std.specs.Prelude.{◌≡◌, IfOk, slice_get};
 ghost use Rattle.loft_sense.specs.Heads.{locals_or_none, first_value as first_value_of, first_values as first_values_of};
 
-use loft_base::{ModuleId, NoMemory, ThreadId, Value, Values};
+use loft_base::{ModuleId, NoMemory, Sequence, ThreadId, Value, Values};
 use loft_tree::{Heads, Kind, SlotHead};
 
 /// The local variables of a module, none where there is no such module.
@@ -26,17 +26,21 @@ fn first_value(thread: ThreadId, kind: Kind) -> Value
     }
 }
 
-/// The values of a module's new frame: the arguments, then the local variables.
+/// The values of a module's new frame: the arguments, then the local variables. The list has no more room than they need,
+/// but for room that the arguments had.
 pub fn first_values(
     heads: &Heads,
     thread: ThreadId,
     module: ModuleId,
-    mut values: Values,
+    values: Values,
 ) -> Result<Values, NoMemory>
     ensures { IfOk result (λ all. all ≡ first_values_of heads.now thread «module» values) }
 {
-    for local in locals(heads, module) {
-        values.push(first_value(thread, local.kind))?;
+    let locals = locals(heads, module);
+    let mut all = values.into_vec();
+    all.reserve_exact(locals.len())?;
+    for local in locals {
+        all.push(first_value(thread, local.kind))?;
     }
-    Ok(values)
+    Ok(Sequence::from_vec(all))
 }
