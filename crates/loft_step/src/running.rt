@@ -87,6 +87,7 @@ impl Running {
     }
 
     /// A frame that goes on where it stood, and the variable that its stop sets, where it is a `get`.
+    #[inline(always)]
     pub fn wake(code: &Code, frame: Frame) -> (Running, Option<Target>)
         requires { IsKept frame }
         ensures frame { active result.0 ≡ active_of (control_of (automata_of code.now)) frame }

@@ -42,6 +42,7 @@ fn over(frames: &[Frame]) -> End
 }
 
 /// The thread with these frames, and this wait.
+#[inline(always)]
 fn stand(beside: &Beside, top: Running, mut outer: Frames, wait: Wait) -> Result<Thread, NoMemory>
     requires { AreKept outer }
     ensures { IfOk result (λ thread. (c : Automata)
@@ -135,6 +136,7 @@ pub fn run<L: Ledger>(
 }
 
 /// A thread with these frames, outermost first, begins to go on from where it stood.
+#[inline(always)]
 pub fn begin<L: Ledger>(
     code: &Code,
     mut frames: Frames,
