@@ -1,6 +1,6 @@
 -- What is kept as the first of the faults is their first.
 use Rattle.std.proofs.Common.{◌≡◌, ℕ, ◌<◌, ◌≤◌, ◌⊎◌, inl, inr, Bool, true, false, ◌&&◌, ◌==◌, zero, suc, List, [], ◌∷◌, Option, Some, None, refl, sym, ap, ◌∙◌, subst, arith}
-use Rattle.std.specs.Prelude.{nat_lt, if◌then◌else◌, Contains}
+use Rattle.std.specs.Prelude.{nat_lt, if◌then◌else◌, Contains, MatchOption}
 use Rattle.std.proofs.lemmas.Bool.{or_cases, and_parts, or_parts, and_cases, ltb-true, ltb-false, eqb-true, eqb-false, cases_order}
 use Rattle.loft_names.specs.declared.error.NameError.{NameError}
 use Rattle.loft_names.specs.declared.error.NameError.TheVariants.{NoScheduler, Unknown, Twice, Arity, Kind as WrongKind, NoMemory}
@@ -157,3 +157,8 @@ pub found : (p : Source) (table : List Declared) (once twice : Option NameError)
     → once ≡ least_of None (twice_from [] (declared p)) → twice ≡ least_of once (uses_from table 0 p) → twice ≡ least_of None (faults p)
 found p table once twice is first second =
     second ∙ (λ i. least_of (first i) (uses_from (is i) 0 p)) ∙ sym (least_of-append None (twice_from [] (declared p)) (uses_from (declared p) 0 p))
+
+-- the first of the faults, or none
+pub first_or_none : (es : List NameError) (o : Option NameError) → o ≡ least_of None es → MatchOption o (es ≡ []) (λ e. IsFirst e es)
+first_or_none es None is = least_is_none es (sym is)
+first_or_none es (Some e) is = least_is_first es e (sym is)

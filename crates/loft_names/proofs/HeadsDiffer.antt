@@ -14,7 +14,7 @@ use Rattle.loft_tree.specs.HeadsFit.{kinds_of as slot_kinds}
 use Rattle.loft_tree.specs.NamedFits.{IsNamed, NamesDiffer, SlotsDiffer, slot_names}
 use Rattle.loft_tree.specs.Source.{Source}
 use Rattle.loft_names.specs.Scopes.{Sort, AScheduler, AnEvent, AShared, AModule, AStart, AClient, AVariable, Scope, Everywhere, Within, Declared, declared, seen_together}
-use Rattle.loft_names.specs.Faults.{NamesFit, twice_from, uses_from}
+use Rattle.loft_names.specs.Faults.{faults, twice_from, uses_from}
 use Rattle.loft_names.specs.Numbers.{heads_of}
 use Rattle.loft_names.specs.HeadOf.{IsDeclared}
 use Rattle.loft_names.proofs.HeadsLists.{index_of, each_from_get}
@@ -23,16 +23,16 @@ use Rattle.loft_names.proofs.HeadsDeclared.{heads_are_declared}
 use Rattle.loft_names.proofs.HeadsTwice.{at_one_index}
 
 -- two declarations of one name that can be seen together are one declaration
-same_declaration : (p : Source) → NamesFit p → (s t : Scope) (a b : Sort) (i j : ℕ) (name : List ℕ) → IsDeclared (declared p) s a i name → IsDeclared (declared p) t b j name
+same_declaration : (p : Source) → faults p ≡ [] → (s t : Scope) (a b : Sort) (i j : ℕ) (name : List ℕ) → IsDeclared (declared p) s a i name → IsDeclared (declared p) t b j name
     → seen_together s t ≡ true → (s ≡ t) × (a ≡ b) × (i ≡ j)
-same_declaration p fits s t a b i j name one other together =
+same_declaration p none s t a b i j name one other together =
     let ds = declared p in
     let d = one.declaration in
     let e = other.declaration in
     let at = index_of ds d one.there in
     let there = index_of ds e other.there in
     let seen : seen_together d.scope e.scope ≡ true = (λ k. seen_together (one.seen k) (other.seen k)) ∙ together in
-    let index = at_one_index [] ds (none_left (twice_from [] ds) (uses_from ds 0 p) fits.faultless) at.0 there.0 d e at.1 there.1 (record { named = one.named ∙ sym other.named; together = seen }) in
+    let index = at_one_index [] ds (none_left (twice_from [] ds) (uses_from ds 0 p) none) at.0 there.0 d e at.1 there.1 (record { named = one.named ∙ sym other.named; together = seen }) in
     let both : Some d ≡ Some e = sym at.1 ∙ ap (slice_get ds) index ∙ there.1 in
     let same : d ≡ e = cc in
     (sym one.seen ∙ ap (λ x. x.scope) same ∙ other.seen, sym one.sorted ∙ ap (λ x. x.sort) same ∙ other.sorted, sym one.numbered ∙ ap (λ x. x.number) same ∙ other.numbered)
@@ -71,11 +71,11 @@ is_item p (item.Module m) name is = let found = module_named p m.0 name is in re
 is_item p (item.Start t) name is = record { sort = AStart; number = t; item = refl; there = heads_are_declared p Everywhere AStart t name is }
 is_item p (item.Client c) name is = record { sort = AClient; number = c; item = refl; there = heads_are_declared p Everywhere AClient c name is }
 
-one_item : (p : Source) → NamesFit p → (a b : HeadItem) (name : List ℕ) → IsNamed (heads_of (declared p) p) a name → IsNamed (heads_of (declared p) p) b name → a ≡ b
-one_item p fits a b name is also =
+one_item : (p : Source) → faults p ≡ [] → (a b : HeadItem) (name : List ℕ) → IsNamed (heads_of (declared p) p) a name → IsNamed (heads_of (declared p) p) b name → a ≡ b
+one_item p none a b name is also =
     let x = is_item p a name is in
     let y = is_item p b name also in
-    let same = same_declaration p fits Everywhere Everywhere x.sort y.sort x.number y.number name x.there y.there refl in
+    let same = same_declaration p none Everywhere Everywhere x.sort y.sort x.number y.number name x.there y.there refl in
     let items : Some a ≡ Some b = sym x.item ∙ (λ k. item_at (same.1 k) (same.2 k)) ∙ y.item in
     cc
 
@@ -94,21 +94,21 @@ slot_declared p m signature there i name is =
     let slot = slot_named all i name of in
     (slot.0, heads_are_declared p (Within m) (AVariable slot.0) i name (record { head = signature; there = there; slot = slot.1 }))
 
-slots_differ : (p : Source) → NamesFit p → (m : ℕ) (signature : Signature) → slice_get (heads_of (declared p) p).modules m ≡ Some signature → SlotsDiffer (heads_of (declared p) p) signature
-slots_differ p fits m signature there = record {
+slots_differ : (p : Source) → faults p ≡ [] → (m : ℕ) (signature : Signature) → slice_get (heads_of (declared p) p).modules m ≡ Some signature → SlotsDiffer (heads_of (declared p) p) signature
+slots_differ p none m signature there = record {
   each_other = λ i j name is also.
       let x = slot_declared p m signature there i name is in
       let y = slot_declared p m signature there j name also in
-      (same_declaration p fits (Within m) (Within m) (AVariable x.0) (AVariable y.0) i j name x.1 y.1 (eq-eqb m m refl)).2;
+      (same_declaration p none (Within m) (Within m) (AVariable x.0) (AVariable y.0) i j name x.1 y.1 (eq-eqb m m refl)).2;
   others = λ i a name is also.
       let x = slot_declared p m signature there i name is in
       let y = is_item p a name also in
-      let same = same_declaration p fits (Within m) Everywhere (AVariable x.0) y.sort i y.number name x.1 y.there refl in
+      let same = same_declaration p none (Within m) Everywhere (AVariable x.0) y.sort i y.number name x.1 y.there refl in
       let differ = same.0 in cc;
 }
 
-pub names_differ : (p : Source) → NamesFit p → NamesDiffer (heads_of (declared p) p)
-names_differ p fits = record {
-  declarations = one_item p fits;
-  slots = each_from_get (SlotsDiffer (heads_of (declared p) p)) (heads_of (declared p) p).modules (slots_differ p fits);
+pub names_differ : (p : Source) → faults p ≡ [] → NamesDiffer (heads_of (declared p) p)
+names_differ p none = record {
+  declarations = one_item p none;
+  slots = each_from_get (SlotsDiffer (heads_of (declared p) p)) (heads_of (declared p) p).modules (slots_differ p none);
 }

@@ -6,13 +6,15 @@ use Rattle.loft_tree.specs.Fits.{Each, IfThere, NameFits, ModuleFits, Declaratio
 use Rattle.loft_tree.specs.NamedFits.{IsName, IsPlace, SlotHolds, EventHolds, SharedHolds, SignatureHolds, StartHolds, ClientHolds, HeadsHold}
 use Rattle.loft_names.specs.Modules.{next_module}
 use Rattle.loft_names.specs.Scopes.{Scope, Everywhere, Within, Declared, declared}
-use Rattle.loft_names.specs.Faults.{NamesFit, declares_scheduler, place_faults, end_faults, module_uses, declaration_uses, uses_from, twice_from}
+use Rattle.loft_names.specs.Faults.{NamesFit, faults, declares_scheduler, place_faults, end_faults, module_uses, declaration_uses, uses_from, twice_from}
 use Rattle.loft_names.specs.Numbers.{schedulers_in, events_in, shared_in, slots_of, signature_of, signatures_in, starts_in, clients_in, place_of, end_of, name_text, heads_of}
 use Rattle.loft_names.specs.HeadOf.{HasHead}
+use Rattle.loft_names.specs.HeadsKept.{HeadsKept}
 use Rattle.loft_names.proofs.HeadsLists.{some_passes}
 use Rattle.loft_names.proofs.HeadsNumbers.{each_declared_has}
 use Rattle.loft_names.proofs.HeadsMeaning.{none_left, none_right, is_a_scheduler, scheduler_holds}
 use Rattle.loft_names.proofs.HeadsCalls.{call_holds, orders_hold, orders-length}
+use Rattle.loft_names.proofs.HeadsDiffer.{names_differ}
 use Rattle.loft_names.proofs.HeadsCounted.{schedulers-length, events-length, shared-length, modules-length, starts-length, clients-length, slots-length, items_counted}
 
 schedulers_hold : (p : Source) → Each DeclarationFits p → Each IsName (schedulers_in p)
@@ -100,15 +102,15 @@ some_scheduler p fits =
     let within = is_a_scheduler h found.0.scope found.0.sort found.0.number found.0.name.text found.1 found.2 in
     omega (arith, within)
 
-pub heads_hold : (p : Source) → SourceFits p → NamesFit p → HeadsHold (heads_of (declared p) p)
-heads_hold p fits names =
+-- a program without faults may have no scheduler
+pub heads_kept : (p : Source) → SourceFits p → faults p ≡ [] → HeadsKept (heads_of (declared p) p)
+heads_kept p fits faultless =
     let ds = declared p in
     let h = heads_of ds p in
     let has = each_declared_has p in
-    let none : uses_from ds 0 p ≡ [] = none_right (twice_from [] ds) (uses_from ds 0 p) names.faultless in
+    let none : uses_from ds 0 p ≡ [] = none_right (twice_from [] ds) (uses_from ds 0 p) faultless in
     record {
       schedulers = schedulers_hold p fits.each;
-      some_scheduler = some_scheduler p names;
       few_schedulers = omega (arith, schedulers-length p, fits.schedulers);
       events = events_hold h ds has 0 p fits.each none;
       few_events = omega (arith, events-length ds p, fits.events);
@@ -121,4 +123,25 @@ heads_hold p fits names =
       clients = clients_hold h ds has 0 p fits.each none;
       few_clients = omega (arith, clients-length ds p, fits.clients);
       items = items_counted ds p;
+      names = names_differ p faultless;
+    }
+
+pub heads_hold : (p : Source) → SourceFits p → NamesFit p → HeadsHold (heads_of (declared p) p)
+heads_hold p fits names =
+    let kept = heads_kept p fits names.faultless in
+    record {
+      schedulers = kept.schedulers;
+      some_scheduler = some_scheduler p names;
+      few_schedulers = kept.few_schedulers;
+      events = kept.events;
+      few_events = kept.few_events;
+      shared = kept.shared;
+      few_shared = kept.few_shared;
+      modules = kept.modules;
+      few_modules = kept.few_modules;
+      starts = kept.starts;
+      few_starts = kept.few_starts;
+      clients = kept.clients;
+      few_clients = kept.few_clients;
+      items = kept.items;
     }

@@ -131,11 +131,11 @@ declaration_none ds m (Module head locals body) agrees =
 declaration_none ds m (Start scheduler called arguments name) agrees = thread_none ds Everywhere scheduler called arguments agrees
 declaration_none ds m (Outside name orders) agrees = orders_none ds Everywhere orders agrees
 
-uses_agree : (ds : List Declared) (m : ℕ) (p : Source) → uses_from ds m p ≡ [] → UsesAgree ds m p
+pub uses_agree : (ds : List Declared) (m : ℕ) (p : Source) → uses_from ds m p ≡ [] → UsesAgree ds m p
 uses_agree ds m [] none = tt
 uses_agree ds m (d ∷ rest) none = (declaration_agrees ds m d (none_left _ _ none), uses_agree ds (next_module m d) rest (none_right (declaration_uses ds m d) _ none))
 
-uses_none : (ds : List Declared) (m : ℕ) (p : Source) → UsesAgree ds m p → uses_from ds m p ≡ []
+pub uses_none : (ds : List Declared) (m : ℕ) (p : Source) → UsesAgree ds m p → uses_from ds m p ≡ []
 uses_none ds m [] agree = refl
 uses_none ds m (d ∷ rest) agree = none_both _ _ (declaration_none ds m d agree.0) (uses_none ds (next_module m d) rest agree.1)
 
@@ -168,7 +168,7 @@ again_none before d ds apart (Some first) is =
     let within = slice_get_within before at.0 first at.1 in
     absurd (omega (arith, index, within))
 
-twice_none : (before ds : List Declared) → NamesApart (before ++ ds) → twice_from before ds ≡ []
+pub twice_none : (before ds : List Declared) → NamesApart (before ++ ds) → twice_from before ds ≡ []
 twice_none before [] apart = refl
 twice_none before (d ∷ ds) apart =
     none_both _ _ (again_none before d ds apart (earlier before d) refl)

@@ -15,7 +15,7 @@ use Rattle.loft_names.proofs.HeadsLinks.{all_linked}
 use Rattle.loft_names.proofs.NumberedBodies.{bodies_hold}
 
 pub numbered_fits : (p : Source) → SourceFits p → NamesFit p → NamedFits (numbered p)
-numbered_fits p fits names = record { heads = heads_hold p fits names; names = names_differ p names; bodies = bodies_hold p fits names; links = all_linked (declared p) p }
+numbered_fits p fits names = record { heads = heads_hold p fits names; names = names_differ p names.faultless; bodies = bodies_hold p fits names; links = all_linked (declared p) p }
 
 -- the parts that were made of the table of declarations
 pub parts_fit : (p : Source) (table : List Declared) (heads : Heads) (modules : List NamedModule) (links : List LinkItem) → SourceFits p → NamesFit p → table ≡ declared p

@@ -7,3 +7,4 @@ pub mod Rooms
 pub mod Modules
 pub mod HeadOf
 pub mod NamesHold
+pub mod HeadsKept

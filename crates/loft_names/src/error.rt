@@ -23,6 +23,23 @@ pub enum NameError {
     NoMemory,
 }
 
+impl NameError {
+    ghost use Rattle.loft_names.specs.Faults.{place_of};
+
+    /// The offset at which it stands; 0 where it stands nowhere.
+    pub fn offset(self) -> u32
+        ensures { result ≡ place_of self }
+    {
+        match self {
+            NameError::NoScheduler | NameError::NoMemory => 0,
+            NameError::Unknown(at)
+            | NameError::Twice { at, .. }
+            | NameError::Arity(at)
+            | NameError::Kind(at) => at,
+        }
+    }
+}
+
 impl From<NoMemory> for NameError {
     ghost from_gives = { λ _ e. e ≡ no_memory };
 

@@ -1,6 +1,6 @@
 //! What holds of names and kinds by their definitions.
 
-ghost use Rattle.std.specs.Prelude.{◌≡◌, ℕ, ◌⊎◌, List};
+ghost use Rattle.std.specs.Prelude.{◌≡◌, ℕ, ◌⊎◌, List, []};
 ghost use Rattle.std.specs.List.{Contains};
 ghost use Rattle.loft_tree.specs.Source.{Source};
 ghost use Rattle.loft_tree.specs.Fits.{Each, SourceFits};
@@ -8,9 +8,10 @@ ghost use Rattle.loft_tree.specs.NamedFits.{NamedFits};
 ghost use Rattle.loft_tree.specs.Stops.{AreNumbered};
 ghost use Rattle.loft_names.specs.declared.error.NameError.{NameError};
 ghost use Rattle.loft_names.specs.Scopes.{Sort, Scope, Declared, declared};
-ghost use Rattle.loft_names.specs.Faults.{NameFault, NamesFit};
+ghost use Rattle.loft_names.specs.Faults.{NameFault, NamesFit, faults};
 ghost use Rattle.loft_names.specs.NamesHold.{NamesHold};
 ghost use Rattle.loft_names.specs.HeadOf.{HasHead, IsHeadIn, IsDeclared};
+ghost use Rattle.loft_names.specs.HeadsKept.{HeadsKept};
 ghost use Rattle.loft_names.specs.Numbers.{numbered};
 
 /// Each program has one answer: its names and kinds are correct, or they have one first fault, and
@@ -43,4 +44,10 @@ pub fn numbers_name_heads()
         → IsDeclared (declared p) scope sort number name }
     ensures stops { (p : Source) → Each (λ m. AreNumbered m.body 0) (numbered p).modules }
     ensures fits { (p : Source) → SourceFits p → NamesFit p → NamedFits (numbered p) }
+{}
+
+/// Where nothing is wrong with names and kinds, what is declared keeps the limits of the language,
+/// and its names differ. It may have no scheduler (docs/LANGUAGE.md, "Limits").
+pub fn heads_are_kept()
+    ensures { (p : Source) → SourceFits p → faults p ≡ [] → HeadsKept (numbered p).heads }
 {}

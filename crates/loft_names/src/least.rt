@@ -1,23 +1,10 @@
 //! The first of the faults that are found.
 
 ghost use Rattle.std.specs.Prelude.{◌≡◌, [], ◌∷◌};
-ghost use Rattle.loft_names.specs.Faults.{place_of, rank_of, first_of};
+ghost use Rattle.loft_names.specs.Faults.{rank_of, first_of};
 ghost use Rattle.loft_names.specs.Least.{precedes, least_of};
 
 use crate::error::NameError;
-
-/// The offset of a fault.
-fn offset_of(fault: NameError) -> u32
-    ensures { result ≡ place_of fault }
-{
-    match fault {
-        NameError::NoScheduler | NameError::NoMemory => 0,
-        NameError::Unknown(at)
-        | NameError::Twice { at, .. }
-        | NameError::Arity(at)
-        | NameError::Kind(at) => at,
-    }
-}
 
 /// The order of faults at one offset.
 fn rank_of(fault: NameError) -> u8
@@ -48,7 +35,7 @@ fn first_of(fault: NameError) -> u32
 fn precedes(fault: NameError, other: NameError) -> bool
     ensures { result ≡ precedes fault other }
 {
-    let (offset, other_offset) = (offset_of(fault), offset_of(other));
+    let (offset, other_offset) = (fault.offset(), other.offset());
     let (rank, other_rank) = (rank_of(fault), rank_of(other));
     let first_is_sooner = first_of(fault) < first_of(other);
     offset < other_offset

@@ -6,6 +6,7 @@ mod error;
 mod faults;
 mod laws;
 mod least;
+mod names;
 mod numbers;
 mod program;
 mod scope;
@@ -13,5 +14,9 @@ mod sofar;
 mod table;
 
 pub use error::NameError;
-pub use laws::{names_are_decided, names_fit_means, numbers_name_heads};
+pub use laws::{heads_are_kept, names_are_decided, names_fit_means, numbers_name_heads};
+pub use names::declared_names;
+pub use numbers::{number_expression, number_heads, number_place, number_statement};
 pub use program::resolve;
+pub use scope::Scope;
+pub use table::{Entry, Sort, Table};

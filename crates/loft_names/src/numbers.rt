@@ -10,6 +10,9 @@ mod name;
 mod part;
 mod statement;
 
-pub use head::heads;
+pub use expression::term as number_expression;
+pub use head::{heads, heads as number_heads};
 pub use link::links;
 pub use module::modules;
+pub use part::place as number_place;
+pub use statement::number_statement;

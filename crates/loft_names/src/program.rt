@@ -9,9 +9,8 @@ ghost use Rattle.loft_names.specs.Scopes.{declared};
 ghost use Rattle.loft_names.specs.Faults.{NameFault, NamesFit};
 ghost use Rattle.loft_names.specs.declared.error.NameError.TheVariants.{NoMemory};
 
-use crate::declare::declare_all;
 use crate::error::NameError;
-use crate::faults;
+use crate::names::declared_names;
 use crate::numbers::{heads, links, modules};
 use crate::table::Table;
 use loft_tree::{Item, Named, NamedProgram, Program};
@@ -24,12 +23,10 @@ fn checked<'a>(alloc: Global, items: &'a [Item]) -> Result<Table<'a>, NameError>
     ensures fits { OnOk result (NamesFit (source_of items.now)) }
     ensures fault { IfErr result (λ e. e ≢ NoMemory → NameFault (source_of items.now) e) }
 {
-    let mut least = None;
-    let table = declare_all(alloc, items, &mut least)?;
+    let (table, least) = declared_names(alloc, items)?;
     if !table.has_scheduler() {
         return Err(NameError::NoScheduler);
     }
-    faults::items(&table, items, &mut least);
     match least {
         Some(fault) => Err(fault),
         None => Ok(table),

@@ -1,6 +1,6 @@
 //! Where declarations can be seen.
 
-/// Where a declaration can be seen.
+/// Where a declaration can be seen (docs/LANGUAGE.md, "Names").
 #[derive(Clone, Copy, Debug, PartialEq, Eq, Hash)]
 pub enum Scope {
     /// In the whole program.

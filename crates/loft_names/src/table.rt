@@ -13,15 +13,20 @@ use loft_tree::{Ident, Kind, Variable};
 use std::alloc::Global;
 use std::marker::Model;
 
-/// What a name is declared as.
+/// What a name is declared as (docs/LANGUAGE.md, "Names").
 #[derive(Clone, Copy)]
 pub enum Sort<'a> {
+    /// A scheduler.
     Scheduler,
+    /// An event.
     Event,
+    /// A shared variable.
     Shared,
     /// A module with these parameters.
     Module(&'a [Variable]),
+    /// The thread of a start.
     Start,
+    /// An outside client.
     Client,
     /// A parameter or a local variable of this kind.
     Variable(Kind),
@@ -65,12 +70,16 @@ impl<'a> Sort<'a> {
 }
 
 /// A declaration. The declarations of a sort are numbered from 0, and so are the parameters and
-/// local variables of a module, together.
+/// local variables of a module, together (docs/LANGUAGE.md, "Numbers of names").
 #[derive(Clone, Copy)]
 pub struct Entry<'a> {
+    /// Its name.
     pub name: &'a Ident,
+    /// Where it can be seen.
     pub scope: Scope,
+    /// What it declares.
     pub sort: Sort<'a>,
+    /// Its number.
     pub number: u32,
 }
 
@@ -83,7 +92,7 @@ enum Reach {
     In(Scope),
 }
 
-/// The declarations of a program in the order of the text.
+/// The declarations of a program in the order of the text (docs/LANGUAGE.md, "Names").
 #[derive(Drop)]
 pub struct Table<'a> {
     entries: Vec<Entry<'a>>,

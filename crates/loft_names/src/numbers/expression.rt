@@ -12,7 +12,11 @@ use loft_base::NoMemory;
 use loft_tree::{Expr, NamedExpr};
 use std::alloc::Global;
 
-/// An expression.
+/// An expression with numbers in place of its names (docs/LANGUAGE.md, "Numbers of names").
+///
+/// # Errors
+///
+/// Out of memory.
 pub fn term(alloc: Global, table: &Table, scope: Scope, e: &Expr) -> Result<NamedExpr, NoMemory>
     ensures { IfOk result (λ t. view.term_of t ≡ term_of table.now scope (expression_of e.now)) }
 {

@@ -130,7 +130,12 @@ fn clients(alloc: Global, table: &Table, items: &[Item]) -> Result<Sequence<Clie
     Ok(all)
 }
 
-/// All that a program declares outside module bodies.
+/// All that a program declares outside module bodies, with numbers in place of names
+/// (docs/LANGUAGE.md, "Numbers of names").
+///
+/// # Errors
+///
+/// Out of memory.
 pub fn heads(alloc: Global, table: &Table, items: &[Item]) -> Result<Heads, NoMemory>
     requires { length items.now < 2 ^ 32 }
     ensures { IfOk result (λ heads. heads ≡ heads_of table.now (source_of items.now)) }

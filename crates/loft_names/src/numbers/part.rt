@@ -47,8 +47,9 @@ fn slots(alloc: Global, variables: &[Variable]) -> Result<Slots, NoMemory>
     Ok(all)
 }
 
-/// A place where threads are linked.
-fn place(table: &Table, scope: Scope, name: &PlaceName) -> Place
+/// A place where threads are linked, with a number in place of a name (docs/LANGUAGE.md, "Numbers of
+/// names").
+pub fn place(table: &Table, scope: Scope, name: &PlaceName) -> Place
     ensures { result ≡ place_of table.now scope (place_name_of name.now) }
 {
     match name {

@@ -220,3 +220,23 @@ pub fn body(
     }
     Ok(all)
 }
+
+/// One statement with numbers in place of its names, its stops numbered from 1 in the order of the
+/// text (docs/LANGUAGE.md, "Numbers of names").
+///
+/// # Errors
+///
+/// Out of memory.
+pub fn number_statement(
+    alloc: Global,
+    table: &Table,
+    scope: Scope,
+    s: &Stmt,
+) -> Result<NamedStmt, NoMemory>
+    requires { stops_in (statement_of s.now) < 2 ^ 32 }
+    ensures { IfOk result (λ t. view.statement_of t
+        ≡ numbers.statement_of table.now scope (statement_of s.now) 0) }
+{
+    let mut stops = 0;
+    statement(alloc, table, scope, s, &mut stops)
+}

@@ -1,0 +1,10 @@
+pub mod Lists
+pub mod Offsets
+pub mod Items
+pub mod Parts
+pub mod Growing
+pub mod Walking
+pub mod Following
+pub mod Stopping
+pub mod Reading
+pub mod TakenLines

@@ -1,0 +1,7 @@
+use Rattle.std.proofs.Common.{◌≡◌, map, take}
+use Rattle.loft_tree.specs.View.{argument_of}
+use Rattle.loft_draft.specs.Lined.{argument_at}
+use Rattle.loft_draft.proofs.lined.arguments_at.Given as goal
+
+abbrev pub invariant-loop-argument : goal.invariant-loop-argument
+invariant-loop-argument l = map argument_of l.copy.items ≡ map (argument_at l.line) (map argument_of (take l.argument-index l.arguments))

@@ -1,0 +1,12 @@
+use Rattle.std.proofs.Common.{sym, subst, IfOk}
+use Rattle.loft_rows.specs.RowView.{row_of}
+use Rattle.loft_draft.specs.declared.sofar.Open.{Open}
+use Rattle.loft_draft.specs.Held.{Takes}
+use Rattle.loft_draft.specs.Taking.{lined_line}
+use Rattle.loft_draft.proofs.sofar.SoFar.take.Goals as goal
+
+pub returns-in-Client : goal.returns-in-Client
+returns-in-Client c =
+    let spot = c.args.spot in
+    let P : Open → Type 0 = λ b. IfOk c.take-in-Client.result (λ t. Takes (record { done = c.args.self.done; begun = b }) spot.text.now (lined_line spot.line (row_of c.args.row.now)) t spot.after.now) in
+    subst P (sym c.in-Client.is) (c.take-in-Client.ensures spot.text.now spot.after.now)

@@ -1,0 +1,6 @@
+pub mod Drafts
+pub mod Held
+pub mod InMemory
+pub mod Lined
+pub mod Stops
+pub mod Taking

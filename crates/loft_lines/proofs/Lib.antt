@@ -1,0 +1,4 @@
+pub mod OnePart
+pub mod OneDeed
+pub mod OneLine
+pub mod OneDraft

@@ -1,0 +1,10 @@
+pub mod Goes
+pub mod Items
+pub mod Judging
+pub mod KeepsCode
+pub mod KeepsOperations
+pub mod KeepsValues
+pub mod Leasts
+pub mod Lines
+pub mod Offsets
+pub mod Room

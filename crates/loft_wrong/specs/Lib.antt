@@ -1,0 +1,4 @@
+pub mod Named
+pub mod Wrong
+pub mod DraftOf
+pub mod Least
