@@ -4,7 +4,9 @@
 A folder in cases/ has the name of its command; the sources in examples/ and docs/tutorial/ are run.
 NAME.loft is the source, NAME.loft.args has further words, one a line, where there are any, and
 NAME.loft.stdout is all that the command has to print; the status follows from the first word of
-that (docs/COMMANDS.md). A case passes where each program gives both exactly.
+that (docs/COMMANDS.md). A case passes where each program gives both exactly. In the folder `exec`
+NAME.listing stands for NAME.loft. Each source in `run` that has a report is compiled, too, and `exec`
+of its listing has to print that report.
 
 The folder `words` has a table instead: words, the status, and the first line of the answer, between
 tabs. Its words are separated by a blank, and '' is the empty one; they are those of a program that
@@ -15,14 +17,26 @@ import os
 import pathlib
 import subprocess
 import sys
+import tempfile
 
 TOP = pathlib.Path(__file__).resolve().parent.parent
-COMMANDS = ["run", "show", "check", "compile"]
+COMMANDS = ["run", "show", "check", "compile", "exec"]
 WORDS = TOP / "cases/words"
 TABLE = WORDS / "words.tsv"
-STATUSES = {b"source:": 3, b"loft:": 2, b"log:": 4, b"files:": 5}
+STATUSES = {b"source:": 3, b"listing:": 3, b"loft:": 2, b"log:": 4, b"files:": 5}
 SECONDS = 300
 FOLDERS = {f"cases/{it}": it for it in COMMANDS} | {"examples": "run", "docs/tutorial": "run"}
+
+
+def ending_of(command):
+    """How the names of a command's files end."""
+    return ".listing" if command == "exec" else ".loft"
+
+
+def has_report(source):
+    """Whether the stored answer of a source is a report."""
+    answer = source.with_name(source.name + ".stdout")
+    return answer.is_file() and status_of(answer.read_bytes()) == 0
 
 
 def status_of(answer):
@@ -43,7 +57,7 @@ def ended(program, words, folder):
 
 
 class Source:
-    """A source with the answer of a command."""
+    """A source or a listing with the answer of a command."""
 
     def __init__(self, source, command):
         self.source = source
@@ -55,17 +69,41 @@ class Source:
 
     def failure(self, program):
         """Why the case fails, or None."""
-        expected, further = self.beside(".stdout"), self.beside(".args")
+        expected = self.beside(".stdout")
         if not expected.is_file():
             return f"there is no {expected.name}"
         wanted = expected.read_bytes()
-        more = further.read_text().split("\n")[:-1] if further.is_file() else []
-        ran = ended(program, [self.command, self.name, *more], TOP)
+        ran = self.ran(program)
         if ran.stdout != wanted:
             return difference(ran.stdout, wanted)
         if ran.returncode != status_of(wanted):
             return f"the status is {ran.returncode}, not {status_of(wanted)}"
         return None
+
+    def further(self):
+        """The further words of the command."""
+        words = self.beside(".args")
+        return words.read_text().split("\n")[:-1] if words.is_file() else []
+
+    def ran(self, program):
+        """How the program ends for this case."""
+        return ended(program, [self.command, self.name, *self.further()], TOP)
+
+
+class Listed(Source):
+    """A source whose listing is run in its place."""
+
+    def __init__(self, source, command):
+        super().__init__(source, command)
+        self.name = f"{self.name}, by its listing"
+
+    def ran(self, program):
+        """How `exec` ends for the listing that `compile` prints."""
+        listing = ended(program, ["compile", str(self.source)], TOP).stdout
+        with tempfile.NamedTemporaryFile(suffix=".listing") as file:
+            file.write(listing)
+            file.flush()
+            return ended(program, ["exec", file.name, *self.further()], TOP)
 
 
 class Row:
@@ -91,7 +129,8 @@ def strays():
     folders = [*TOP.glob("cases/*"), TOP / "examples", TOP / "docs/tutorial"]
     for file in sorted(file for folder in folders for file in folder.glob("*")):
         name = file.name.removesuffix(".stdout").removesuffix(".args")
-        is_source = str(file.parent.relative_to(TOP)) in FOLDERS and name.endswith(".loft")
+        command = FOLDERS.get(str(file.parent.relative_to(TOP)))
+        is_source = command is not None and name.endswith(ending_of(command))
         is_known = file.parent == WORDS or file.name == "README.md" or is_source
         if not is_known or not file.with_name(name).is_file():
             yield f"{file.relative_to(TOP)}: it belongs to no case"
@@ -116,7 +155,8 @@ def main(programs):
     if lacking or not programs:
         print(*lacking, "0 passed, 1 failed", sep="\n")
         return 1
-    cases = [Source(it, FOLDERS[folder]) for folder in FOLDERS for it in sorted(TOP.glob(f"{folder}/*.loft"))]
+    cases = [Source(it, command) for folder, command in FOLDERS.items() for it in sorted(TOP.glob(f"{folder}/*{ending_of(command)}"))]
+    cases += [Listed(it, "run") for it in sorted(TOP.glob("cases/run/*.loft")) if has_report(it)]
     cases += [Row(number, line) for number, line in enumerate(TABLE.read_text().split("\n")[:-1], 1)]
     with concurrent.futures.ThreadPoolExecutor(os.cpu_count()) as pool:
         found = list(pool.map(lambda case: failures_of(programs, case), cases))

@@ -20,8 +20,8 @@ done_answers {c = c} before after d a = record {
   done = λ contents k e. a.written contents k refl;
   source = λ contents k e. absurd cc;
   refused = λ contents line k (r, asks, cause, is).
-      let (p, text, takes) = a.takes contents k refl in absurd (taken_not_refused d c contents p r text takes asks cause);
-  accepted = λ contents p k text takes. tt;
+      let (x, text, takes) = a.takes contents k refl in absurd (taken_not_refused d c contents x r text takes asks cause);
+  accepted = λ contents x k text takes. tt;
   prefix = λ contents k e. absurd (elim e [ inl f ↦ cc | inr f ↦ cc ]);
   file_line = λ e. absurd cc;
   never_usage = λ e. cc;
@@ -36,7 +36,7 @@ cut_answers c known end old new before after is part = record {
   done = λ contents k e. absurd (elim is [ inl f ↦ cc | inr f ↦ cc ]);
   source = λ contents k e. absurd (elim is [ inl f ↦ cc | inr f ↦ cc ]);
   refused = λ contents line k r. elim is [ inl f ↦ subst IsRefused (sym f) tt | inr f ↦ subst IsRefused (sym f) tt ];
-  accepted = λ contents p k text takes. elim is [ inl f ↦ subst IsAccepted (sym f) tt | inr f ↦ subst IsAccepted (sym f) tt ];
+  accepted = λ contents x k text takes. elim is [ inl f ↦ subst IsAccepted (sym f) tt | inr f ↦ subst IsAccepted (sym f) tt ];
   prefix = λ contents k e. part contents k;
   file_line = λ e. absurd (elim is [ inl f ↦ cc | inr f ↦ cc ]);
   never_usage = λ e. elim is [ inl f ↦ cc | inr f ↦ cc ];
@@ -60,7 +60,7 @@ file_answers c known end old mid new before after same rose (inl e) grew cut = r
   done = λ contents k f. absurd cc;
   source = λ contents k f. absurd cc;
   refused = λ contents line k r. subst IsRefused (sym e) tt;
-  accepted = λ contents p k text takes. subst IsAccepted (sym e) tt;
+  accepted = λ contents x k text takes. subst IsAccepted (sym e) tt;
   prefix = λ contents k f. absurd (elim f [ inl g ↦ cc | inr g ↦ cc ]);
   file_line = λ f. appends {P = IsLine (codes "files: fault")} (codes "files: fault" ++ 10 ∷ []) (subst (λ (o : Option (List ℕ)). new ≡ appended o (codes "files: fault" ++ 10 ∷ [])) same (grew e)) refl;
   never_usage = λ f. cc;
@@ -87,8 +87,8 @@ refused_answers {c = c} {known = known} {old = old} {mid = mid} {r = r} end new 
           (subst (λ (o : Option (List ℕ)). new ≡ appended o (line_of r ++ 10 ∷ [])) still (grew e))
           (line_of r, (r, (a.refused contents r k refl).0, (a.refused contents r k refl).1, refl), refl);
       refused = λ contents line k x. subst IsRefused (sym e) tt;
-      accepted = λ contents p k text takes.
-          let (asks, cause) = a.refused contents r k refl in absurd (taken_not_refused d c contents p r text takes asks cause);
+      accepted = λ contents x k text takes.
+          let (asks, cause) = a.refused contents r k refl in absurd (taken_not_refused d c contents x r text takes asks cause);
       prefix = λ contents k f. absurd (elim f [ inl g ↦ cc | inr g ↦ cc ]);
       file_line = λ f. absurd cc;
       never_usage = λ f. cc;

@@ -1,67 +1,108 @@
--- From what was done for a program to what was done for the contents that are its text.
+-- From what was done for what the contents say to what was done for the contents.
 use Rattle.std.proofs.Common.{◌≡◌, ℕ, ◌⊎◌, inl, inr, List, refl, subst, Option, Some, Result, Ok, Err}
 use Rattle.loft_base.specs.declared.writing.WriteError.{WriteError}
 use Rattle.loft_base.specs.declared.writing.WriteError.TheVariants as write
-use Rattle.loft_tree.specs.Source.{Source}
 use Rattle.loft_app.specs.declared.refusal.Refusal.{Refusal}
 use Rattle.loft_app.specs.declared.refusal.Refusal.TheVariants as refusal
 use Rattle.loft_app.specs.declared.refusal.Stopped.{Stopped}
 use Rattle.loft_app.specs.declared.refusal.Stopped.TheVariants as stopped
-use Rattle.loft_words.specs.Command.{Command}
+use Rattle.loft_sense.specs.declared.limits.RunOptions.{RunOptions}
+use Rattle.loft_words.specs.Command.{Command, Run, Exec, Show, Check, Compile}
+use Rattle.loft_app.specs.Input.{Input, ASource, AListing}
 use Rattle.loft_app.specs.Written.{Appends, IsPrefix}
 use Rattle.loft_app.specs.declared.run_code.RunError.{RunError}
 use Rattle.loft_app.specs.declared.run_code.RunError.TheVariants as run
 use Rattle.loft_app.specs.Stops.{stop_of_write, stop_of_run}
 use Rattle.loft_app.specs.Refusals.{IsTextOf, IsRefusedFor, IsCause, Asks, Takes}
 use Rattle.loft_app.specs.Promise.{IsAnswerFor, IsAnswer}
-use Rattle.loft_app.specs.Found.{IsFault}
+use Rattle.loft_app.specs.Found.{IsFault, IsUnlisted}
 use Rattle.loft_app.specs.Answer.{Does, Attempts}
 use Rattle.loft_app.proofs.Written.{not_begun, part_of, whole_of}
 
--- what a program is refused for, its text is refused for
-cause_of : (contents : List ℕ) (p : Source) (r : Refusal) → IsTextOf contents p → IsRefusedFor p r → IsCause contents r
-cause_of contents p (refusal.Text e) text refused = absurd refused
-cause_of contents p (refusal.Names e) text refused = (p, text, refused)
-cause_of contents p (refusal.Links e schedulers) text refused = (p, text, refused)
+-- what is read is refused for, its text is refused for
+cause_of : (contents : List ℕ) (x : Input) (r : Refusal) → IsTextOf contents x → IsRefusedFor x r → IsCause contents r
+cause_of contents (ASource p) (refusal.Text e) text refused = absurd refused
+cause_of contents (ASource p) (refusal.Names e) text refused = (ASource p, text, refused)
+cause_of contents (ASource p) (refusal.Links e schedulers) text refused = (ASource p, text, refused)
+cause_of contents (ASource p) (refusal.Listing e) text refused = absurd refused
+cause_of contents (ASource p) (refusal.Code e modules) text refused = absurd refused
+cause_of contents (AListing c) (refusal.Text e) text refused = absurd refused
+cause_of contents (AListing c) (refusal.Names e) text refused = absurd refused
+cause_of contents (AListing c) (refusal.Links e schedulers) text refused = absurd refused
+cause_of contents (AListing c) (refusal.Listing e) text refused = absurd refused
+cause_of contents (AListing c) (refusal.Code e modules) text refused = (AListing c, text, refused)
 
-pub does_attempts : {c : Command} {p : Source} {known : Option (List ℕ)} {result : Result (Unit {0}) Stopped} {old new : Option (List ℕ)}
-    → ((contents : List ℕ) → known ≡ Some contents → IsTextOf contents p) → Does c p result old new → Attempts c known result old new
-does_attempts {c = c} {p = p} {result = result} text does = record {
-  takes = λ contents k ok. (p, text contents k, does.takes ok);
-  written = λ contents k ok. whole_of (IsAnswerFor c p) (IsAnswer c contents) (λ answer holds. (p, text contents k, holds)) (does.written ok);
-  refused = λ contents r k e. ((does.refused r e).0, cause_of contents p r (text contents k) (does.refused r e).1);
+pub does_attempts : {c : Command} {x : Input} {known : Option (List ℕ)} {result : Result (Unit {0}) Stopped} {old new : Option (List ℕ)}
+    → ((contents : List ℕ) → known ≡ Some contents → IsTextOf contents x) → Does c x result old new → Attempts c known result old new
+does_attempts {c = c} {x = x} {result = result} text does = record {
+  takes = λ contents k ok. (x, text contents k, does.takes ok);
+  written = λ contents k ok. whole_of (IsAnswerFor c x) (IsAnswer c contents) (λ answer holds. (x, text contents k, holds)) (does.written ok);
+  refused = λ contents r k e. ((does.refused r e).0, cause_of contents x r (text contents k) (does.refused r e).1);
   silent = does.silent;
   no_file = λ e. absurd (does.no_file e);
-  cut = λ contents k e. part_of (IsAnswerFor c p) (IsAnswer c contents) (λ answer holds. (p, text contents k, holds)) (does.cut e);
+  cut = λ contents k e. part_of (IsAnswerFor c x) (IsAnswer c contents) (λ answer holds. (x, text contents k, holds)) (does.cut e);
 }
 
-asks_text : (c : Command) (contents : List ℕ) (r : Refusal) → IsFault contents (stopped.Refused r) → Asks c r × IsCause contents r
-asks_text c contents (refusal.Text e) fault = (tt, fault)
-asks_text c contents (refusal.Names e) fault = absurd fault
-asks_text c contents (refusal.Links e schedulers) fault = absurd fault
-
--- there is no program in the file, and nothing was written
-pub unread_attempts : (c : Command) (known : Option (List ℕ)) (e : Stopped) (old : Option (List ℕ))
-    → ((contents : List ℕ) → known ≡ Some contents → IsFault contents e) → Attempts c known (Err e) old old
-unread_attempts c known e old fault = record {
+-- what stops a command before anything is written
+stopped_attempts : (c : Command) (known : Option (List ℕ)) (e : Stopped) (old : Option (List ℕ))
+    → ((contents : List ℕ) (r : Refusal) → known ≡ Some contents → e ≡ stopped.Refused r → Asks c r × IsCause contents r) → Attempts c known (Err e) old old
+stopped_attempts c known e old cause = record {
   takes = λ contents k ok. absurd cc;
   written = λ contents k ok. absurd cc;
-  refused = λ contents r k is. asks_text c contents r (at (Err e) refl (stopped.Refused r) is contents k);
+  refused = λ contents r k is. cause contents r k (at (Err e) refl (stopped.Refused r) is);
   silent = λ r is. refl;
   no_file = λ is. refl;
   cut = λ contents k is. not_begun (IsAnswer c contents) refl;
 }
   where
-    at : (r : Result (Unit {0}) Stopped) → r ≡ Err e → (s : Stopped) → r ≡ Err s → (contents : List ℕ) → known ≡ Some contents → IsFault contents s
-    at r is s also contents k = let same : e ≡ s = cc (is, also) in subst (IsFault contents) same (fault contents k)
+    at : (r : Result (Unit {0}) Stopped) → r ≡ Err e → (s : Stopped) → r ≡ Err s → e ≡ s
+    at r is s also = cc (is, also)
+
+-- a command that takes sources
+abbrev pub TakesSources : Command → Type 0
+TakesSources (Run file o) = Unit {0}
+TakesSources (Exec file o) = ⊥
+TakesSources (Show file) = Unit {0}
+TakesSources (Check file) = Unit {0}
+TakesSources (Compile file) = Unit {0}
+
+asks_text : (c : Command) (contents : List ℕ) (r : Refusal) → TakesSources c → IsFault contents (stopped.Refused r) → Asks c r × IsCause contents r
+asks_text (Run file o) contents (refusal.Text e) is fault = (tt, fault)
+asks_text (Exec file o) contents (refusal.Text e) is fault = absurd is
+asks_text (Show file) contents (refusal.Text e) is fault = (tt, fault)
+asks_text (Check file) contents (refusal.Text e) is fault = (tt, fault)
+asks_text (Compile file) contents (refusal.Text e) is fault = (tt, fault)
+asks_text c contents (refusal.Names e) is fault = absurd fault
+asks_text c contents (refusal.Links e schedulers) is fault = absurd fault
+asks_text c contents (refusal.Listing e) is fault = absurd fault
+asks_text c contents (refusal.Code e modules) is fault = absurd fault
+
+-- there is no program in the file, and nothing was written
+pub unread_attempts : (c : Command) (known : Option (List ℕ)) (e : Stopped) (old : Option (List ℕ)) → TakesSources c
+    → ((contents : List ℕ) → known ≡ Some contents → IsFault contents e) → Attempts c known (Err e) old old
+unread_attempts c known e old is fault = stopped_attempts c known e old
+    (λ contents r k same. asks_text c contents r is (subst (IsFault contents) same (fault contents k)))
+
+asks_code : (file : List ℕ) (o : RunOptions) (contents : List ℕ) (r : Refusal) → IsUnlisted contents (stopped.Refused r) → Asks (Exec file o) r × IsCause contents r
+asks_code file o contents (refusal.Text e) fault = absurd fault
+asks_code file o contents (refusal.Names e) fault = absurd fault
+asks_code file o contents (refusal.Links e schedulers) fault = absurd fault
+asks_code file o contents (refusal.Listing e) fault = (tt, fault)
+asks_code file o contents (refusal.Code e modules) (c, text, invalid) = (tt, (AListing c, text, invalid))
+
+-- there is no valid listing in it
+pub unlisted_attempts : (file : List ℕ) (o : RunOptions) (known : Option (List ℕ)) (e : Stopped) (old : Option (List ℕ))
+    → ((contents : List ℕ) → known ≡ Some contents → IsUnlisted contents e) → Attempts (Exec file o) known (Err e) old old
+unlisted_attempts file o known e old fault = stopped_attempts (Exec file o) known e old
+    (λ contents r k same. asks_code file o contents r (subst (IsUnlisted contents) same (fault contents k)))
 
 ok_is_no_stop : {P : Type 0} (result : Result (Unit {0}) Stopped) → result ≡ Ok tt → result ≡ Err stopped.SinkFault ⊎ result ≡ Err stopped.NoMemory → P
 ok_is_no_stop result is (inl e) = absurd cc
 ok_is_no_stop result is (inr e) = absurd cc
 
 -- the answer was written
-pub done_does : {c : Command} {p : Source} {result : Result (Unit {0}) Stopped} {old new : Option (List ℕ)}
-    → result ≡ Ok tt → Takes c p → Appends old new (IsAnswerFor c p) → Does c p result old new
+pub done_does : {c : Command} {x : Input} {result : Result (Unit {0}) Stopped} {old new : Option (List ℕ)}
+    → result ≡ Ok tt → Takes c x → Appends old new (IsAnswerFor c x) → Does c x result old new
 done_does {result = result} is takes whole = record {
   takes = λ ok. takes;
   written = λ ok. whole;
@@ -72,8 +113,8 @@ done_does {result = result} is takes whole = record {
 }
 
 -- what was written of the answer breaks off
-pub failed_does : {c : Command} {p : Source} {result : Result (Unit {0}) Stopped} {old new : Option (List ℕ)}
-    → result ≡ Err stopped.SinkFault ⊎ result ≡ Err stopped.NoMemory → Appends old new (IsPrefix (IsAnswerFor c p)) → Does c p result old new
+pub failed_does : {c : Command} {x : Input} {result : Result (Unit {0}) Stopped} {old new : Option (List ℕ)}
+    → result ≡ Err stopped.SinkFault ⊎ result ≡ Err stopped.NoMemory → Appends old new (IsPrefix (IsAnswerFor c x)) → Does c x result old new
 failed_does (inl is) part = record {
   takes = λ ok. absurd cc;
   written = λ ok. absurd cc;

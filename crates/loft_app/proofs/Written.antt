@@ -3,9 +3,7 @@ use Rattle.std.proofs.Common.{◌≡◌, ℕ, List, [], ◌++◌, take, drop, in
 use Rattle.std.specs.Prelude.{OnOk, OnErr, IfSome}
 use Rattle.std.proofs.lemmas.List.{take-append-drop}
 use Rattle.loft_base.specs.Outside.{appended, GrowsByPrefix}
-use Rattle.loft_sense.specs.declared.limits.RunOptions.{RunOptions}
-use Rattle.loft_words.specs.Command.{Command, Run, Show, Check, Compile}
-use Rattle.loft_words.specs.Ranges.{AreInRange, KeepsRanges}
+use Rattle.loft_words.specs.Command.{Command}
 use Rattle.loft_app.specs.Written.{Appends, IsPrefix}
 
 pub if_some : {A : Type 0} (P : A → Type 0) (o : Option A) (x : A) → IfSome o P → o ≡ Some x → P x
@@ -58,11 +56,3 @@ same_command p q = cc
 -- what holds of the command that was found holds of each that the words are
 pub of_command : {o : Option Command} {a b : Command} (Q : Command → Type 0) → Some a ≡ o → o ≡ Some b → Q a → Q b
 of_command Q p q holds = subst Q (same_command p q) holds
-
--- the numbers of the command that was found have their ranges
-pub keeps_ranges : {o : Option Command} (c : Command) → Some c ≡ o
-    → ((file : List ℕ) (options : RunOptions) → o ≡ Some (Run file options) → AreInRange options) → KeepsRanges c
-keeps_ranges (Run file options) is ranges = ranges file options (sym is)
-keeps_ranges (Show file) is ranges = tt
-keeps_ranges (Check file) is ranges = tt
-keeps_ranges (Compile file) is ranges = tt

@@ -1,7 +1,7 @@
 -- What a command does, and what it promises of its answer.
 use Rattle.std.specs.Prelude.{◌≡◌, ◌≢◌, ℕ, ◌⊎◌, List, codes, Option, Some, Result, Ok, Err}
 use Rattle.loft_base.specs.Outside.{Rose}
-use Rattle.loft_tree.specs.Source.{Source}
+use Rattle.loft_app.specs.Input.{Input}
 use Rattle.loft_app.specs.declared.status.Status.{Status}
 use Rattle.loft_app.specs.declared.status.Status.TheVariants as status
 use Rattle.loft_app.specs.declared.refusal.Refusal.{Refusal}
@@ -13,18 +13,18 @@ use Rattle.loft_app.specs.Refusals.{IsTextOf, IsRefusedFor, IsCause, Asks, Refus
 use Rattle.loft_app.specs.Promise.{IsAnswerFor, IsAnswer}
 use Rattle.loft_app.specs.Status.{IsRefused, IsAccepted}
 
--- The command did this for a program; the sink tells of `old` before it and of `new` after it.
-pub record Does (c : Command) (p : Source) (result : Result (Unit {0}) Stopped) (old new : Option (List ℕ)) : Type 0 where
-  pub takes : result ≡ Ok tt → Takes c p
-  pub written : result ≡ Ok tt → Appends old new (IsAnswerFor c p)
-  pub refused : (r : Refusal) → result ≡ Err (stopped.Refused r) → Asks c r × IsRefusedFor p r
+-- The command did this for what was read; the sink tells of `old` before it and of `new` after it.
+pub record Does (c : Command) (x : Input) (result : Result (Unit {0}) Stopped) (old new : Option (List ℕ)) : Type 0 where
+  pub takes : result ≡ Ok tt → Takes c x
+  pub written : result ≡ Ok tt → Appends old new (IsAnswerFor c x)
+  pub refused : (r : Refusal) → result ≡ Err (stopped.Refused r) → Asks c r × IsRefusedFor x r
   pub silent : (r : Refusal) → result ≡ Err (stopped.Refused r) → new ≡ old
   pub no_file : result ≢ Err stopped.FileFault
-  pub cut : result ≡ Err stopped.SinkFault ⊎ result ≡ Err stopped.NoMemory → Appends old new (IsPrefix (IsAnswerFor c p))
+  pub cut : result ≡ Err stopped.SinkFault ⊎ result ≡ Err stopped.NoMemory → Appends old new (IsPrefix (IsAnswerFor c x))
 
 -- The same for the contents of its file, where these are known.
 pub record Attempts (c : Command) (known : Option (List ℕ)) (result : Result (Unit {0}) Stopped) (old new : Option (List ℕ)) : Type 0 where
-  pub takes : (contents : List ℕ) → known ≡ Some contents → result ≡ Ok tt → (p : Source) × IsTextOf contents p × Takes c p
+  pub takes : (contents : List ℕ) → known ≡ Some contents → result ≡ Ok tt → (x : Input) × IsTextOf contents x × Takes c x
   pub written : (contents : List ℕ) → known ≡ Some contents → result ≡ Ok tt → Appends old new (IsAnswer c contents)
   pub refused : (contents : List ℕ) (r : Refusal) → known ≡ Some contents → result ≡ Err (stopped.Refused r) → Asks c r × IsCause contents r
   pub silent : (r : Refusal) → result ≡ Err (stopped.Refused r) → new ≡ old
@@ -42,7 +42,7 @@ pub record Answers (c : Command) (known : Option (List ℕ)) (end : Status) (old
   pub done : (contents : List ℕ) → known ≡ Some contents → end ≡ status.Done → Appends old new (IsAnswer c contents)
   pub source : (contents : List ℕ) → known ≡ Some contents → end ≡ status.Source → Appends old new (IsRefusal c contents)
   pub refused : (contents line : List ℕ) → known ≡ Some contents → Refuses c contents line → IsRefused end
-  pub accepted : (contents : List ℕ) (p : Source) → known ≡ Some contents → IsTextOf contents p → Takes c p → IsAccepted end
+  pub accepted : (contents : List ℕ) (x : Input) → known ≡ Some contents → IsTextOf contents x → Takes c x → IsAccepted end
   pub prefix : (contents : List ℕ) → known ≡ Some contents → end ≡ status.SinkFault ⊎ end ≡ status.NoMemory → Appends old new (IsPrefix (IsText c contents before after))
   pub file_line : end ≡ status.FileFault → Appends old new (IsLine (codes "files: fault"))
   pub never_usage : end ≢ status.Usage

@@ -1,4 +1,5 @@
 pub mod Written
+pub mod Input
 pub mod Refusals
 pub mod Stops
 pub mod Found

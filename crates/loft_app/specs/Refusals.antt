@@ -1,5 +1,5 @@
 -- Why contents are refused, and the line that says so (docs/COMMANDS.md, "Fault lines").
-use Rattle.std.specs.Prelude.{◌≡◌, ℕ, ◌<◌, ◌≤◌, ◌⊎◌, List, [], ◌++◌, length, codes, slice_get, unwrap_or}
+use Rattle.std.specs.Prelude.{◌≡◌, ℕ, ◌<◌, ◌≤◌, ◌⊎◌, List, [], ◌++◌, length, map, codes, slice_get, unwrap_or}
 use Rattle.std.specs.Fmt.{decimal}
 use Rattle.loft_lex.specs.declared.TheConstants.{MAX_TEXT_LEN}
 use Rattle.loft_lex.specs.declared.token.LexError.{LexError}
@@ -7,6 +7,7 @@ use Rattle.loft_lex.specs.declared.token.LexError.TheVariants as lexical
 use Rattle.loft_tree.specs.declared.heads.Place.{Place}
 use Rattle.loft_tree.specs.declared.heads.Place.TheVariants as place
 use Rattle.loft_tree.specs.Source.{Source}
+use Rattle.loft_tree.specs.declared.heads.Heads.{Heads}
 use Rattle.loft_names.specs.declared.error.NameError.{NameError}
 use Rattle.loft_names.specs.declared.error.NameError.TheVariants as name
 use Rattle.loft_names.specs.Faults.{NameFault, NamesFit}
@@ -17,9 +18,19 @@ use Rattle.loft_place.specs.Links.{IsPlaced, PlaceFault}
 use Rattle.loft_parse.specs.declared.error.ParseError.{ParseError}
 use Rattle.loft_parse.specs.declared.error.ParseError.TheVariants.{Lex, Expected, TooDeep, TooMany, TooLong, NoMemory}
 use Rattle.loft_parse.specs.Source.{Reads, SourceFault}
+use Rattle.loft_code.specs.declared.error.OpAt.{OpAt}
+use Rattle.loft_code.specs.declared.error.CodeError.{CodeError}
+use Rattle.loft_code.specs.declared.error.CodeError.TheVariants as code
+use Rattle.loft_code.specs.Operations.{Automata}
+use Rattle.loft_code.specs.Valid.{Valid, CodeFault}
+use Rattle.loft_draft.specs.declared.draft.TheConstants.{MAX_LISTING_LEN}
+use Rattle.loft_reading.specs.declared.error.ListError.{ListError}
+use Rattle.loft_reading.specs.declared.error.ListError.TheVariants as list
+use Rattle.loft_reading.specs.Lists.{Lists, LineFault}
+use Rattle.loft_app.specs.Input.{Input, ASource, AListing}
 use Rattle.loft_app.specs.declared.refusal.Refusal.{Refusal}
 use Rattle.loft_app.specs.declared.refusal.Refusal.TheVariants as refusal
-use Rattle.loft_words.specs.Command.{Command, Run, Show, Check, Compile}
+use Rattle.loft_words.specs.Command.{Command, Run, Exec, Show, Check, Compile}
 use Rattle.loft_app.specs.Written.{IsLine}
 
 -- ---- lines
@@ -69,11 +80,33 @@ link_line names (links.LoopEnds at start end) = two_places names (codes "source:
 link_line names (links.ModuleEnds at declared end) = two_places names (codes "source: module at ") at (codes " declares ") declared (codes ", ends at ") end
 link_line names links.NoMemory = []
 
+-- the line of a fault of a listing's lines; out of memory has none
+abbrev pub listing_line : ListError → List ℕ
+listing_line (list.Line n) = codes "listing: line " ++ decimal n
+listing_line list.TooLong = codes "listing: too long"
+listing_line list.NoMemory = []
+
+-- an operation; the modules have these names
+abbrev pub operation_line : List (List ℕ) → OpAt → List ℕ
+operation_line names at = codes "listing: operation " ++ (decimal at.op ++ (codes " of " ++ unwrap_or (slice_get names at.«module».0) []))
+
+-- the line of an error of code; the modules have these names; out of memory has none
+abbrev pub code_line : List (List ℕ) → CodeError → List ℕ
+code_line names (code.JumpOut at) = operation_line names at
+code_line names (code.BadName at) = operation_line names at
+code_line names (code.BadStop at) = operation_line names at
+code_line names (code.BadPlace at) = operation_line names at
+code_line names (code.BadCount at) = operation_line names at
+code_line names (code.KindMismatch at) = operation_line names at
+code_line names code.NoMemory = []
+
 -- the line of a refusal
 abbrev pub line_of : Refusal → List ℕ
 line_of (refusal.Text e) = text_line e
 line_of (refusal.Names e) = name_line e
 line_of (refusal.Links e schedulers) = link_line schedulers e
+line_of (refusal.Listing e) = listing_line e
+line_of (refusal.Code e modules) = code_line modules e
 
 -- ---- causes
 
@@ -83,43 +116,97 @@ pub record Well (p : Source) : Type 0 where
   pub links : IsPlaced (numbered p)
 
 -- why a program is refused
-abbrev pub IsRefusedFor : Source → Refusal → Type 0
-IsRefusedFor p (refusal.Text e) = ⊥
-IsRefusedFor p (refusal.Names e) = NameFault p e
-IsRefusedFor p (refusal.Links e schedulers) = NamesFit p × PlaceFault (numbered p) e × (schedulers ≡ (numbered p).heads.schedulers)
+abbrev pub IsUnwell : Source → Refusal → Type 0
+IsUnwell p (refusal.Text e) = ⊥
+IsUnwell p (refusal.Names e) = NameFault p e
+IsUnwell p (refusal.Links e schedulers) = NamesFit p × PlaceFault (numbered p) e × (schedulers ≡ (numbered p).heads.schedulers)
+IsUnwell p (refusal.Listing e) = ⊥
+IsUnwell p (refusal.Code e modules) = ⊥
+
+abbrev pub module_names : Heads → List (List ℕ)
+module_names h = map (λ m. m.name) h.modules
+
+-- why code is refused
+abbrev pub IsInvalid : Automata → Refusal → Type 0
+IsInvalid c (refusal.Text e) = ⊥
+IsInvalid c (refusal.Names e) = ⊥
+IsInvalid c (refusal.Links e schedulers) = ⊥
+IsInvalid c (refusal.Listing e) = ⊥
+IsInvalid c (refusal.Code e modules) = CodeFault c e × (modules ≡ module_names c.heads)
+
+-- why a program or code is refused
+abbrev pub IsRefusedFor : Input → Refusal → Type 0
+IsRefusedFor (ASource p) r = IsUnwell p r
+IsRefusedFor (AListing c) r = IsInvalid c r
 
 -- the fault of the contents: they are too long, or else the fault of their text
 abbrev pub ContentsFault : List ℕ → ParseError → Type 0
 ContentsFault contents e = ((MAX_TEXT_LEN < length contents) × (e ≡ TooLong)) ⊎ ((length contents ≤ MAX_TEXT_LEN) × SourceFault contents e)
 
+-- the same of contents that are to be a listing: they are too long, or a line is wrong
+abbrev pub ListingFault : List ℕ → ListError → Type 0
+ListingFault contents e =
+    ((MAX_LISTING_LEN < length contents) × (e ≡ list.TooLong))
+    ⊎ ((n : ℕ) × (length contents ≤ MAX_LISTING_LEN) × LineFault contents n × (e ≡ list.Line n))
+
 -- the contents are the text of the program
-pub record IsTextOf (contents : List ℕ) (p : Source) : Type 0 where
+pub record IsSourceOf (contents : List ℕ) (p : Source) : Type 0 where
   pub short : length contents ≤ MAX_TEXT_LEN
   pub reads : Reads contents p
 
--- the program whose text the contents are is refused for this
-abbrev pub ProgramRefused : List ℕ → Refusal → Type 0
-ProgramRefused contents r = (p : Source) × IsTextOf contents p × IsRefusedFor p r
+-- the contents are a listing of the code
+pub record IsListingOf (contents : List ℕ) (c : Automata) : Type 0 where
+  pub short : length contents ≤ MAX_LISTING_LEN
+  pub lists : Lists contents c
 
--- why contents are refused: they are the text of no program, or of one that is refused
+-- the contents say this
+abbrev pub IsTextOf : List ℕ → Input → Type 0
+IsTextOf contents (ASource p) = IsSourceOf contents p
+IsTextOf contents (AListing c) = IsListingOf contents c
+
+-- what the contents say is refused for this
+abbrev pub InputRefused : List ℕ → Refusal → Type 0
+InputRefused contents r = (x : Input) × IsTextOf contents x × IsRefusedFor x r
+
+-- why contents are refused: they say nothing of the kind, or what they say is refused
 abbrev pub IsCause : List ℕ → Refusal → Type 0
 IsCause contents (refusal.Text e) = ContentsFault contents e
-IsCause contents (refusal.Names e) = ProgramRefused contents (refusal.Names e)
-IsCause contents (refusal.Links e schedulers) = ProgramRefused contents (refusal.Links e schedulers)
+IsCause contents (refusal.Names e) = InputRefused contents (refusal.Names e)
+IsCause contents (refusal.Links e schedulers) = InputRefused contents (refusal.Links e schedulers)
+IsCause contents (refusal.Listing e) = ListingFault contents e
+IsCause contents (refusal.Code e modules) = InputRefused contents (refusal.Code e modules)
 
 -- ---- commands
 
--- what a command asks of a program: `show` nothing, the others its names and links
+-- what is asked of a source, of one whose names and links have to be correct, and of a listing
+abbrev pub asks_source : Refusal → Type 0
+asks_source (refusal.Text e) = Unit {0}
+asks_source (refusal.Names e) = ⊥
+asks_source (refusal.Links e schedulers) = ⊥
+asks_source (refusal.Listing e) = ⊥
+asks_source (refusal.Code e modules) = ⊥
+
+abbrev pub asks_well : Refusal → Type 0
+asks_well (refusal.Text e) = Unit {0}
+asks_well (refusal.Names e) = Unit {0}
+asks_well (refusal.Links e schedulers) = Unit {0}
+asks_well (refusal.Listing e) = ⊥
+asks_well (refusal.Code e modules) = ⊥
+
+abbrev pub asks_listing : Refusal → Type 0
+asks_listing (refusal.Text e) = ⊥
+asks_listing (refusal.Names e) = ⊥
+asks_listing (refusal.Links e schedulers) = ⊥
+asks_listing (refusal.Listing e) = Unit {0}
+asks_listing (refusal.Code e modules) = Unit {0}
+
+-- what a command asks for: `show` a source, `exec` a listing, the others a source whose names and links are correct
 abbrev pub Asks : Command → Refusal → Type 0
-Asks c (refusal.Text e) = Unit {0}
-Asks (Run file o) (refusal.Names e) = Unit {0}
-Asks (Show file) (refusal.Names e) = ⊥
-Asks (Check file) (refusal.Names e) = Unit {0}
-Asks (Compile file) (refusal.Names e) = Unit {0}
-Asks (Run file o) (refusal.Links e schedulers) = Unit {0}
-Asks (Show file) (refusal.Links e schedulers) = ⊥
-Asks (Check file) (refusal.Links e schedulers) = Unit {0}
-Asks (Compile file) (refusal.Links e schedulers) = Unit {0}
+Asks (Run file o) r = asks_well r
+Asks (Exec file o) r = asks_listing r
+Asks (Show file) r = asks_source r
+Asks (Check file) r = asks_well r
+Asks (Compile file) r = asks_well r
 
 -- a command refuses contents by this line
 abbrev pub Refuses : Command → List ℕ → List ℕ → Type 0
@@ -129,9 +216,24 @@ Refuses c contents line = (r : Refusal) × Asks c r × IsCause contents r × (li
 abbrev pub IsRefusal : Command → List ℕ → List ℕ → Type 0
 IsRefusal c contents text = (line : List ℕ) × Refuses c contents line × IsLine line text
 
--- the command can be done for a program: each can be shown, and well ones pass the check, are compiled and run
-abbrev pub Takes : Command → Source → Type 0
-Takes (Run file o) p = Well p
-Takes (Show file) p = Unit {0}
-Takes (Check file) p = Well p
-Takes (Compile file) p = Well p
+-- a source whose names and links are correct, any source, and a listing of valid code
+abbrev pub IsWellSource : Input → Type 0
+IsWellSource (ASource p) = Well p
+IsWellSource (AListing c) = ⊥
+
+abbrev pub IsAnySource : Input → Type 0
+IsAnySource (ASource p) = Unit {0}
+IsAnySource (AListing c) = ⊥
+
+abbrev pub IsValidListing : Input → Type 0
+IsValidListing (ASource p) = ⊥
+IsValidListing (AListing c) = Valid c
+
+-- the command can be done: each source can be shown, and well ones pass the check, are compiled and run; a listing of
+-- valid code is run
+abbrev pub Takes : Command → Input → Type 0
+Takes (Run file o) x = IsWellSource x
+Takes (Exec file o) x = IsValidListing x
+Takes (Show file) x = IsAnySource x
+Takes (Check file) x = IsWellSource x
+Takes (Compile file) x = IsWellSource x

@@ -7,9 +7,11 @@ use Rattle.loft_parse.specs.declared.error.ParseError.{ParseError}
 use Rattle.loft_parse.specs.declared.error.ParseError.TheVariants as text
 use Rattle.loft_names.specs.declared.error.NameError.{NameError}
 use Rattle.loft_names.specs.declared.error.NameError.TheVariants as name
+use Rattle.loft_reading.specs.declared.error.ListError.{ListError}
+use Rattle.loft_reading.specs.declared.error.ListError.TheVariants as list
 use Rattle.loft_app.specs.declared.run_code.RunError.{RunError}
 use Rattle.loft_app.specs.declared.run_code.RunError.TheVariants as run
-use Rattle.loft_app.specs.declared.refusal.Refusal.TheVariants.{Text, Names}
+use Rattle.loft_app.specs.declared.refusal.Refusal.TheVariants.{Text, Names, Listing}
 use Rattle.loft_app.specs.declared.refusal.Stopped.{Stopped}
 use Rattle.loft_app.specs.declared.refusal.Stopped.TheVariants.{Refused, FileFault, SinkFault, NoMemory}
 
@@ -33,6 +35,17 @@ stop_of_names (name.Twice at first) = Refused (Names (name.Twice at first))
 stop_of_names (name.Arity at) = Refused (Names (name.Arity at))
 stop_of_names (name.Kind at) = Refused (Names (name.Kind at))
 stop_of_names name.NoMemory = NoMemory
+
+abbrev pub stop_of_list : ListError → Stopped
+stop_of_list (list.Line n) = Refused (Listing (list.Line n))
+stop_of_list list.TooLong = Refused (Listing list.TooLong)
+stop_of_list list.NoMemory = NoMemory
+
+-- of a file that is to be a listing
+abbrev pub stop_of_listing_file : FileError → Stopped
+stop_of_listing_file file.Failed = FileFault
+stop_of_listing_file file.TooLong = Refused (Listing list.TooLong)
+stop_of_listing_file file.NoMemory = NoMemory
 
 abbrev pub stop_of_write : WriteError → Stopped
 stop_of_write write.Sink = SinkFault

@@ -2,7 +2,7 @@
 
 ghost use Rattle.std.specs.Prelude.{◌≡◌, ◌≢◌, ◌<◌, ◌≤◌, ◌⊎◌, ◌++◌, ◌∷◌, [], ℕ, List, length, IsTrue, IsSome, Some, None, codes, IsErrOf, Err};
 ghost use Rattle.loft_base.specs.Outside.{Rose, appended, GrowsByPrefix};
-ghost use Rattle.loft_tree.specs.Source.{Source as SourceTree};
+ghost use Rattle.loft_app.specs.Input.{Input};
 ghost use Rattle.loft_words.specs.Command.{Command as PlainCommand, command, file_of};
 ghost use Rattle.loft_words.specs.Ranges.{KeepsRanges};
 ghost use Rattle.loft_words.specs.Words.{words_of};
@@ -13,14 +13,17 @@ ghost use Rattle.loft_app.specs.Promise.{IsAnswer};
 ghost use Rattle.loft_app.specs.Status.{IsRefused, IsAccepted};
 ghost use Rattle.loft_app.specs.Answer.{IsText, Attempts, Answers};
 
-use crate::command::{check, list_code, run, show_text};
+use crate::command::{check, exec, list_code, run, show_text};
+use crate::listing::read_code;
 use crate::refusal::{Refusal, Stopped};
 use crate::source::read_program;
 use crate::status::Status;
 use loft_base::{Files, Gate, Sink};
+use loft_code::code_is_decided;
 use loft_names::names_are_decided;
 use loft_parse::texts_are_decided;
 use loft_place::links_are_decided;
+use loft_roundtrip::texts_have_one_answer;
 use loft_words::{Command, read_words};
 use std::alloc::Global;
 use std::sync::Wait;
@@ -59,7 +62,7 @@ fn refuse<S: Sink>(alloc: Global, sink: &mut S, refusal: &Refusal) -> Status
     }
 }
 
-/// Does what a command says with the program in its file.
+/// Does what a command says with the source or the listing in its file.
 fn attempt<R: Threads + Wait + Sync, F: Files, S: Sink, G: Gate>(
     rt: &R,
     alloc: Global,
@@ -77,12 +80,27 @@ fn attempt<R: Threads + Wait + Sync, F: Files, S: Sink, G: Gate>(
     ensures sink_fault { IsErrOf result Stopped.SinkFault → Rose (S.faults sink.old) (S.faults sink.new) }
     ensures never_falls { S.faults sink.old ≤ S.faults sink.new }
 {
-    let program = read_program(alloc, files, command.file())?;
     match command {
-        Command::Run { options, .. } => run(rt, alloc, program, &options, sink, gate),
-        Command::Show(_) => show_text(alloc, &program, sink),
-        Command::Check(_) => check(alloc, program, sink),
-        Command::Compile(_) => list_code(alloc, program, sink),
+        Command::Run { file, options } => {
+            let program = read_program(alloc, files, file)?;
+            run(rt, alloc, program, &options, sink, gate)
+        }
+        Command::Exec { file, options } => {
+            let code = read_code(alloc, files, file)?;
+            exec(rt, alloc, &code, &options, sink, gate)
+        }
+        Command::Show(file) => {
+            let program = read_program(alloc, files, file)?;
+            show_text(alloc, &program, sink)
+        }
+        Command::Check(file) => {
+            let program = read_program(alloc, files, file)?;
+            check(alloc, program, sink)
+        }
+        Command::Compile(file) => {
+            let program = read_program(alloc, files, file)?;
+            list_code(alloc, program, sink)
+        }
     }
 }
 
@@ -106,6 +124,8 @@ fn answer<R: Threads + Wait + Sync, F: Files, S: Sink, G: Gate>(
     texts_are_decided();
     names_are_decided();
     links_are_decided();
+    texts_have_one_answer();
+    code_is_decided();
     match attempt(rt, alloc, command, files, sink, gate) {
         Ok(()) => Status::Done,
         Err(Stopped::Refused(refusal)) => refuse(alloc, sink, &refusal),
@@ -128,7 +148,7 @@ pub fn loft_main<R: Threads + Wait + Sync, F: Files, S: Sink, G: Gate>(
     requires { (c : PlainCommand) → command (words_of words.now) ≡ Some c
         → IsTrue (F.may_ask files.old (file_of c)) }
 
-    // The promise of each command: the report of a run, the canonical text, `ok`, the listing.
+    // The promise of each command: the report of a run of a source or a listing, the canonical text, `ok`, the listing.
     ensures done { (c : PlainCommand) (contents : List ℕ) → command (words_of words.now) ≡ Some c
         → F.contents files.old (file_of c) ≡ Some contents → result ≡ Status.Done
         → Appends (S.written sink.old) (S.written sink.new) (IsAnswer c contents) }
@@ -149,9 +169,9 @@ pub fn loft_main<R: Threads + Wait + Sync, F: Files, S: Sink, G: Gate>(
     ensures refused { (c : PlainCommand) (contents line : List ℕ) → command (words_of words.now) ≡ Some c
         → F.contents files.old (file_of c) ≡ Some contents → Refuses c contents line
         → IsRefused result }
-    ensures accepted { (c : PlainCommand) (contents : List ℕ) (p : SourceTree)
+    ensures accepted { (c : PlainCommand) (contents : List ℕ) (x : Input)
         → command (words_of words.now) ≡ Some c → F.contents files.old (file_of c) ≡ Some contents
-        → IsTextOf contents p → Takes c p → IsAccepted result }
+        → IsTextOf contents x → Takes c x → IsAccepted result }
     ensures never_log { result ≢ Status.Log }
 
     // Where the sink fails or the program is out of memory, a prefix of what is to be written stands there.

@@ -1,14 +1,16 @@
-//! What each command does with a program.
+//! What each command does with what it read.
 
 ghost use Rattle.std.specs.Prelude.{◌≤◌, ℕ, List, IsErrOf, OnOk, OnErr};
 ghost use Rattle.loft_base.specs.Outside.{Rose};
 ghost use Rattle.loft_tree.specs.Resolved.{resolved_of};
 ghost use Rattle.loft_tree.specs.ProgramView.{program_of};
 ghost use Rattle.loft_tree.specs.View.{source_of};
+ghost use Rattle.loft_code.specs.View.{automata_of};
 ghost use Rattle.loft_sense.specs.Machine.{Tree};
-ghost use Rattle.loft_words.specs.Command.{Run, Show, Check, Compile};
+ghost use Rattle.loft_words.specs.Command.{Run, Exec, Show, Check, Compile};
 ghost use Rattle.loft_words.specs.Ranges.{AreInRange};
 ghost use Rattle.loft_app.specs.Written.{Appends, IsPrefix};
+ghost use Rattle.loft_app.specs.Input.{ASource, AListing};
 ghost use Rattle.loft_app.specs.Promise.{IsReport};
 ghost use Rattle.loft_app.specs.Answer.{Does};
 
@@ -16,6 +18,7 @@ use crate::refusal::Stopped;
 use crate::run_code::{RunError, run_code};
 use crate::source::placed;
 use loft_base::{Gate, Sink, write_lines};
+use loft_code::Code;
 use loft_compile::{compile, compiled_code_has_the_same_histories};
 use loft_listing::write as write_listing;
 use loft_place::Placed;
@@ -67,7 +70,7 @@ pub fn run<R: Threads + Wait + Sync, S: Sink, G: Gate>(
     gate: &G,
 ) -> Result<(), Stopped>
     requires range { AreInRange options.now }
-    ensures does { (file : List ℕ) → Does (Run file options.now) (source_of program) result
+    ensures does { (file : List ℕ) → Does (Run file options.now) (ASource (source_of program)) result
         (S.written sink.old) (S.written sink.new) }
     ensures sink_fault { IsErrOf result Stopped.SinkFault → Rose (S.faults sink.old) (S.faults sink.new) }
     ensures never_falls { S.faults sink.old ≤ S.faults sink.new }
@@ -77,9 +80,29 @@ pub fn run<R: Threads + Wait + Sync, S: Sink, G: Gate>(
     Ok(())
 }
 
+/// `exec`: the report of a run of valid code with these options.
+pub fn exec<R: Threads + Wait + Sync, S: Sink, G: Gate>(
+    rt: &R,
+    alloc: Global,
+    code: &Code,
+    options: &RunOptions,
+    sink: &mut S,
+    gate: &G,
+) -> Result<(), Stopped>
+    requires range { AreInRange options.now }
+    ensures does { (file : List ℕ) → Does (Exec file options.now) (AListing (automata_of code.now)) result
+        (S.written sink.old) (S.written sink.new) }
+    ensures sink_fault { IsErrOf result Stopped.SinkFault → Rose (S.faults sink.old) (S.faults sink.new) }
+    ensures never_falls { S.faults sink.old ≤ S.faults sink.new }
+{
+    code.program();
+    run_code(rt, alloc, code, options.limits, options.workers, sink, gate)?;
+    Ok(())
+}
+
 /// `check`: `ok`, where names and links are correct.
 pub fn check<S: Sink>(alloc: Global, program: Program, sink: &mut S) -> Result<(), Stopped>
-    ensures does { (file : List ℕ) → Does (Check file) (source_of program) result
+    ensures does { (file : List ℕ) → Does (Check file) (ASource (source_of program)) result
         (S.written sink.old) (S.written sink.new) }
     ensures sink_fault { IsErrOf result Stopped.SinkFault → Rose (S.faults sink.old) (S.faults sink.new) }
     ensures never_falls { S.faults sink.old ≤ S.faults sink.new }
@@ -91,7 +114,7 @@ pub fn check<S: Sink>(alloc: Global, program: Program, sink: &mut S) -> Result<(
 
 /// `compile`: the listing of the program's code, where names and links are correct.
 pub fn list_code<S: Sink>(alloc: Global, program: Program, sink: &mut S) -> Result<(), Stopped>
-    ensures does { (file : List ℕ) → Does (Compile file) (source_of program) result
+    ensures does { (file : List ℕ) → Does (Compile file) (ASource (source_of program)) result
         (S.written sink.old) (S.written sink.new) }
     ensures sink_fault { IsErrOf result Stopped.SinkFault → Rose (S.faults sink.old) (S.faults sink.new) }
     ensures never_falls { S.faults sink.old ≤ S.faults sink.new }
@@ -105,7 +128,7 @@ pub fn list_code<S: Sink>(alloc: Global, program: Program, sink: &mut S) -> Resu
 
 /// `show`: the canonical text.
 pub fn show_text<S: Sink>(alloc: Global, program: &Program, sink: &mut S) -> Result<(), Stopped>
-    ensures does { (file : List ℕ) → Does (Show file) (source_of program.now) result
+    ensures does { (file : List ℕ) → Does (Show file) (ASource (source_of program.now)) result
         (S.written sink.old) (S.written sink.new) }
     ensures sink_fault { IsErrOf result Stopped.SinkFault → Rose (S.faults sink.old) (S.faults sink.new) }
     ensures never_falls { S.faults sink.old ≤ S.faults sink.new }

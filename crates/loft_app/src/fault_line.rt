@@ -1,15 +1,17 @@
 //! The line of a refusal (docs/COMMANDS.md, "Fault lines").
 
-ghost use Rattle.std.specs.Prelude.{◌≡◌, [], ◌∷◌, ◌++◌, IfOk, string_bytes};
+ghost use Rattle.std.specs.Prelude.{◌≡◌, [], ◌∷◌, ◌++◌, IfOk, slice_get, string_bytes, unwrap_or};
 ghost use Rattle.std.specs.Fmt.{decimal};
-ghost use Rattle.loft_app.specs.Refusals.{lexical_line, text_line, name_line, place_text, two_places, link_line, line_of};
+ghost use Rattle.loft_app.specs.Refusals.{lexical_line, text_line, name_line, place_text, two_places, link_line, listing_line, operation_line, code_line, line_of};
 
 use crate::refusal::Refusal;
-use loft_base::NoMemory;
+use loft_base::{ModuleId, NoMemory};
+use loft_code::{CodeError, OpAt};
 use loft_lex::LexError;
 use loft_names::NameError;
 use loft_parse::ParseError;
 use loft_place::PlaceError;
+use loft_reading::ListError;
 use loft_tree::{Names, Place};
 use std::alloc::Global;
 
@@ -162,6 +164,55 @@ fn link_line(alloc: Global, schedulers: &Names, fault: &PlaceError) -> Result<Ve
     two_places(alloc, schedulers, what, *at, first, second)
 }
 
+/// The line of a fault of a listing's lines, with its line feed. `NoMemory` where it is out of memory, or the fault is
+/// that.
+fn listing_line(alloc: Global, fault: &ListError) -> Result<String, NoMemory>
+    ensures { IfOk result (λ line. string_bytes line ≡ listing_line fault.now ++ 10 ∷ []) }
+{
+    let line = match fault {
+        ListError::Line(number) => format!(in alloc; "listing: line {number}\n"),
+        ListError::TooLong => String::from_str(alloc, "listing: too long\n"),
+        ListError::NoMemory => return Err(NoMemory),
+    };
+    Ok(line?)
+}
+
+/// The name of the module with this number.
+fn module_name(modules: &Names, module: ModuleId) -> &[u8]
+    ensures { result.now ≡ unwrap_or (slice_get modules.now «module».0) [] }
+{
+    match modules.as_slice().get(module.0 as usize) {
+        Some(name) => name.as_slice(),
+        None => b"",
+    }
+}
+
+/// The line of an operation that is refused, with its line feed.
+fn operation_line(alloc: Global, modules: &Names, at: OpAt) -> Result<Vec<u8>, NoMemory>
+    ensures { IfOk result (λ line. line.items ≡ operation_line modules.now at ++ 10 ∷ []) }
+{
+    let mut line = format!(in alloc; "listing: operation {}", at.op)?.into_bytes();
+    line.extend_from_slice(b" of ")?;
+    line.extend_from_slice(module_name(modules, at.module))?;
+    line.push(b'\n')?;
+    Ok(line)
+}
+
+/// The line of an error of code, with its line feed. `NoMemory` where it is out of memory, or the error is that.
+fn code_line(alloc: Global, modules: &Names, fault: &CodeError) -> Result<Vec<u8>, NoMemory>
+    ensures { IfOk result (λ line. line.items ≡ code_line modules.now fault.now ++ 10 ∷ []) }
+{
+    match fault {
+        CodeError::JumpOut(at)
+        | CodeError::BadName(at)
+        | CodeError::BadStop(at)
+        | CodeError::BadPlace(at)
+        | CodeError::BadCount(at)
+        | CodeError::KindMismatch(at) => operation_line(alloc, modules, *at),
+        CodeError::NoMemory => Err(NoMemory),
+    }
+}
+
 impl Refusal {
     /// The line of the refusal, with its line feed. `NoMemory` where it is out of memory, or the refusal is that.
     pub fn line(&self, alloc: Global) -> Result<Vec<u8>, NoMemory>
@@ -171,6 +222,8 @@ impl Refusal {
             Refusal::Text(fault) => Ok(text_line(alloc, fault)?.into_bytes()),
             Refusal::Names(fault) => Ok(name_line(alloc, fault)?.into_bytes()),
             Refusal::Links { fault, schedulers } => link_line(alloc, schedulers, fault),
+            Refusal::Listing(fault) => Ok(listing_line(alloc, fault)?.into_bytes()),
+            Refusal::Code { fault, modules } => code_line(alloc, modules, fault),
         }
     }
 }

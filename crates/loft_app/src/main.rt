@@ -4,6 +4,7 @@
 mod app;
 mod command;
 mod fault_line;
+mod listing;
 mod refusal;
 mod run_code;
 mod source;

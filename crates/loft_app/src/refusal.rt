@@ -1,14 +1,16 @@
-//! Why a source is refused, and what else stops a command.
+//! Why a source or a listing is refused, and what else stops a command.
 
 use crate::run_code::RunError;
 use loft_base::{Failed, FileError, NoMemory, WriteError};
+use loft_code::CodeError;
 use loft_names::NameError;
 use loft_parse::ParseError;
 use loft_place::PlaceError;
+use loft_reading::ListError;
 use loft_tree::Names;
 use std::alloc::AllocError;
 
-/// Why a source is refused.
+/// Why a source or a listing is refused.
 #[derive(Debug, Drop)]
 pub enum Refusal {
     /// It is the text of no program.
@@ -20,12 +22,19 @@ pub enum Refusal {
         fault: PlaceError,
         schedulers: Names,
     },
+    /// It is no listing.
+    Listing(ListError),
+    /// It is a listing of code that isn't valid; the modules' names by their numbers.
+    Code {
+        fault: CodeError,
+        modules: Names,
+    },
 }
 
 /// What stops a command before its answer is whole.
 #[derive(Debug, Drop)]
 pub enum Stopped {
-    /// The source is refused; nothing was written.
+    /// The source or listing is refused; nothing was written.
     Refused(Refusal),
     /// A file could not be read; nothing was written.
     FileFault,
@@ -136,6 +145,20 @@ impl From<NameError> for Stopped {
         match error {
             NameError::NoMemory => Stopped::NoMemory,
             fault => Stopped::Refused(Refusal::Names(fault)),
+        }
+    }
+}
+
+impl From<ListError> for Stopped {
+    ghost use Rattle.std.specs.Prelude.{◌≡◌};
+    ghost use Rattle.loft_app.specs.Stops.{stop_of_list};
+
+    ghost from_gives = { λ e stopped. stopped ≡ stop_of_list e };
+
+    fn from(error: ListError) -> Stopped {
+        match error {
+            ListError::NoMemory => Stopped::NoMemory,
+            fault => Stopped::Refused(Refusal::Listing(fault)),
         }
     }
 }

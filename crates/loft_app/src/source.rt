@@ -5,7 +5,7 @@ ghost use Rattle.loft_base.specs.Outside.{Rose};
 ghost use Rattle.loft_tree.specs.View.{source_of};
 ghost use Rattle.loft_tree.specs.ProgramView.{program_of};
 ghost use Rattle.loft_names.specs.Numbers.{numbered};
-ghost use Rattle.loft_app.specs.Refusals.{IsTextOf, Well};
+ghost use Rattle.loft_app.specs.Refusals.{IsSourceOf, Well};
 ghost use Rattle.loft_app.specs.Found.{IsFault, IsUnfit};
 
 use crate::refusal::{Refusal, Stopped};
@@ -21,7 +21,7 @@ use std::alloc::Global;
 pub fn read_program<F: Files>(alloc: Global, files: &mut F, name: &str) -> Result<Program, Stopped>
     requires { IsTrue (F.may_ask files.old name.now) }
     ensures program { (contents : List ℕ) → F.contents files.old name.now ≡ Some contents
-        → IfOk result (λ p. IsTextOf contents (source_of p)) }
+        → IfOk result (λ p. IsSourceOf contents (source_of p)) }
     ensures refused { (contents : List ℕ) → F.contents files.old name.now ≡ Some contents
         → IfErr result (IsFault contents) }
     ensures file_fault { IsErrOf result Stopped.FileFault → Rose (F.faults files.old) (F.faults files.new) }

@@ -138,3 +138,50 @@ fn runs_a_program(rt: HostRuntime) -> Result<(), Fail> {
     assert_eq!(rt; text.as_slice(), REPORT);
     Ok(())
 }
+
+/// A listing of one print.
+const LISTING: &[u8] = b"loft-listing 1
+scheduler A;
+module m() in A
+0 A 0 print \"one\";
+1 A 0 end
+end
+start A.m();
+";
+
+/// The report of a run of its code.
+const LISTING_REPORT: &[u8] = b"loft-report 1
+instants 1
+budget 10000
+block 1000000
+workers 2
+history 2
+take A
+give A
+scheduler A
+instant 1
+in create start.0 m()
+print start.0 one
+end start.0 done
+state 0
+left 0
+end
+";
+
+/// The report of a listing, within the bounds that the words give.
+#[test]
+fn runs_a_listing(rt: HostRuntime) -> Result<(), Fail> {
+    let (status, text) = answer(&rt, &["exec", "a", "--instants", "1"], LISTING)?;
+    assert_eq!(rt; status, 0);
+    assert_eq!(rt; text.as_slice(), LISTING_REPORT);
+    Ok(())
+}
+
+/// A listing is refused by the first line where none goes on so.
+#[test]
+fn refuses_a_listing(rt: HostRuntime) -> Result<(), Fail> {
+    let (status, text) = answer(&rt, &["exec", "a"], b"loft-listing 1\nevent e in A;\n")?;
+    assert_eq!(rt; status, 3);
+    assert_eq!(rt; text.as_slice(), b"listing: line 2\n".as_slice());
+    Ok(())
+}

@@ -10,8 +10,8 @@ use Rattle.loft_sense.specs.declared.limits.TheConstants.{MAX_INSTANTS, MAX_BUDG
 use Rattle.loft_words.specs.declared.defaults.TheConstants.{DEFAULT_INSTANTS, DEFAULT_BUDGET, DEFAULT_BLOCK, DEFAULT_WORKERS}
 use Rattle.loft_words.specs.Words.{is_number, number_in}
 use Rattle.loft_words.specs.Arguments.{Argument, arguments, plain_words, values, has_only}
-use Rattle.loft_words.specs.Command.{Run, Show, Check, Compile, only_file, number_of, options_from, run_names, run_options, run_of, file_alone, command_named, command}
-use Rattle.loft_words.specs.Ranges.{AreInRange}
+use Rattle.loft_words.specs.Command.{Command, Run, Exec, Show, Check, Compile, only_file, number_of, options_from, run_names, run_options, run_of, file_alone, command_named, command}
+use Rattle.loft_words.specs.Ranges.{AreInRange, KeepsRanges}
 
 number_in_range : (most n : ℕ) (word : List ℕ) → number_in most word ≡ Some n → (1 ≤ n) × (n ≤ most)
 number_in_range most n word is = go (is_number word) (nat_le 1 (digits_value 10 word)) (nat_le (digits_value 10 word) most) refl refl is
@@ -51,48 +51,44 @@ run_options_range given options is = options_range _ _ _ _ options
     (λ n e. number_of_range MAX_BLOCK DEFAULT_BLOCK n (values (codes "--block") given) (omega arith) (omega arith) e)
     (λ n e. number_of_range MAX_WORKERS DEFAULT_WORKERS n (values (codes "--workers") given) (omega arith) (omega arith) e) is
 
--- a run has the options that it was made of
-options_used : (name : Option (List ℕ)) (o : Option RunOptions) (file : List ℕ) (options : RunOptions)
-    → option_and_then (λ f. option_map (Run f) o) name ≡ Some (Run file options) → o ≡ Some options
-options_used None o file options is = absurd cc
-options_used (Some name) None file options is = absurd cc
-options_used (Some name) (Some used) file options is = cc
+-- what there is keeps its ranges
+abbrev Keeps : Option Command → Type 0
+Keeps None = Unit {0}
+Keeps (Some c) = KeepsRanges c
 
-run_range : (given : List Argument) (file : List ℕ) (options : RunOptions) → run_of given ≡ Some (Run file options) → AreInRange options
-run_range given file options is = go (has_only run_names given) is
+run_keeps : (make : List ℕ → RunOptions → Command) → ((file : List ℕ) (o : RunOptions) → AreInRange o → KeepsRanges (make file o))
+    → (given : List Argument) → Keeps (run_of make given)
+run_keeps make made given = go (has_only run_names given) (only_file (plain_words given)) (run_options given) refl
   where
-    go : (b : Bool) → (if b then option_and_then (λ f. option_map (Run f) (run_options given)) (only_file (plain_words given)) else None) ≡ Some (Run file options) → AreInRange options
-    go true is = run_options_range given options (options_used (only_file (plain_words given)) (run_options given) file options is)
-    go false is = absurd cc
+    go : (b : Bool) (file : Option (List ℕ)) (o : Option RunOptions) → run_options given ≡ o → Keeps (if b then option_and_then (λ f. option_map (make f) o) file else None)
+    go false file o is = tt
+    go true None o is = tt
+    go true (Some f) None is = tt
+    go true (Some f) (Some o) is = made f o (run_options_range given o is)
 
-no_show : (o : Option (List ℕ)) (file : List ℕ) (options : RunOptions) → option_map Show o ≡ Some (Run file options) → ⊥
-no_show None file options is = absurd cc
-no_show (Some name) file options is = absurd cc
+file_keeps : (make : List ℕ → Command) → ((file : List ℕ) → KeepsRanges (make file)) → (o : Option (List ℕ)) → Keeps (option_map make o)
+file_keeps make made None = tt
+file_keeps make made (Some file) = made file
 
-no_check : (o : Option (List ℕ)) (file : List ℕ) (options : RunOptions) → option_map Check o ≡ Some (Run file options) → ⊥
-no_check None file options is = absurd cc
-no_check (Some name) file options is = absurd cc
-
-no_compile : (o : Option (List ℕ)) (file : List ℕ) (options : RunOptions) → option_map Compile o ≡ Some (Run file options) → ⊥
-no_compile None file options is = absurd cc
-no_compile (Some name) file options is = absurd cc
-
-command_named_range : (word : List ℕ) (given : List Argument) (file : List ℕ) (options : RunOptions) → command_named word given ≡ Some (Run file options) → AreInRange options
-command_named_range word given file options is = go (bytes_eq word (codes "run")) (bytes_eq word (codes "show")) (bytes_eq word (codes "check")) (bytes_eq word (codes "compile")) is
+named_keeps : (word : List ℕ) (given : List Argument) → Keeps (command_named word given)
+named_keeps word given = go (bytes_eq word (codes "run")) (bytes_eq word (codes "exec")) (bytes_eq word (codes "show")) (bytes_eq word (codes "check")) (bytes_eq word (codes "compile"))
   where
-    go : (a b c d : Bool) → (if a then run_of given else (if b then option_map Show (file_alone given) else (if c then option_map Check (file_alone given) else (if d then option_map Compile (file_alone given) else None)))) ≡ Some (Run file options)
-        → AreInRange options
-    go true b c d is = run_range given file options is
-    go false true c d is = absurd (no_show (file_alone given) file options is)
-    go false false true d is = absurd (no_check (file_alone given) file options is)
-    go false false false true is = absurd (no_compile (file_alone given) file options is)
-    go false false false false is = absurd cc
+    go : (a e b c d : Bool) → Keeps (if a then run_of Run given else (if e then run_of Exec given else (if b then option_map Show (file_alone given) else (if c then option_map Check (file_alone given) else (if d then option_map Compile (file_alone given) else None)))))
+    go true e b c d = run_keeps Run (λ file o range. range) given
+    go false true b c d = run_keeps Exec (λ file o range. range) given
+    go false false true c d = file_keeps Show (λ file. tt) (file_alone given)
+    go false false false true d = file_keeps Check (λ file. tt) (file_alone given)
+    go false false false false true = file_keeps Compile (λ file. tt) (file_alone given)
+    go false false false false false = tt
+
+words_keep : (words : List (List ℕ)) → Keeps (command words)
+words_keep [] = tt
+words_keep (word ∷ words) = go (arguments words)
+  where
+    go : (o : Option (List Argument)) → Keeps (option_and_then (command_named word) o)
+    go None = tt
+    go (Some given) = named_keeps word given
 
 -- whatever the words are
-pub command_range : (words : List (List ℕ)) (file : List ℕ) (options : RunOptions) → command words ≡ Some (Run file options) → AreInRange options
-command_range [] file options is = absurd cc
-command_range (word ∷ words) file options is = go (arguments words) is
-  where
-    go : (o : Option (List Argument)) → option_and_then (command_named word) o ≡ Some (Run file options) → AreInRange options
-    go None is = absurd cc
-    go (Some given) is = command_named_range word given file options is
+pub command_range : (words : List (List ℕ)) (c : Command) → command words ≡ Some c → KeepsRanges c
+command_range words c is = subst Keeps is (words_keep words)

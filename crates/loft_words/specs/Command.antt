@@ -11,6 +11,8 @@ use Rattle.loft_words.specs.Arguments.{Argument, arguments, plain_words, values,
 pub data Command : Type 0 where
   -- run the source in this file
   Run : (file : List ℕ) (options : RunOptions) → Command
+  -- run the code of the listing in this file
+  Exec : (file : List ℕ) (options : RunOptions) → Command
   -- show the source in this file in its canonical text
   Show : (file : List ℕ) → Command
   -- check the source in this file
@@ -21,6 +23,7 @@ pub data Command : Type 0 where
 -- the file that it reads
 abbrev pub file_of : Command → List ℕ
 file_of (Run file options) = file
+file_of (Exec file options) = file
 file_of (Show file) = file
 file_of (Check file) = file
 file_of (Compile file) = file
@@ -53,11 +56,11 @@ run_options given = options_from
     (number_of MAX_BLOCK DEFAULT_BLOCK (values (codes "--block") given))
     (number_of MAX_WORKERS DEFAULT_WORKERS (values (codes "--workers") given))
 
--- `run` has a file and the options of a run
-abbrev pub run_of : List Argument → Option Command
-run_of given =
+-- `run` and `exec` have a file and the options of a run
+abbrev pub run_of : (List ℕ → RunOptions → Command) → List Argument → Option Command
+run_of make given =
     if has_only run_names given
-    then option_and_then (λ file. option_map (Run file) (run_options given)) (only_file (plain_words given))
+    then option_and_then (λ file. option_map (make file) (run_options given)) (only_file (plain_words given))
     else None
 
 -- a command without options has a file
@@ -67,10 +70,11 @@ file_alone given = if has_only [] given then only_file (plain_words given) else 
 -- the command with this name
 abbrev pub command_named : List ℕ → List Argument → Option Command
 command_named word given =
-    if bytes_eq word (codes "run") then run_of given
+    if bytes_eq word (codes "run") then run_of Run given
+    else (if bytes_eq word (codes "exec") then run_of Exec given
     else (if bytes_eq word (codes "show") then option_map Show (file_alone given)
     else (if bytes_eq word (codes "check") then option_map Check (file_alone given)
-    else (if bytes_eq word (codes "compile") then option_map Compile (file_alone given) else None)))
+    else (if bytes_eq word (codes "compile") then option_map Compile (file_alone given) else None))))
 
 -- the command of some words; all other words are refused
 abbrev pub command : List (List ℕ) → Option Command

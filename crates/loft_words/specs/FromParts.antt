@@ -5,7 +5,7 @@ use Rattle.std.specs.Str.{bytes_eq}
 use Rattle.loft_sense.specs.declared.limits.RunOptions.{RunOptions}
 use Rattle.loft_sense.specs.declared.limits.TheConstants.{MAX_INSTANTS, MAX_BUDGET, MAX_BLOCK, MAX_WORKERS}
 use Rattle.loft_words.specs.declared.defaults.TheConstants.{DEFAULT_INSTANTS, DEFAULT_BUDGET, DEFAULT_BLOCK, DEFAULT_WORKERS}
-use Rattle.loft_words.specs.Command.{Command, Run, Show, Check, Compile, only_file, number_of, options_from}
+use Rattle.loft_words.specs.Command.{Command, Run, Exec, Show, Check, Compile, only_file, number_of, options_from}
 use Rattle.loft_words.specs.Parts.{Parts, has_no_options}
 
 abbrev pub option_list : {A : Type 0} → Option A → List A
@@ -19,15 +19,16 @@ run_options_from p = options_from
     (number_of MAX_BLOCK DEFAULT_BLOCK (option_list p.block))
     (number_of MAX_WORKERS DEFAULT_WORKERS (option_list p.workers))
 
-abbrev pub run_from : Parts → Option Command
-run_from p = option_and_then (λ file. option_map (Run file) (run_options_from p)) (only_file (option_list p.file))
+abbrev pub run_from : (List ℕ → RunOptions → Command) → Parts → Option Command
+run_from make p = option_and_then (λ file. option_map (make file) (run_options_from p)) (only_file (option_list p.file))
 
 abbrev pub file_from : Parts → Option (List ℕ)
 file_from p = if has_no_options p then only_file (option_list p.file) else None
 
 abbrev pub command_from : List ℕ → Parts → Option Command
 command_from word p =
-    if bytes_eq word (codes "run") then run_from p
+    if bytes_eq word (codes "run") then run_from Run p
+    else (if bytes_eq word (codes "exec") then run_from Exec p
     else (if bytes_eq word (codes "show") then option_map Show (file_from p)
     else (if bytes_eq word (codes "check") then option_map Check (file_from p)
-    else (if bytes_eq word (codes "compile") then option_map Compile (file_from p) else None)))
+    else (if bytes_eq word (codes "compile") then option_map Compile (file_from p) else None))))

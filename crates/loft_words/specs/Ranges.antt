@@ -3,7 +3,7 @@ use Rattle.std.specs.Prelude.{◌≤◌}
 use Rattle.loft_sense.specs.declared.limits.RunOptions.{RunOptions}
 use Rattle.loft_sense.specs.declared.limits.TheConstants.{MAX_WORKERS}
 use Rattle.loft_sense.specs.Rest.{IsInRange}
-use Rattle.loft_words.specs.Command.{Command, Run, Show, Check, Compile}
+use Rattle.loft_words.specs.Command.{Command, Run, Exec, Show, Check, Compile}
 
 -- the bounds of a run and its workers have their ranges
 pub record AreInRange (options : RunOptions) : Type 0 where
@@ -13,6 +13,7 @@ pub record AreInRange (options : RunOptions) : Type 0 where
 -- the numbers of a command have their ranges
 abbrev pub KeepsRanges : Command → Type 0
 KeepsRanges (Run file options) = AreInRange options
+KeepsRanges (Exec file options) = AreInRange options
 KeepsRanges (Show file) = Unit {0}
 KeepsRanges (Check file) = Unit {0}
 KeepsRanges (Compile file) = Unit {0}

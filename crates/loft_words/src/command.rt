@@ -1,11 +1,11 @@
 //! What the words after the program's name ask for (docs/COMMANDS.md, "Words").
 
-ghost use Rattle.std.specs.Prelude.{◌≡◌, ℕ, List, Some};
+ghost use Rattle.std.specs.Prelude.{◌≡◌, Some};
 ghost use Rattle.std.specs.Option.{option_copied};
 ghost use Rattle.loft_sense.specs.declared.limits.RunOptions.{RunOptions};
 ghost use Rattle.loft_words.specs.Words.{words_of, is_file_name};
-ghost use Rattle.loft_words.specs.Ranges.{AreInRange};
-ghost use Rattle.loft_words.specs.Command.{Run, command, file_of, only_file, number_of};
+ghost use Rattle.loft_words.specs.Ranges.{KeepsRanges};
+ghost use Rattle.loft_words.specs.Command.{Command as PlainCommand, Exec, Run, command, file_of, only_file, number_of};
 ghost use Rattle.loft_words.specs.CommandView.{meant, command_of};
 ghost use Rattle.loft_words.specs.Parts.{parts_of};
 ghost use Rattle.loft_words.specs.FromParts.{option_list, run_from, run_options_from, file_from, command_from};
@@ -22,6 +22,8 @@ use loft_sense::{Limits, MAX_BLOCK, MAX_BUDGET, MAX_INSTANTS, MAX_WORKERS, RunOp
 pub enum Command<'a> {
     /// To run the source in this file. Each number of the options is in its range (`MAX_INSTANTS` and the others).
     Run { file: &'a str, options: RunOptions },
+    /// To run the code of the listing in this file, with the same options.
+    Exec { file: &'a str, options: RunOptions },
     /// To show the source in this file in its canonical text.
     Show(&'a str),
     /// To check the source in this file.
@@ -37,6 +39,7 @@ impl<'a> Command<'a> {
     {
         match self {
             Command::Run { file, .. }
+            | Command::Exec { file, .. }
             | Command::Show(file)
             | Command::Check(file)
             | Command::Compile(file) => file,
@@ -105,13 +108,22 @@ fn run_options(parts: Parts<'_>) -> Option<RunOptions>
     Some(RunOptions { limits, workers })
 }
 
-/// To run a file with the options of a run.
+/// To run a source with the options of a run.
 fn run<'a>(parts: Parts<'a>) -> Option<Command<'a>>
-    ensures { meant result ≡ run_from (parts_of parts.entry) }
+    ensures { meant result ≡ run_from Run (parts_of parts.entry) }
 {
     let file = only_file(parts.file)?;
     let options = run_options(parts)?;
     Some(Command::Run { file, options })
+}
+
+/// To run a listing with the options of a run.
+fn exec<'a>(parts: Parts<'a>) -> Option<Command<'a>>
+    ensures { meant result ≡ run_from Exec (parts_of parts.entry) }
+{
+    let file = only_file(parts.file)?;
+    let options = run_options(parts)?;
+    Some(Command::Exec { file, options })
 }
 
 /// The command with this name.
@@ -120,6 +132,8 @@ fn command_named<'a>(word: &str, parts: Parts<'a>) -> Option<Command<'a>>
 {
     if word == "run" {
         run(parts)
+    } else if word == "exec" {
+        exec(parts)
     } else if word == "show" {
         Some(Command::Show(file_alone(parts)?))
     } else if word == "check" {
@@ -131,16 +145,15 @@ fn command_named<'a>(word: &str, parts: Parts<'a>) -> Option<Command<'a>>
     }
 }
 
-/// What the words after the program's name ask for (docs/COMMANDS.md, "Words"). The first is the command: `run`, `show`,
-/// `check` or `compile`. After it stand one file and, for `run`, options in any order: `--instants N`, `--budget B`, `--block U` and
+/// What the words after the program's name ask for (docs/COMMANDS.md, "Words"). The first is the command: `run`, `exec`,
+/// `show`, `check` or `compile`. After it stand one file and, for `run` and `exec`, options in any order: `--instants N`, `--budget B`, `--block U` and
 /// `--workers W`, each once at most, as two words or as one with `=`. After `--` no word is an option. All other words
 /// are no command: None. It takes no memory.
 #[tactic(auto, using(crate::proofs::Commands::command_from_parts))]
 pub fn read_words(words: &[String]) -> Option<Command<'_>>
     ensures meant { meant result ≡ command (words_of words.now) }
-    // the numbers of a run have their ranges
-    ensures in_range { (file : List ℕ) (options : RunOptions)
-        → command (words_of words.now) ≡ Some (Run file options) → AreInRange options }
+    // the numbers of a command have their ranges
+    ensures in_range { (c : PlainCommand) → command (words_of words.now) ≡ Some c → KeepsRanges c }
 {
     let (word, rest) = words.split_first()?;
     command_named(word.as_str(), Parts::read(rest)?)

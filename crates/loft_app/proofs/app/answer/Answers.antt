@@ -17,6 +17,9 @@ returns-in-Ok-clause-answers g c =
       texts = c.texts_are_decided.ensures.never_both;
       names = c.names_are_decided.ensures.never_both;
       links = λ n e placed. c.links_are_decided.ensures.placed n placed e;
+      codes = c.texts_have_one_answer.ensures.one_code;
+      lines = c.texts_have_one_answer.ensures.never_both;
+      valid = λ a e valid. c.code_is_decided.ensures.valid a valid e;
     })
     (subst (λ (r : Result (Unit {0}) Stopped). Attempts (command_of c.args.command) known r (g.S.Sink.written c.args.sink.now) (g.S.Sink.written c.attempt.new.sink)) c.in-Ok.is c.attempt.ensures.attempts)
 
@@ -30,6 +33,9 @@ returns-in-Err-Refused-clause-answers g c =
       texts = c.texts_are_decided.ensures.never_both;
       names = c.names_are_decided.ensures.never_both;
       links = λ n e placed. c.links_are_decided.ensures.placed n placed e;
+      codes = c.texts_have_one_answer.ensures.one_code;
+      lines = c.texts_have_one_answer.ensures.never_both;
+      valid = λ a e valid. c.code_is_decided.ensures.valid a valid e;
     })
     (subst (λ (r : Result (Unit {0}) Stopped). Attempts (command_of c.args.command) known r (g.S.Sink.written c.args.sink.now) (g.S.Sink.written c.attempt.new.sink)) is c.attempt.ensures.attempts)
     c.refuse.ensures.told c.refuse.ensures.written c.refuse.ensures.cut c.refuse.ensures.no_memory

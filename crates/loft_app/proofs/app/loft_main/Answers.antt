@@ -1,4 +1,4 @@
-use Rattle.std.proofs.Common.{◌≡◌, ◌++◌, ◌∷◌, [], refl, List, ℕ, Some}
+use Rattle.std.proofs.Common.{◌≡◌, ◌++◌, ◌∷◌, [], refl, sym, List, ℕ, Some}
 use Rattle.std.specs.Prelude.{codes}
 use Rattle.loft_words.specs.Command.{file_of}
 use Rattle.loft_words.specs.CommandView.{command_of}
@@ -7,11 +7,11 @@ use Rattle.loft_app.specs.Refusals.{Refuses, IsRefusal}
 use Rattle.loft_app.specs.Status.{IsRefused}
 use Rattle.loft_app.specs.Promise.{IsAnswer}
 use Rattle.loft_app.specs.Answer.{IsText}
-use Rattle.loft_app.proofs.Written.{appends, begun, of_command, keeps_ranges}
+use Rattle.loft_app.proofs.Written.{appends, begun, of_command}
 use Rattle.loft_app.proofs.app.loft_main.Goals as goal
 
 pub answer-requires-clause-ranges : goal.answer-requires-clause-ranges
-answer-requires-clause-ranges g c κs within = keeps_ranges (command_of c.in-Some.command) c.in-Some.ensures.meant c.in-Some.ensures.in_range
+answer-requires-clause-ranges g c κs within = c.in-Some.ensures.in_range (command_of c.in-Some.command) (sym c.in-Some.ensures.meant)
 
 pub returns-in-Some-clause-done : goal.returns-in-Some-clause-done
 returns-in-Some-clause-done g c = λ k contents is known done.

@@ -9,6 +9,7 @@ use Rattle.loft_listing.specs.Listing.{listing_text}
 use Rattle.loft_app.specs.declared.refusal.Stopped.{Stopped}
 use Rattle.loft_app.specs.Stops.{stop_of_write}
 use Rattle.loft_words.specs.Command.{Compile}
+use Rattle.loft_app.specs.Input.{ASource}
 use Rattle.loft_app.specs.Promise.{IsAnswerFor}
 use Rattle.loft_app.proofs.Doing.{done_does, failed_does, write_stops}
 use Rattle.loft_app.proofs.Written.{appends, begun}
@@ -22,7 +23,7 @@ returns-in_err-write_lines-clause-does g c = λ file.
     let code = c.in_ok-code.ensures ∙ ap (λ (n : NamedProgram). compiled (resolved_of n)) c.in_ok-placed.ensures.program in
     let listed = c.as_slice.ensures.value ∙ (c.in_ok-text.ensures ∙ ap (λ (a : Automata). listing_text a) code) in
     failed_does (write_stops w c.from_residual-in_err-write_lines.result is)
-    (begun (IsAnswerFor (Compile file) (source_of c.args.program)) c.as_slice.result.now c.in_err-write_lines.ensures.failed (c.in_ok-placed.ensures.well, listed))
+    (begun (IsAnswerFor (Compile file) (ASource (source_of c.args.program))) c.as_slice.result.now c.in_err-write_lines.ensures.failed (c.in_ok-placed.ensures.well, listed))
 
 pub returns-clause-does : goal.returns-clause-does
 returns-clause-does g c = λ file.

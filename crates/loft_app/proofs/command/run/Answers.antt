@@ -9,6 +9,7 @@ use Rattle.loft_sense.specs.Machine.{Tree}
 use Rattle.loft_app.specs.declared.refusal.Stopped.{Stopped}
 use Rattle.loft_app.specs.Stops.{stop_of_run}
 use Rattle.loft_words.specs.Command.{Run}
+use Rattle.loft_app.specs.Input.{ASource}
 use Rattle.loft_app.specs.Promise.{IsReport, IsAnswerFor}
 use Rattle.loft_app.proofs.Doing.{failed_does, run_stops}
 use Rattle.loft_app.proofs.Written.{part_of}
@@ -23,6 +24,6 @@ returns-in_err-run_program-clause-does g c = λ file.
     let same : n ≡ numbered (source_of c.args.program) = c.in_ok-placed.ensures.program in
     let o = c.args.options.now in
     failed_does (run_stops e c.from_residual-in_err-run_program.result is)
-    (part_of (IsReport (Tree (resolved_of n)) o) (IsAnswerFor (Run file o) (source_of c.args.program))
+    (part_of (IsReport (Tree (resolved_of n)) o) (IsAnswerFor (Run file o) (ASource (source_of c.args.program)))
     (λ text holds. (c.in_ok-placed.ensures.well, subst (λ (m : NamedProgram). IsReport (Tree (resolved_of m)) o text) same holds))
     c.in_err-run_program.ensures.failed)
