@@ -4,7 +4,7 @@ use Rattle.std.specs.List.{flat_map}
 use Rattle.std.proofs.lemmas.List.{map-append}
 use Rattle.loft_tree.specs.declared.limits.TheConstants.{MAX_LOCALS, MAX_ORDERS}
 use Rattle.loft_tree.specs.Source as src
-use Rattle.loft_tree.specs.Source.{Ident, Named, ModuleHead, Declaration, Scheduler, Event, Shared, Module, Start, Outside, Statements, Done, Source}
+use Rattle.loft_tree.specs.Source.{Ident, Named, ModuleHead, Declaration, Scheduler, Event, Shared, Module, Start, Outside, Statements, Done}
 use Rattle.loft_tree.specs.Fits.{Each, DeclarationFits, SourceFits}
 use Rattle.loft_code.specs.declared.limits.TheConstants.{MAX_OPERATIONS}
 use Rattle.loft_rows.specs.Instructions.{bare_instruction}
