@@ -7,7 +7,6 @@ use Rattle.loft_tree.specs.Source.{PlaceName}
 use Rattle.loft_rows.specs.Feeds.{EndsAtItsFeed}
 use Rattle.loft_rows.specs.Instructions.{Instruction, feed}
 use Rattle.loft_rows.specs.Rows.{Operation, bare_line, line_text}
-use Rattle.loft_rows.specs.RowsFit.{IsLine}
 use Rattle.loft_rows.specs.RowView.{row_of}
 use Rattle.loft_rows.specs.declared.row.Row.{Row}
 use Rattle.loft_rows.specs.declared.row.Row.TheVariants as row
@@ -64,9 +63,6 @@ not_empty text line rest (front, ends, plain) whole none =
     let same : length line ≡ length (front ++ feed) = ap length ends in
     let zero_long : length (line ++ rest) ≡ 0 = ap length (sym whole ∙ none) in
     absurd (omega arith)
-
-pub is_line : (text : List ℕ) (number : ℕ) (o : DraftOperation) → IsOperation text number o → IsLine text (Operation number o.place o.depth o.instruction)
-is_line text number o is = record { fits = is.fits.0; written = is.written }
 
 pub is_short : (text : List ℕ) (number : ℕ) (o : DraftOperation) → IsOperation text number o → length text ≤ MAX_TEXT_LEN
 is_short text number o is = let same : length text ≡ length (line_text (Operation number o.place o.depth o.instruction)) = ap length is.written in let short = is.fits.1 in subst (λ n. n ≤ MAX_TEXT_LEN) (sym same) short

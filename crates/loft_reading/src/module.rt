@@ -16,7 +16,7 @@ use crate::line::code_line;
 use loft_base::NoMemory;
 use loft_code::ModuleCode;
 use loft_names::{Scope, Table};
-use loft_rows::{OperationRow, Row, first_line, read_row};
+use loft_rows::{OperationRow, Row, find_row, first_line};
 use loft_wrong::{offsets_are_free, operation_names};
 use std::alloc::Global;
 
@@ -30,14 +30,14 @@ fn if_operation(row: Row) -> Option<OperationRow>
     }
 }
 
-/// The operation that a line is; nothing where it is none.
+/// The operation that a line is, where it is one.
 fn operation_in(alloc: Global, line: &[u8]) -> Result<Option<OperationRow>, NoMemory>
     ensures fits { IfOk result (λ found. IfSome found (λ row. InstructionFits (deed_of row.deed))) }
     ensures only { (number : ℕ) (o : DraftOperation) → IsOperation line.now number o
         → IfOk result (λ found.
         option_map (λ row. bare_operation (draft_of row)) found ≡ Some o) }
 {
-    match read_row(alloc, line)? {
+    match find_row(alloc, line)? {
         Some(row) => Ok(if_operation(row)),
         None => Ok(None),
     }

@@ -91,7 +91,12 @@ fn client(alloc: Global, line: &[u8]) -> Result<Option<Ident>, NoMemory>
     }
 }
 
-/// What the line says if it is one of a listing.
+/// What a text says that is known to be a line of a listing, of at most 4 MiB (docs/CODE.md, "Lines of
+/// a listing"). Of another text it may answer anything: where it isn't known, `read_row` compares.
+///
+/// # Errors
+///
+/// `NoMemory` where memory runs out, whatever the text is.
 pub fn find_row(alloc: Global, line: &[u8]) -> Result<Option<Row>, NoMemory>
     ensures found { Finds row_of bare_line ListingLineFits line_text line.now result }
     ensures fits { IfOk result (λ found. IfSome found (λ r. ListingLineFits (row_of r))) }
