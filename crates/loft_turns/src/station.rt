@@ -89,8 +89,8 @@ impl<X: Setting, E: Engine> Station<X, E> {
         if self.current.is_some() || !self.has_turn(world.left(s)) {
             return Ok(false);
         }
-        let batch = world.take(alloc, s)?;
-        let note = self.engine.take(alloc, &batch)?;
+        let note = self.engine.take(alloc, world.left(s))?;
+        world.record_take(alloc, s)?;
         self.current = Some(note);
         Ok(true)
     }

@@ -88,6 +88,21 @@ impl World {
         Ok(mem::replace(&mut self.waits[at], Sequence::new(alloc)))
     }
 
+    /// As `take`, and the orders move into the entry: none is copied. Who takes them has seen them
+    /// before, as `left`.
+    pub fn record_take(&mut self, alloc: Global, s: SchedId) -> Result<(), NoMemory>
+        requires declared { IsScheduler self.old.heads s }
+        requires closed { is_open s self.old.history ≡ false }
+        ensures ok { OnOk result (self.new ≡ with_entry self.old
+            (entry.Take s (waiting self.old.heads s self.old.history))) }
+        ensures err { OnErr result (self.new ≡ self.old) }
+    {
+        self.entries.reserve(1)?;
+        let batch = mem::replace(&mut self.waits[s.0 as usize], Sequence::new(alloc));
+        self.entries.push_reserved(Entry::Take { s, batch });
+        Ok(())
+    }
+
     /// All that the instant of a declared scheduler sent is accepted, and ends the instant.
     pub fn give(&mut self, alloc: Global, s: SchedId, sent: &Sents) -> Result<(), NoMemory>
         requires declared { IsScheduler self.old.heads s }

@@ -19,24 +19,28 @@ returns-clause-stands g c =
     let x = g.X.Setting.program in
     let o = g.X.Setting.options in
     let engine = c.self.inside.engine in
-    let batch = c.in_ok-batch.batch in
+    let h = c.args.world.now.history in
+    let batch = waiting c.args.world.now.heads c.args.s h in
+    let lent : c.left-2.result.now ≡ batch = c.left-2.ensures in
     let note = c.in_ok-note.note in
     let m = e.machine engine in
     let is_note : note ≡ (instant x o.limits m batch).note =
     c.in_ok-note.ensures.note
+    ∙ (ap (λ (b : List Order). (instant (e.program engine) (e.limits engine) m b).note) lent
     ∙ (ap (λ (q : Prog). (instant q (e.limits engine) m batch).note) c.self.invariant.0
-    ∙ ap (λ (q : Limits). (instant x q m batch).note) c.self.invariant.1) in
-    let is_next : e.machine c.take-2.new.self ≡ (instant x o.limits m batch).machine =
+    ∙ ap (λ (q : Limits). (instant x q m batch).note) c.self.invariant.1)) in
+    let is_next : e.machine c.take.new.self ≡ (instant x o.limits m batch).machine =
     c.in_ok-note.ensures.machine
+    ∙ (ap (λ (b : List Order). (instant (e.program engine) (e.limits engine) m b).machine) lent
     ∙ (ap (λ (q : Prog). (instant q (e.limits engine) m batch).machine) c.self.invariant.0
-    ∙ ap (λ (q : Limits). (instant x q m batch).machine) c.self.invariant.1) in
+    ∙ ap (λ (q : Limits). (instant x q m batch).machine) c.self.invariant.1)) in
     let none : option_to_list c.self.inside.current ≡ [] = none_open c.self.inside.current (sym c.is_some.ensures ∙ c.if-is_some.false) in
-    taken x o c.args.s c.args.world.now.history c.take.new.self.history
+    taken x o c.args.s h c.record_take.new.self.history
     (record { scheduler = e.scheduler engine; failed = e.has_failed engine; machine = m; notes = c.self.inside.notes ++ option_to_list c.self.inside.current; running = _ })
     _ batch note
     (c.self.view_is ∙ c.requires.stands)
-    (ap (λ (w : State). w.history) c.in_ok-batch.ensures.ok)
-    c.take-2.ensures.same_scheduler c.in_ok-note.ensures.works.1 is_next is_note
+    (ap (λ (w : State). w.history) c.in_ok-record_take.ensures.ok)
+    c.take.ensures.same_scheduler c.in_ok-note.ensures.works.1 is_next is_note
     (ap (λ (l : List InstantNote). l ++ note ∷ []) (sym (ap (λ (l : List InstantNote). c.self.inside.notes ++ l) none ∙ append-nil c.self.inside.notes)))
     refl
 
@@ -47,7 +51,7 @@ returns-clause-moves g c =
     let s = c.args.s in
     let h = c.args.world.now.history in
     let stands = c.requires.stands in
-    let due = c.in_ok-batch.ensures.batch ∙ ap (λ (q : Heads). waiting q s h) c.requires.heads in
+    let due = ap (λ (q : Heads). waiting q s h) c.requires.heads in
     let declared : s.0 < length (heads x).schedulers = subst (λ (q : Heads). s.0 < length q.schedulers) c.requires.heads c.requires.declared in
     let shut : is_open s h ≡ false =
     sym (ap (λ (q : Stand). q.running) (c.self.view_is ∙ stands)) ∙ (sym c.is_some.ensures ∙ c.if-is_some.false) in
@@ -56,6 +60,6 @@ returns-clause-moves g c =
     ∙ (ap (λ (l : List Order). has_turn x o.limits (stand_after x o h s.0).machine l) (sym c.left.ensures)
     ∙ (ap (λ (q : Stand). has_turn x o.limits q.machine c.left.result.now) (sym stands)
     ∙ (sym c.has_turn.ensures ∙ c.if-not-has_turn.false))) in
-    moved_by x o h (TakeBy s) c.take.new.self.history (Take s (waiting (heads x) s h))
+    moved_by x o h (TakeBy s) c.record_take.new.self.history (Take s (waiting (heads x) s h))
     (take_entry x o s h declared shut turn)
-    (ap (λ (w : State). w.history) c.in_ok-batch.ensures.ok ∙ ap (λ (b : List Order). h ++ Take s b ∷ []) due)
+    (ap (λ (w : State). w.history) c.in_ok-record_take.ensures.ok ∙ ap (λ (b : List Order). h ++ Take s b ∷ []) due)
