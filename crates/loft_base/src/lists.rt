@@ -103,6 +103,14 @@ impl<T> Sequence<T> {
 }
 
 impl<T: Drop> Sequence<T> {
+    /// Makes room for at least so many further elements. The list stays, whatever it answers.
+    pub fn reserve(&mut self, count: usize) -> Result<(), NoMemory>
+        ensures { self.new ≡ self.old }
+    {
+        self.items.reserve(count)?;
+        Ok(())
+    }
+
     /// Appends an element. Where it is out of memory the element is dropped and the list stays.
     pub fn push(&mut self, value: T) -> Result<(), NoMemory>
         ensures ok { OnOk result (self.new ≡ self.old ++ value ∷ []) }

@@ -94,6 +94,28 @@ fn close_each(
     Ok(())
 }
 
+/// How many threads are held and ran.
+fn count_ran(runners: &[Runner]) -> usize {
+    let mut count = 0;
+    for runner in runners {
+        if runner.is_held() && runner.runs > 0 {
+            count += 1;
+        }
+    }
+    count
+}
+
+/// How many threads leave.
+fn count_leavers(runners: &[Runner]) -> usize {
+    let mut count = 0;
+    for runner in runners {
+        if matches!(runner.stop, Stop::Leaves(_)) {
+            count += 1;
+        }
+    }
+    count
+}
+
 /// Those that have left or ended are dropped.
 fn keep_held(runners: &mut Vec<Runner>)
     ensures { runners.new.items ≡ filter (λ r. is_held r.stop) runners.old.items }
@@ -115,6 +137,8 @@ pub fn close_all(
     ensures sent { OnOk result (sent.new ≡ sent.old ++ leavers (runners_of runners.old.items)) }
 {
     let mut stands = Sequence::new(alloc);
+    stands.reserve(count_ran(runners.as_slice()))?;
+    sent.reserve(count_leavers(runners.as_slice()))?;
     close_each(alloc, runners, &mut stands, sent)?;
     keep_held(runners);
     Ok(stands)

@@ -42,6 +42,7 @@ pub fn standings(alloc: Global, runners: &[Runner]) -> Result<Standings, NoMemor
     ensures { IfOk result (λ standings. standings ≡ standings_of runners.now) }
 {
     let mut standings = Sequence::new(alloc);
+    standings.reserve(runners.len())?;
     for runner in runners {
         standings.push(Standing {
             thread: runner.thread.try_clone(alloc)?,

@@ -1,11 +1,12 @@
 //! Reading the orders of outside clients.
 
 ghost use Rattle.loft_tree.specs.View.{order_of};
-ghost use Rattle.loft_form.specs.Form.{maybe, many, fresh};
+ghost use Rattle.std.specs.Prelude.{◌≡◌};
+ghost use Rattle.loft_form.specs.Form.{maybe, many, fresh, next_begins};
 ghost use Rattle.loft_form.specs.Reading.{Gives};
 ghost use Rattle.loft_parse.specs.Source.{limits};
 ghost use Rattle.loft_parse.specs.Grammar.{create_order, control_order, value_behind_comma, broadcast_order, order};
-ghost use Rattle.loft_parse.specs.View.{reads_flat, viewed, itself, orders_of};
+ghost use Rattle.loft_parse.specs.View.{symbols_at, reads_flat, viewed, itself, orders_of};
 
 use crate::constant_argument::{outer_arguments, signed};
 use crate::counts::Counted;
@@ -84,14 +85,30 @@ fn broadcast_order<'a>(alloc: Global, at: Cursor<'a>) -> Result<(OutsideOrder, C
     Ok((OutsideOrder::Broadcast { event, value }, at))
 }
 
+/// Whether the next symbol begins an order that creates a thread.
+#[tactic(auto, unfolding(crate::specs::Grammar::create_order))]
+fn next_create<'a>(at: &Cursor<'a>) -> bool
+    ensures { result ≡ next_begins create_order (symbols_at at.now) }
+{
+    next_is_word(Word::Create, at)
+}
+
+/// Whether the next symbol begins an order that controls a thread.
+#[tactic(auto, unfolding(crate::specs::Grammar::control_order))]
+fn next_control_order<'a>(at: &Cursor<'a>) -> bool
+    ensures { result ≡ next_begins control_order (symbols_at at.now) }
+{
+    next_control(at)
+}
+
 /// Reads an order.
-#[tactic(auto, unfolding(crate::specs::Grammar::order, crate::specs::Grammar::create_order, crate::specs::Grammar::control_order))]
+#[tactic(auto, unfolding(crate::specs::Grammar::order))]
 pub fn order<'a>(alloc: Global, at: Cursor<'a>) -> Result<(OutsideOrder, Cursor<'a>), Stop>
     ensures { Gives (viewed order_of) result (reads_flat limits order at.entry) }
 {
-    if next_is_word(Word::Create, &at) {
+    if next_create(&at) {
         create_order(alloc, at)
-    } else if next_control(&at) {
+    } else if next_control_order(&at) {
         control_order(alloc, at)
     } else {
         broadcast_order(alloc, at)

@@ -22,6 +22,17 @@ fn is_addressed(at: usize, to: To) -> bool
     }
 }
 
+/// How many of these orders are addressed to the scheduler of this index.
+fn count_addressed(at: usize, sents: &[Sent]) -> usize {
+    let mut count = 0;
+    for sent in sents {
+        if is_addressed(at, sent.to) {
+            count += 1;
+        }
+    }
+    count
+}
+
 /// Adds copies of the orders that are addressed to the scheduler of this index. Where it is out of
 /// memory, some may be there.
 fn add_some(alloc: Global, at: usize, orders: &mut Orders, sents: &[Sent]) -> Result<(), NoMemory>
@@ -41,6 +52,7 @@ fn add_orders(alloc: Global, at: usize, orders: &mut Orders, sents: &[Sent]) -> 
     ensures ok { OnOk result (orders.new ≡ orders.old ++ orders_to (scheduler at) sents.now) }
     ensures err { OnErr result (orders.new ≡ orders.old) }
 {
+    orders.reserve(count_addressed(at, sents))?;
     let before = orders.len();
     let added = add_some(alloc, at, orders, sents);
     if added.is_err() {
