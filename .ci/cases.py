@@ -8,6 +8,10 @@ that (docs/COMMANDS.md). A case passes where each program gives both exactly. In
 NAME.listing stands for NAME.loft. Each source in `run` that has a report is compiled, too, and `exec`
 of its listing has to print that report.
 
+In the folder `history` the source is followed by the choices of NAME.choices, one a line, through each of
+FOLLOWERS. A history that hasn't ended has NAME.next in place of an answer, one line: it is followed
+without that choice, and with it.
+
 The folder `words` has a table instead: words, the status, and the first line of the answer, between
 tabs. Its words are separated by a blank, and '' is the empty one; they are those of a program that
 is run in that folder."""
@@ -23,6 +27,9 @@ TOP = pathlib.Path(__file__).resolve().parent.parent
 COMMANDS = ["run", "show", "check", "compile", "exec"]
 WORDS = TOP / "cases/words"
 TABLE = WORDS / "words.tsv"
+HISTORIES = TOP / "cases/history"
+FOLLOWER = TOP / "crates/loft_follow/out/loft_follow"
+FOLLOWERS = [str(FOLLOWER), f"{FOLLOWER}.by-rattle"]
 STATUSES = {b"source:": 3, b"listing:": 3, b"loft:": 2, b"log:": 4, b"files:": 5}
 SECONDS = 300
 FOLDERS = {f"cases/{it}": it for it in COMMANDS} | {"examples": "run", "docs/tutorial": "run"}
@@ -106,6 +113,41 @@ class Listed(Source):
             return ended(program, ["exec", file.name, *self.further()], TOP)
 
 
+class History(Source):
+    """A source whose choices are followed."""
+
+    def __init__(self, source):
+        super().__init__(source, "run")
+        self.choices = source.with_suffix(".choices")
+        self.next = source.with_suffix(".next")
+
+    def failure(self, program):
+        """Why the case fails, or None."""
+        if not self.choices.is_file():
+            return f"there is no {self.choices.name}"
+        if not self.next.is_file():
+            return super().failure(program)
+        for what, ran in [("without", self.ran(program)), ("with", self.ran_on(program))]:
+            if ran.returncode != 0:
+                return f"{what} {self.next.name} the status is {ran.returncode}, not 0"
+        return None
+
+    def ran(self, program):
+        """How the program ends for the choices."""
+        return self.followed(program, self.choices)
+
+    def ran_on(self, program):
+        """How the program ends for the choices and the one after them."""
+        with tempfile.NamedTemporaryFile(suffix=".choices") as file:
+            file.write(self.choices.read_bytes() + self.next.read_bytes())
+            file.flush()
+            return self.followed(program, file.name)
+
+    def followed(self, program, choices):
+        """How the program ends for choices in a file."""
+        return ended(program, [choices, self.command, self.name, *self.further()], TOP)
+
+
 class Row:
     """A row of the table of words."""
 
@@ -124,12 +166,20 @@ class Row:
         return None
 
 
+def source_name(file):
+    """The name of the source to which a file of a case belongs."""
+    if file.parent == HISTORIES and file.suffix in (".choices", ".next"):
+        return file.with_suffix(".loft").name
+    return file.name.removesuffix(".stdout").removesuffix(".args")
+
+
 def strays():
     """Files of the cases that belong to no case."""
     folders = [*TOP.glob("cases/*"), TOP / "examples", TOP / "docs/tutorial"]
+    commands = FOLDERS | {str(HISTORIES.relative_to(TOP)): "run"}
     for file in sorted(file for folder in folders for file in folder.glob("*")):
-        name = file.name.removesuffix(".stdout").removesuffix(".args")
-        command = FOLDERS.get(str(file.parent.relative_to(TOP)))
+        name = source_name(file)
+        command = commands.get(str(file.parent.relative_to(TOP)))
         is_source = command is not None and name.endswith(ending_of(command))
         is_known = file.parent == WORDS or file.name == "README.md" or is_source
         if not is_known or not file.with_name(name).is_file():
@@ -151,19 +201,21 @@ def failures_of(programs, case):
 
 def main(programs):
     programs = [str(pathlib.Path(it).resolve()) for it in programs]
-    lacking = [f"{it}: there is no such program" for it in programs if not pathlib.Path(it).is_file()]
+    lacking = [f"{it}: there is no such program" for it in programs + FOLLOWERS if not pathlib.Path(it).is_file()]
     if lacking or not programs:
         print(*lacking, "0 passed, 1 failed", sep="\n")
         return 1
     cases = [Source(it, command) for folder, command in FOLDERS.items() for it in sorted(TOP.glob(f"{folder}/*{ending_of(command)}"))]
     cases += [Listed(it, "run") for it in sorted(TOP.glob("cases/run/*.loft")) if has_report(it)]
     cases += [Row(number, line) for number, line in enumerate(TABLE.read_text().split("\n")[:-1], 1)]
+    runs = [(programs, case) for case in cases]
+    runs += [(FOLLOWERS, History(it)) for it in sorted(HISTORIES.glob("*.loft"))]
     with concurrent.futures.ThreadPoolExecutor(os.cpu_count()) as pool:
-        found = list(pool.map(lambda case: failures_of(programs, case), cases))
+        found = list(pool.map(lambda run: failures_of(*run), runs))
     others = list(strays())
     failed = sum(map(bool, found)) + len(others)
     lines = [line for lines in found for line in lines] + others
-    print(*lines, f"{len(cases) + len(others) - failed} passed, {failed} failed", sep="\n")
+    print(*lines, f"{len(runs) + len(others) - failed} passed, {failed} failed", sep="\n")
     return 1 if failed else 0
 
 

@@ -6,8 +6,6 @@ mod names;
 mod plain;
 mod plain_blocks;
 mod replay;
-#[cfg(test)]
-mod tests;
 
 pub use plain::run_plainly;
 pub use replay::{FollowError, Replayed, follow};

@@ -1,0 +1,4 @@
+pub mod Program
+pub mod Answer
+pub mod Words
+pub mod Failures
