@@ -3,3 +3,4 @@ pub mod RunnerLemmas
 pub mod PassLemmas
 pub mod InstantLemmas
 pub mod EngineLemmas
+pub mod LeaverLemmas

@@ -1,13 +1,14 @@
 //! The threads of an instant as it closes (docs/SEMANTICS.md, "Instant").
 
 ghost use Rattle.std.specs.Prelude.{◌≡◌, ◌++◌, [], ◌∷◌, map, filter, option_map, IfOk, OnOk};
-ghost use Rattle.loft_sense.specs.Instant.{lowered as lowered_by, closed_wait as closed_wait_of, closed as closed_runner, closed_thread, stays, has_run, leavers};
+ghost use Rattle.loft_sense.specs.Instant.{lowered as lowered_by, closed_wait as closed_wait_of, closed as closed_runner, closed_thread, stays, has_run, leavers as leavers_of};
 ghost use Rattle.loft_instant.specs.View.{standings_of, linked_of, runners_of, is_held};
 
+use crate::leavers::Leavers;
 use crate::runner::Runner;
 use loft_base::{NoMemory, Sequence};
 use loft_effect::take_thread;
-use loft_sense::{Order, Sent, Sents, SharedThread, Stop, Threads, Wait};
+use loft_sense::{Sents, Stop, Threads, Wait};
 use std::alloc::Global;
 
 /// A number left in a wait, one lower where it is positive.
@@ -43,18 +44,18 @@ fn close_wait(wait: &mut Wait)
 }
 
 /// A thread closes: one that is held waits one instant less, unless it is suspended, and is copied where it ran; one that
-/// leaves is sent where it goes.
+/// leaves is taken.
 fn close_one(
     alloc: Global,
     runner: &mut Runner,
     stands: &mut Threads,
-    sent: &mut Sents,
+    leavers: &mut Leavers,
 ) -> Result<(), NoMemory>
     ensures linked { OnOk result (standings_of (filter (λ r. is_held r.stop) (runner.new ∷ []))
         ≡ map closed_runner (filter stays (linked_of runner.old))) }
     ensures stands { OnOk result (stands.new
         ≡ stands.old ++ map closed_thread (filter has_run (filter stays (linked_of runner.old)))) }
-    ensures sent { OnOk result (sent.new ≡ sent.old ++ leavers (linked_of runner.old)) }
+    ensures leavers { OnOk result (leavers.new ≡ leavers.old ++ leavers_of (linked_of runner.old)) }
 {
     match runner.stop {
         Stop::Holds => {
@@ -68,8 +69,7 @@ fn close_one(
         }
         Stop::Leaves(to) => {
             let thread = take_thread(alloc, &mut runner.thread);
-            let order = Order::Arrive(SharedThread::new(alloc, thread)?);
-            sent.push(Sent { to, order })
+            leavers.push(thread, to)
         }
         Stop::Ends(_) => Ok(()),
     }
@@ -80,16 +80,17 @@ fn close_each(
     alloc: Global,
     runners: &mut Vec<Runner>,
     stands: &mut Threads,
-    sent: &mut Sents,
+    leavers: &mut Leavers,
 ) -> Result<(), NoMemory>
     ensures linked { OnOk result (standings_of (filter (λ r. is_held r.stop) runners.new.items)
         ≡ map closed_runner (filter stays (runners_of runners.old.items))) }
     ensures stands { OnOk result (stands.new ≡ stands.old
         ++ map closed_thread (filter has_run (filter stays (runners_of runners.old.items)))) }
-    ensures sent { OnOk result (sent.new ≡ sent.old ++ leavers (runners_of runners.old.items)) }
+    ensures leavers { OnOk result (leavers.new
+        ≡ leavers.old ++ leavers_of (runners_of runners.old.items)) }
 {
     for runner in runners.iter_mut() {
-        close_one(alloc, runner, stands, sent)?;
+        close_one(alloc, runner, stands, leavers)?;
     }
     Ok(())
 }
@@ -134,12 +135,13 @@ pub fn close_all(
         ≡ map closed_runner (filter stays (runners_of runners.old.items))) }
     ensures stands { IfOk result (λ stands. stands
         ≡ map closed_thread (filter has_run (filter stays (runners_of runners.old.items)))) }
-    ensures sent { OnOk result (sent.new ≡ sent.old ++ leavers (runners_of runners.old.items)) }
+    ensures sent { OnOk result (sent.new ≡ sent.old ++ leavers_of (runners_of runners.old.items)) }
 {
     let mut stands = Sequence::new(alloc);
     stands.reserve(count_ran(runners.as_slice()))?;
-    sent.reserve(count_leavers(runners.as_slice()))?;
-    close_each(alloc, runners, &mut stands, sent)?;
+    let mut leavers = Leavers::with_capacity(alloc, count_leavers(runners.as_slice()))?;
+    close_each(alloc, runners, &mut stands, &mut leavers)?;
     keep_held(runners);
+    leavers.send(alloc, sent)?;
     Ok(stands)
 }

@@ -6,6 +6,7 @@ mod close;
 mod engine;
 mod instant;
 mod interpreter;
+mod leavers;
 mod pass;
 mod rest;
 mod runner;

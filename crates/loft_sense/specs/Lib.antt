@@ -1,3 +1,4 @@
+pub mod Group
 pub mod Printed
 pub mod Heads
 pub mod Machine

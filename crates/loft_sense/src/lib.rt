@@ -39,5 +39,5 @@ pub use run_laws::{
     nobody_waits_for_a_present_event, passes_go_in_order, runs_keep_what_is_declared,
     runs_make_few_entries, threads_run_within_the_budget,
 };
-pub use shared_thread::SharedThread;
+pub use shared_thread::{SharedThread, ThreadGroup};
 pub use thread::{Counts, Events, Frame, Frames, Thread, Threads, Wait};

@@ -13,5 +13,5 @@ invariant-loop-runner l =
     record {
       linked : standings_of (filter (λ r. is_held r.stop) before) ++ map closed (filter stays rest) ≡ map closed (filter stays all);
       stands : l.stands ++ map closed_thread (filter has_run (filter stays rest)) ≡ l.fn.stands ++ map closed_thread (filter has_run (filter stays all));
-      sent : l.sent ++ leavers rest ≡ l.fn.sent ++ leavers all;
+      leavers : l.leavers ++ leavers rest ≡ l.fn.leavers ++ leavers all;
     }
