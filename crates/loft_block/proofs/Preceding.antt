@@ -30,7 +30,7 @@ use Rattle.loft_sense.specs.Machine.{Prog, Tree, Code}
 use Rattle.loft_sense.specs.Around.{Around, Beside, done, entered}
 use Rattle.loft_sense.specs.Eval.{eval, eval_all, eval_if, number_of, number_if, thread_or, special_value, unary_value, binary_value}
 use Rattle.loft_sense.specs.CanGo.{has_any, is_index, is_known}
-use Rattle.loft_sense.specs.Statements.{Effect, GoesOn, Waits, Leaves, Dies, Now, now, if_value, goes_on, most_entries, ok, timeout, next, enter, create, new_id, one_made, is_up, hold, set_if, mask_after, with_code, events_end, code_after, indexed, target_of, did, begun, answered}
+use Rattle.loft_sense.specs.Statements.{Effect, GoesOn, Waits, Leaves, Dies, Now, now, if_value, goes_on, most_entries, ok, timeout, enter, create, new_id, one_made, is_up, hold, set_if, mask_after, with_code, events_end, code_after, indexed, target_of, did, begun, answered}
 use Rattle.loft_sense.specs.Run.{Next, Finish, Stuck, Acts, Passes, Tests, Counts, Holds, Runs, Control, Active, Outcome, Held, Left, Ended, ends, live, effect_on, test_on, count_on, run_on, begun_frame, stopped, step, step_on, no_step, going, go_on, go, here, beside, actives_of}
 use Rattle.loft_sense.specs.Tree.{tree}
 use Rattle.loft_sense.specs.Code.{code}

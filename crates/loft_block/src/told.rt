@@ -3,6 +3,7 @@
 ghost use Rattle.std.specs.Prelude.{◌≡◌, ◌≤◌, ◌++◌, [], ◌∷◌, length, IfOk, OnOk};
 ghost use Rattle.loft_tree.specs.declared.heads.Place.TheVariants.{Unlinked};
 ghost use Rattle.loft_tree.specs.declared.limits.TheConstants.{MAX_EVENTS};
+ghost use Rattle.loft_sense.specs.declared.order.Order.TheVariants.{Arrive};
 ghost use Rattle.loft_sense.specs.Machine.{Prog, heads as heads_of};
 ghost use Rattle.loft_sense.specs.Instant.{sent_by};
 ghost use Rattle.loft_sense.specs.Async.{alone as alone_in, block_sent};
@@ -12,7 +13,7 @@ ghost use Rattle.loft_effect.specs.Outcomes.{gone_of};
 use loft_base::{NoMemory, Sequence};
 use loft_board::Board;
 use loft_effect::{Around, Gone, Outcome};
-use loft_sense::{Act, Order, Sent, Sents, SharedThread, To};
+use loft_sense::{Act, Order, Sent, Sents, SharedThread, Thread, To};
 use loft_tree::{Heads, Place};
 use std::alloc::Global;
 
@@ -71,17 +72,31 @@ pub fn tell(alloc: Global, sent: &mut Sents, acts: &[Act]) -> Result<(), NoMemor
     Ok(())
 }
 
+/// Adds what a run sends that leaves this around its thread.
+fn tell_acts(alloc: Global, sent: &mut Sents, around: Around) -> Result<(), NoMemory>
+    ensures { OnOk result (sent.new ≡ sent.old ++ sent_by Unlinked (around_of around).acts) }
+{
+    tell(alloc, sent, around.acts.as_slice())
+}
+
+/// Adds the order that sends a thread on.
+fn send_on(alloc: Global, sent: &mut Sents, thread: Thread, to: To) -> Result<(), NoMemory>
+    ensures { OnOk result (sent.new ≡ sent.old ++ record { to = to; order = Arrive thread } ∷ []) }
+{
+    sent.push(Sent {
+        to,
+        order: Order::Arrive(SharedThread::new(alloc, thread)?),
+    })
+}
+
 /// Adds what an unlinked thread sends whose run has stopped so.
 pub fn tell_gone(alloc: Global, sent: &mut Sents, gone: Gone) -> Result<(), NoMemory>
     ensures { OnOk result (sent.new ≡ sent.old ++ block_sent (gone_of gone)) }
 {
     let Gone { outcome, around } = gone;
-    tell(alloc, sent, around.acts.as_slice())?;
+    tell_acts(alloc, sent, around)?;
     match outcome {
-        Outcome::Left(thread, to) => sent.push(Sent {
-            to,
-            order: Order::Arrive(SharedThread::new(alloc, thread)?),
-        }),
+        Outcome::Left(thread, to) => send_on(alloc, sent, thread, to),
         Outcome::Held(_) | Outcome::Ended(_) => Ok(()),
     }
 }

@@ -161,6 +161,10 @@ some_body (s ∷ ss) e = (step_of (statement_of s), body_of (statements_of ss), 
 pub long : (ls : List CodeLine) → length ls ≡ length (map line_of ls)
 long ls = sym (length-map ls line_of)
 
+-- lines that are added after others
+pub longer : (a b : List CodeLine) (x : List Line) → map line_of b ≡ map line_of a ++ x → length b ≡ length a + length x
+longer a b x e = long b ∙ (ap length e ∙ (length-append (map line_of a) x ∙ ap (λ (n : ℕ). n + length x) (sym (long a))))
+
 -- ---- programs in memory
 
 pub code_is : (p q : ProgramInMemory) (heads : Heads) (code : List ModuleCode) (ms : List Module) → q ≡ p → ms ≡ q.modules.items → heads ≡ q.heads

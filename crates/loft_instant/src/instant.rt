@@ -1,12 +1,15 @@
 //! One instant of a scheduler (docs/SEMANTICS.md, "Instant").
 
-ghost use Rattle.std.specs.Prelude.{◌≡◌, ◌≤◌, ◌<◌, ◌^◌, [], false, length, map, IfOk, OnOk};
+ghost use Rattle.std.specs.Prelude.{◌≡◌, ◌≤◌, ◌<◌, ◌^◌, ◌++◌, [], false, length, map, filter, IfOk, OnOk};
 ghost use Rattle.loft_board.specs.Board.{no_events};
 ghost use Rattle.loft_sense.specs.Heads.{shared_of};
 ghost use Rattle.loft_sense.specs.Machine.{heads as heads_of};
 ghost use Rattle.loft_sense.specs.Apply.{apply_orders};
 ghost use Rattle.loft_sense.specs.Passes.{passes as passes_over};
+ghost use Rattle.loft_tree.specs.declared.heads.Place.TheVariants.{Sched as SchedPlace};
 ghost use Rattle.loft_sense.specs.Instant.{runner_of as begin_of, instant as instant_of};
+ghost use Rattle.loft_sense.specs.Instant.{closed, closed_thread, stays, has_run};
+ghost use Rattle.loft_sense.specs.Instant.{sent_by, leavers, changes as changes_in};
 
 use crate::batch::Batch;
 use crate::close::close_all;
@@ -18,7 +21,7 @@ use crate::told::tell_all;
 use loft_base::{NoMemory, SchedId, Sequence, SharedId, ThreadId};
 use loft_board::Board;
 use loft_effect::Around;
-use loft_sense::{InstantNote, Limits, Numbers, Order};
+use loft_sense::{Changes, InstantNote, Limits, Numbers, Order, Sents, Threads};
 use loft_tree::Place;
 use std::alloc::Global;
 
@@ -56,7 +59,7 @@ pub struct State {
 
 impl<I: Interpreter> Setting<I> {
     ghost use Rattle.loft_effect.specs.View.{around_of};
-    ghost use Rattle.loft_instant.specs.View.{standings_of, walk_of};
+    ghost use Rattle.loft_instant.specs.View.{standings_of, runners_of, walk_of};
     ghost use Rattle.loft_instant.specs.Batches.{applied_of};
     ghost use Rattle.loft_instant.specs.States.{machine_with};
 
@@ -101,6 +104,73 @@ impl<I: Interpreter> Setting<I> {
         passes(alloc, &self.interpreter, linked, around)
     }
 
+    /// What stands around the threads when passes over them have run until one runs nobody, where
+    /// they find these values.
+    fn run(
+        &self,
+        alloc: Global,
+        linked: &mut Vec<Runner>,
+        board: Board,
+        shared: Numbers,
+        known: Sequence<ThreadId>,
+        made: u64,
+    ) -> Result<Around, NoMemory>
+        requires { made ≤ 2 ^ 63 }
+        ensures { IfOk result (λ around. walk_of linked.new.items around false
+            ≡ passes_over (I.program self.now.interpreter)
+            (map (begin_of self.now.limits.budget) (standings_of linked.old.items))
+            (record {
+              place = SchedPlace self.now.scheduler;
+              board = board;
+              shared = shared;
+              known = known;
+              made = made;
+              entries = 0;
+              acts = [];
+            })) }
+    {
+        let mut around = Around {
+            place: Place::Sched(self.scheduler),
+            board,
+            shared,
+            known,
+            made,
+            entries: 0,
+            steps: 0,
+            bound: 0,
+            acts: Sequence::new(alloc),
+        };
+        self.pass(alloc, linked, &mut around)?;
+        Ok(around)
+    }
+
+    /// The threads close, and all that was done is sent. Answers how the threads that ran stand, and
+    /// which shared variables have another value than before.
+    fn close(
+        &self,
+        alloc: Global,
+        linked: &mut Vec<Runner>,
+        sent: &mut Sents,
+        around: &Around,
+        before: &[i64],
+    ) -> Result<(Threads, Changes), NoMemory>
+        ensures linked { OnOk result (standings_of linked.new.items
+            ≡ map closed (filter stays (runners_of linked.old.items))) }
+        ensures stands { IfOk result (λ did. did.0
+            ≡ map closed_thread (filter has_run (filter stays (runners_of linked.old.items)))) }
+        ensures sent { OnOk result (sent.new
+            ≡ (sent.old ++ sent_by (SchedPlace self.now.scheduler) around.now.acts)
+            ++ leavers (runners_of linked.old.items)) }
+        ensures changed { IfOk result (λ did. did.1 ≡ changes_in
+            (shared_of (heads_of (I.program self.now.interpreter)) self.now.scheduler)
+            before.now around.now.shared) }
+    {
+        tell_all(alloc, self.scheduler, sent, around.acts.as_slice())?;
+        let stands = close_all(alloc, linked, sent)?;
+        let changed = changes(alloc, self.own.as_slice(), before, around.shared.as_slice())?;
+        Ok((stands, changed))
+    }
+
     /// One instant of a scheduler in this state.
     pub fn instant(
         &self,
@@ -138,38 +208,23 @@ impl<I: Interpreter> Setting<I> {
             stopped,
             mut sent,
         } = self.apply(alloc, linked, known, board, orders)?;
-        let mut around = Around {
-            place: Place::Sched(self.scheduler),
-            board,
-            shared,
-            known,
-            made,
-            entries: 0,
-            steps: 0,
-            bound: 0,
-            acts: Sequence::new(alloc),
-        };
-        self.pass(alloc, &mut linked, &mut around)?;
+        let around = self.run(alloc, &mut linked, board, shared, known, made)?;
+        let (stands, changed) = self.close(
+            alloc,
+            &mut linked,
+            &mut sent,
+            &around,
+            before.as_slice(),
+        )?;
         let Around {
-            place: _,
             mut board,
             shared,
             known,
             made,
-            entries: _,
-            steps: _,
-            bound: _,
             acts,
+            ..
         } = around;
         board.reset();
-        tell_all(alloc, self.scheduler, &mut sent, acts.as_slice())?;
-        let stands = close_all(alloc, &mut linked, &mut sent)?;
-        let changed = changes(
-            alloc,
-            self.own.as_slice(),
-            before.as_slice(),
-            shared.as_slice(),
-        )?;
         let number = number + 1;
         let note = InstantNote {
             number,

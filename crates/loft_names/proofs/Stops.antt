@@ -6,8 +6,6 @@ use Rattle.loft_tree.specs.declared.named.NamedStmt.{NamedStmt}
 use Rattle.loft_tree.specs.View.{statement_of, statements_of}
 use Rattle.loft_tree.specs.NamedView as view
 use Rattle.loft_tree.specs.NamedTree as n
-use Rattle.loft_tree.proofs.Trees.{statements}
-use Rattle.loft_tree.proofs.NamedTrees.{named_statements}
 use Rattle.loft_names.specs.Scopes.{Declared, Scope}
 use Rattle.loft_names.specs.Numbers as numbers
 use Rattle.loft_names.specs.Numbers.{stops_in, body_stops}
@@ -63,5 +61,3 @@ pub all_done : (ds : List Declared) (scope : Scope) (ss : List Stmt) (first so_f
     → view.statements_of done ≡ numbers.body_of ds scope (statements_of ss) first
 all_done ds scope ss first so_far done rest none numbered =
     sym (put_before-Done (map view.statement_of done)) ∙ ap (λ xs. put_before (map view.statement_of done) (numbers.body_of ds scope (statements_of xs) so_far)) (sym none) ∙ numbered.body
-
-pub ruleset numbered_statements = (statements, named_statements)

@@ -7,12 +7,13 @@ ghost use Rattle.loft_tree.specs.Fits.{SourceFits};
 ghost use Rattle.loft_names.specs.Numbers.{numbered};
 ghost use Rattle.loft_names.specs.Scopes.{declared};
 ghost use Rattle.loft_names.specs.Faults.{NameFault, NamesFit};
-ghost use Rattle.loft_names.specs.declared.error.NameError.TheVariants.{NoMemory};
+ghost use Rattle.loft_names.specs.declared.error.NameError.TheVariants.{NoMemory as no_memory};
 
 use crate::error::NameError;
 use crate::names::declared_names;
 use crate::numbers::{heads, links, modules};
 use crate::table::Table;
+use loft_base::NoMemory;
 use loft_tree::{Item, Named, NamedProgram, Program};
 use std::alloc::Global;
 
@@ -21,7 +22,7 @@ fn checked<'a>(alloc: Global, items: &'a [Item]) -> Result<Table<'a>, NameError>
     requires { SourceFits (source_of items.now) }
     ensures table { IfOk result (λ table. table ≡ declared (source_of items.now)) }
     ensures fits { OnOk result (NamesFit (source_of items.now)) }
-    ensures fault { IfErr result (λ e. e ≢ NoMemory → NameFault (source_of items.now) e) }
+    ensures fault { IfErr result (λ e. e ≢ no_memory → NameFault (source_of items.now) e) }
 {
     let (table, least) = declared_names(alloc, items)?;
     if !table.has_scheduler() {
@@ -31,6 +32,19 @@ fn checked<'a>(alloc: Global, items: &'a [Item]) -> Result<Table<'a>, NameError>
         Some(fault) => Err(fault),
         None => Ok(table),
     }
+}
+
+/// The program with numbers in place of names, where the table has its declarations.
+fn named(alloc: Global, table: &Table, items: &[Item]) -> Result<NamedProgram, NoMemory>
+    requires table { table.now ≡ declared (source_of items.now) }
+    requires fits { SourceFits (source_of items.now) }
+    ensures { IfOk result (λ n. program_of n ≡ numbered (source_of items.now)) }
+{
+    Ok(NamedProgram {
+        links: links(alloc, items)?,
+        modules: modules(alloc, table, items)?,
+        heads: heads(alloc, table, items)?,
+    })
 }
 
 /// The program with numbers in place of names (docs/LANGUAGE.md, "Numbers of names"), where
@@ -45,14 +59,11 @@ pub fn resolve(alloc: Global, p: Program) -> Result<Named, NameError>
     ensures numbers { IfOk result (λ n. program_of n ≡ numbered (source_of p)) }
 
     // Only running out of memory is free.
-    ensures fault { IfErr result (λ e. e ≢ NoMemory → NameFault (source_of p) e) }
-    ensures memory { NamesFit (source_of p) → IfErr result (λ e. e ≡ NoMemory) }
+    ensures fault { IfErr result (λ e. e ≢ no_memory → NameFault (source_of p) e) }
+    ensures memory { NamesFit (source_of p) → IfErr result (λ e. e ≡ no_memory) }
 {
     let items = p.items();
     let table = checked(alloc, items)?;
-    Ok(Named::new(NamedProgram {
-        heads: heads(alloc, &table, items)?,
-        modules: modules(alloc, &table, items)?,
-        links: links(alloc, items)?,
-    }))
+    let program = named(alloc, &table, items)?;
+    Ok(Named::new(program))
 }

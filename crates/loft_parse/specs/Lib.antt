@@ -2,6 +2,7 @@ pub mod Counts
 pub mod Language
 pub mod Grammar
 pub mod Levels
+pub mod Ends
 pub mod Alone
 pub mod Source
 pub mod View

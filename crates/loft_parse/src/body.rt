@@ -4,8 +4,9 @@ ghost use Rattle.std.specs.Option.{option_map};
 ghost use Rattle.loft_tree.specs.View.{expression_of, statement_of};
 ghost use Rattle.loft_form.specs.Form.{maybe};
 ghost use Rattle.loft_form.specs.Reading.{Gives};
-ghost use Rattle.loft_parse.specs.Grammar.{condition, conditional, while_loop, repeat, moving_statement, statement, body, otherwise, branches, turns};
-ghost use Rattle.loft_parse.specs.View.{reads, viewed, statement_list_of, branches_of, turns_of};
+ghost use Rattle.loft_parse.specs.Ends.{looped, looped_of};
+ghost use Rattle.loft_parse.specs.Grammar.{condition, conditional, moving_statement, statement, body, otherwise, branches};
+ghost use Rattle.loft_parse.specs.View.{reads, viewed, statement_list_of, branches_of};
 
 use crate::cursor::Cursor;
 use crate::event_statement::event_statement;
@@ -38,7 +39,7 @@ fn condition<'a, L: Limited>(
 }
 
 #[cycle(statement)]
-#[tactic(auto, unfolding(crate::specs::Grammar::conditional), using(loft_tree::proofs::Trees::statements, crate::proofs::Inside::inside_is))]
+#[tactic(auto, unfolding(crate::specs::Grammar::conditional), using(loft_tree::proofs::Trees::statement_if, crate::proofs::Inside::inside_is))]
 fn conditional<'a, L: Limited>(
     alloc: Global,
     deeper: u32,
@@ -64,52 +65,27 @@ fn conditional<'a, L: Limited>(
     ))
 }
 
+/// Reads a statement that begins with this word and repeats a body: its place, its expression and its body.
 #[cycle(statement)]
-#[tactic(auto, unfolding(crate::specs::Grammar::while_loop), using(loft_tree::proofs::Trees::statements, crate::proofs::Inside::inside_is))]
-fn while_loop<'a, L: Limited>(
+#[tactic(auto, unfolding(crate::specs::Grammar::turns), using(crate::proofs::Inside::inside_is))]
+fn looped<'a, L: Limited>(
     alloc: Global,
     deeper: u32,
+    wanted: Word,
     at: Cursor<'a>,
-) -> Result<(Stmt, Cursor<'a>), Stop>
-    ensures { Gives (viewed statement_of) result (reads L.limits deeper while_loop at.entry) }
+) -> Result<((u32, Expr, Vec<Stmt>), Cursor<'a>), Stop>
+    ensures { Gives (viewed looped_of) result (reads L.limits deeper (looped wanted) at.entry) }
 {
-    let (place, at) = opening_word::<L>(deeper, Word::While, at)?;
-    let ((test, body), at) = turns::<L>(alloc, deeper - 1, at)?;
+    let (place, at) = opening_word::<L>(deeper, wanted, at)?;
+    let (e, at) = condition::<L>(alloc, deeper - 1, at)?;
+    let at = word::<L>(Word::Do, at)?;
+    let (body, at) = body::<L>(alloc, deeper - 1, at)?;
     let at = word::<L>(Word::End, at)?;
-    Ok((
-        Stmt::While {
-            at: place,
-            test,
-            body,
-        },
-        at,
-    ))
+    Ok(((place, e, body), at))
 }
 
 #[cycle(statement)]
-#[tactic(auto, unfolding(crate::specs::Grammar::repeat), using(loft_tree::proofs::Trees::statements, crate::proofs::Inside::inside_is))]
-fn repeat<'a, L: Limited>(
-    alloc: Global,
-    deeper: u32,
-    at: Cursor<'a>,
-) -> Result<(Stmt, Cursor<'a>), Stop>
-    ensures { Gives (viewed statement_of) result (reads L.limits deeper repeat at.entry) }
-{
-    let (place, at) = opening_word::<L>(deeper, Word::Repeat, at)?;
-    let ((count, body), at) = turns::<L>(alloc, deeper - 1, at)?;
-    let at = word::<L>(Word::End, at)?;
-    Ok((
-        Stmt::Repeat {
-            at: place,
-            count,
-            body,
-        },
-        at,
-    ))
-}
-
-#[cycle(statement)]
-#[tactic(auto, unfolding(crate::specs::Grammar::moving_statement, crate::specs::Grammar::link, crate::specs::Grammar::unlink, crate::specs::Grammar::conditional, crate::specs::Grammar::while_loop))]
+#[tactic(auto, unfolding(crate::specs::Grammar::moving_statement, crate::specs::Grammar::link, crate::specs::Grammar::unlink, crate::specs::Grammar::conditional, crate::specs::Grammar::while_loop, crate::specs::Grammar::repeat), using(loft_tree::proofs::Trees::statement_while, loft_tree::proofs::Trees::statement_repeat))]
 fn moving_statement<'a, L: Limited>(
     alloc: Global,
     deeper: u32,
@@ -124,9 +100,25 @@ fn moving_statement<'a, L: Limited>(
     } else if next_is_word(Word::If, &at) {
         conditional::<L>(alloc, deeper, at)
     } else if next_is_word(Word::While, &at) {
-        while_loop::<L>(alloc, deeper, at)
+        let ((place, test, body), at) = looped::<L>(alloc, deeper, Word::While, at)?;
+        Ok((
+            Stmt::While {
+                at: place,
+                test,
+                body,
+            },
+            at,
+        ))
     } else {
-        repeat::<L>(alloc, deeper, at)
+        let ((place, count, body), at) = looped::<L>(alloc, deeper, Word::Repeat, at)?;
+        Ok((
+            Stmt::Repeat {
+                at: place,
+                count,
+                body,
+            },
+            at,
+        ))
     }
 }
 
@@ -203,19 +195,4 @@ fn branches<'a, L: Limited>(
     let (first, at) = body::<L>(alloc, deeper, at)?;
     let (second, at) = otherwise::<L>(alloc, deeper, at)?;
     Ok(((test, first, second), at))
-}
-
-#[cycle(statement)]
-#[tactic(auto, unfolding(crate::specs::Grammar::turns))]
-fn turns<'a, L: Limited>(
-    alloc: Global,
-    deeper: u32,
-    at: Cursor<'a>,
-) -> Result<((Expr, Vec<Stmt>), Cursor<'a>), Stop>
-    ensures { Gives (viewed turns_of) result (reads L.limits deeper turns at.entry) }
-{
-    let (test, at) = condition::<L>(alloc, deeper, at)?;
-    let at = word::<L>(Word::Do, at)?;
-    let (body, at) = body::<L>(alloc, deeper, at)?;
-    Ok(((test, body), at))
 }

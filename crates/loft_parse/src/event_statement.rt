@@ -3,6 +3,7 @@
 ghost use Rattle.loft_tree.specs.View.{event_name_of, statement_of};
 ghost use Rattle.loft_form.specs.Form.{many};
 ghost use Rattle.loft_form.specs.Reading.{Gives};
+ghost use Rattle.loft_parse.specs.Ends.{get_end, get_end_of};
 ghost use Rattle.loft_parse.specs.Grammar.{counting, event_name, further, generate, await_event, choice, choices, select, get, broadcast, event_statement};
 ghost use Rattle.loft_parse.specs.View.{reads, reads_flat, viewed, with_front, event_names_of};
 
@@ -11,11 +12,11 @@ use crate::cursor::Cursor;
 use crate::expression::whole;
 use crate::limited::Limited;
 use crate::lookahead::{next_is_sign, next_is_word};
-use crate::optional::{optional_limit, optional_value};
+use crate::optional::{limit_end, name_end, value_end};
 use crate::token::{first_word, name, sign, word};
 use loft_form::Stop;
 use loft_lex::{Sign, Word};
-use loft_tree::{EventName, Stmt};
+use loft_tree::{EventName, Expr, Ident, Stmt};
 use std::alloc::Global;
 
 /// Reads the name of an event.
@@ -31,7 +32,7 @@ pub fn event_name<'a, L: Limited>(
     Ok((EventName { name }, at))
 }
 
-#[tactic(auto, unfolding(crate::specs::Grammar::generate), using(loft_tree::proofs::Trees::statements))]
+#[tactic(auto, unfolding(crate::specs::Grammar::generate), using(loft_tree::proofs::Trees::statement_generate))]
 fn generate<'a, L: Limited>(
     alloc: Global,
     deeper: u32,
@@ -41,8 +42,7 @@ fn generate<'a, L: Limited>(
 {
     let (place, at) = first_word::<L>(Counted::Statement, Word::Generate, at)?;
     let (event, at) = event_name::<L>(alloc, None, at)?;
-    let (value, at) = optional_value::<L>(alloc, deeper, at)?;
-    let at = sign::<L>(Sign::Semicolon, at)?;
+    let (value, at) = value_end::<L>(alloc, deeper, at)?;
     Ok((
         Stmt::Generate {
             at: place,
@@ -53,7 +53,7 @@ fn generate<'a, L: Limited>(
     ))
 }
 
-#[tactic(auto, unfolding(crate::specs::Grammar::await_event), using(loft_tree::proofs::Trees::statements))]
+#[tactic(auto, unfolding(crate::specs::Grammar::await_event), using(loft_tree::proofs::Trees::statement_await))]
 fn await_event<'a, L: Limited>(
     alloc: Global,
     deeper: u32,
@@ -63,8 +63,7 @@ fn await_event<'a, L: Limited>(
 {
     let (place, at) = first_word::<L>(Counted::Statement, Word::Await, at)?;
     let (event, at) = event_name::<L>(alloc, None, at)?;
-    let (limit, at) = optional_limit::<L>(alloc, deeper, at)?;
-    let at = sign::<L>(Sign::Semicolon, at)?;
+    let (limit, at) = limit_end::<L>(alloc, deeper, at)?;
     Ok((
         Stmt::Await {
             at: place,
@@ -126,7 +125,7 @@ fn choices<'a, L: Limited>(
     further_choices::<L>(alloc, events, at)
 }
 
-#[tactic(auto, unfolding(crate::specs::Grammar::select, crate::specs::Grammar::choices, crate::specs::Grammar::choice), using(loft_tree::proofs::Trees::statements))]
+#[tactic(auto, unfolding(crate::specs::Grammar::select, crate::specs::Grammar::choices, crate::specs::Grammar::choice), using(loft_tree::proofs::Trees::statement_select))]
 fn select<'a, L: Limited>(
     alloc: Global,
     deeper: u32,
@@ -136,8 +135,7 @@ fn select<'a, L: Limited>(
 {
     let (place, at) = first_word::<L>(Counted::Statement, Word::Select, at)?;
     let (events, at) = choices::<L>(alloc, at.anew(Counted::Choice))?;
-    let (limit, at) = optional_limit::<L>(alloc, deeper, at)?;
-    let at = sign::<L>(Sign::Semicolon, at)?;
+    let (limit, at) = limit_end::<L>(alloc, deeper, at)?;
     Ok((
         Stmt::Select {
             at: place,
@@ -148,7 +146,21 @@ fn select<'a, L: Limited>(
     ))
 }
 
-#[tactic(auto, unfolding(crate::specs::Grammar::get), using(loft_tree::proofs::Trees::statements))]
+/// Reads what stands after the event of a `get`.
+fn get_end<'a, L: Limited>(
+    alloc: Global,
+    deeper: u32,
+    at: Cursor<'a>,
+) -> Result<((Expr, Ident), Cursor<'a>), Stop>
+    ensures { Gives (viewed get_end_of) result (reads L.limits deeper get_end at.entry) }
+{
+    let at = word::<L>(Word::At, at)?;
+    let (index, at) = whole::<L>(alloc, deeper, at)?;
+    let (target, at) = name_end::<L>(alloc, Word::Into, at)?;
+    Ok(((index, target), at))
+}
+
+#[tactic(auto, unfolding(crate::specs::Grammar::get), using(loft_tree::proofs::Trees::statement_get))]
 fn get<'a, L: Limited>(
     alloc: Global,
     deeper: u32,
@@ -158,11 +170,7 @@ fn get<'a, L: Limited>(
 {
     let (place, at) = first_word::<L>(Counted::Statement, Word::Get, at)?;
     let (event, at) = event_name::<L>(alloc, None, at)?;
-    let at = word::<L>(Word::At, at)?;
-    let (index, at) = whole::<L>(alloc, deeper, at)?;
-    let at = word::<L>(Word::Into, at)?;
-    let (target, at) = name::<L>(alloc, None, at)?;
-    let at = sign::<L>(Sign::Semicolon, at)?;
+    let ((index, target), at) = get_end::<L>(alloc, deeper, at)?;
     Ok((
         Stmt::Get {
             at: place,
@@ -174,7 +182,7 @@ fn get<'a, L: Limited>(
     ))
 }
 
-#[tactic(auto, unfolding(crate::specs::Grammar::broadcast), using(loft_tree::proofs::Trees::statements))]
+#[tactic(auto, unfolding(crate::specs::Grammar::broadcast), using(loft_tree::proofs::Trees::statement_broadcast))]
 fn broadcast<'a, L: Limited>(
     alloc: Global,
     deeper: u32,
@@ -184,8 +192,7 @@ fn broadcast<'a, L: Limited>(
 {
     let (place, at) = first_word::<L>(Counted::Statement, Word::Broadcast, at)?;
     let (event, at) = event_name::<L>(alloc, None, at)?;
-    let (value, at) = optional_value::<L>(alloc, deeper, at)?;
-    let at = sign::<L>(Sign::Semicolon, at)?;
+    let (value, at) = value_end::<L>(alloc, deeper, at)?;
     Ok((
         Stmt::Broadcast {
             at: place,
@@ -197,7 +204,7 @@ fn broadcast<'a, L: Limited>(
 }
 
 /// Reads a statement about events.
-#[tactic(auto, unfolding(crate::specs::Grammar::event_statement, crate::specs::Grammar::generate, crate::specs::Grammar::await_event, crate::specs::Grammar::select, crate::specs::Grammar::get), using(loft_tree::proofs::Trees::statements))]
+#[tactic(auto, unfolding(crate::specs::Grammar::event_statement, crate::specs::Grammar::generate, crate::specs::Grammar::await_event, crate::specs::Grammar::select, crate::specs::Grammar::get))]
 pub fn event_statement<'a, L: Limited>(
     alloc: Global,
     deeper: u32,

@@ -1,10 +1,11 @@
 //! Reading expressions.
 
 ghost use Rattle.std.specs.Prelude.{◌≡◌, IfOk};
-ghost use Rattle.loft_tree.specs.Source.{Binary};
+ghost use Rattle.loft_tree.specs.Source.{Binary, Unary};
 ghost use Rattle.loft_tree.specs.View.{expression_of};
 ghost use Rattle.loft_form.specs.Reading.{Gives};
-ghost use Rattle.loft_parse.specs.Grammar.{special, builtin, bracketed, atom, negated, inverted, unary, compared, comparison, whole};
+ghost use Rattle.loft_parse.specs.Ends.{prefixed};
+ghost use Rattle.loft_parse.specs.Grammar.{special, builtin, bracketed, atom, unary, compared, comparison, whole};
 ghost use Rattle.loft_parse.specs.Levels.{operand_at, operation_at, chain_at};
 ghost use Rattle.loft_parse.specs.View.{reads, reads_flat, viewed, operation_of};
 
@@ -36,6 +37,23 @@ fn binary(
         operator,
         left: Box::new(alloc, left)?,
         right: Box::new(alloc, right)?,
+    })
+}
+
+/// An operator before its operand.
+#[inline(always)]
+fn before(
+    alloc: Global,
+    at: u32,
+    operator: UnaryOperator,
+    operand: Expr,
+) -> Result<Expr, AllocError>
+    ensures { IfOk result (λ e. expression_of e ≡ Unary at operator (expression_of operand)) }
+{
+    Ok(Expr::Unary {
+        at,
+        operator,
+        operand: Box::new(alloc, operand)?,
     })
 }
 
@@ -101,46 +119,22 @@ fn atom<'a, L: Limited>(
     }
 }
 
+/// Reads this operator before its operand.
 #[cycle(expression)]
-#[tactic(auto, unfolding(crate::specs::Grammar::negated), using(crate::proofs::Inside::inside_is))]
-fn negated<'a, L: Limited>(
+#[tactic(auto, using(crate::proofs::Inside::inside_is))]
+fn prefixed<'a, L: Limited>(
     alloc: Global,
     deeper: u32,
+    wanted: Sign,
+    operator: UnaryOperator,
     at: Cursor<'a>,
 ) -> Result<(Expr, Cursor<'a>), Stop>
-    ensures { Gives (viewed expression_of) result (reads L.limits deeper negated at.entry) }
+    ensures { Gives (viewed expression_of) result
+        (reads L.limits deeper (prefixed wanted operator) at.entry) }
 {
-    let (place, at) = opening_sign::<L>(deeper, Sign::Minus, at)?;
+    let (place, at) = opening_sign::<L>(deeper, wanted, at)?;
     let (operand, at) = unary::<L>(alloc, deeper - 1, at)?;
-    Ok((
-        Expr::Unary {
-            at: place,
-            operator: UnaryOperator::Minus,
-            operand: Box::new(alloc, operand)?,
-        },
-        at,
-    ))
-}
-
-#[cycle(expression)]
-#[tactic(auto, unfolding(crate::specs::Grammar::inverted), using(crate::proofs::Inside::inside_is))]
-fn inverted<'a, L: Limited>(
-    alloc: Global,
-    deeper: u32,
-    at: Cursor<'a>,
-) -> Result<(Expr, Cursor<'a>), Stop>
-    ensures { Gives (viewed expression_of) result (reads L.limits deeper inverted at.entry) }
-{
-    let (place, at) = opening_sign::<L>(deeper, Sign::Not, at)?;
-    let (operand, at) = unary::<L>(alloc, deeper - 1, at)?;
-    Ok((
-        Expr::Unary {
-            at: place,
-            operator: UnaryOperator::Not,
-            operand: Box::new(alloc, operand)?,
-        },
-        at,
-    ))
+    Ok((before(alloc, place, operator, operand)?, at))
 }
 
 #[cycle(expression)]
@@ -154,9 +148,9 @@ fn unary<'a, L: Limited>(
     ensures { Gives (viewed expression_of) result (reads L.limits deeper unary at.entry) }
 {
     if next_is_sign(Sign::Minus, &at) {
-        negated::<L>(alloc, deeper, at)
+        prefixed::<L>(alloc, deeper, Sign::Minus, UnaryOperator::Minus, at)
     } else if next_is_sign(Sign::Not, &at) {
-        inverted::<L>(alloc, deeper, at)
+        prefixed::<L>(alloc, deeper, Sign::Not, UnaryOperator::Not, at)
     } else {
         atom::<L>(alloc, deeper, at)
     }

@@ -7,6 +7,7 @@ ghost use Rattle.loft_tree.specs.Fits.{same_place};
 ghost use Rattle.loft_form.specs.Form.{maybe, many, fresh};
 ghost use Rattle.loft_form.specs.Reading.{Gives};
 ghost use Rattle.loft_parse.specs.Source.{limits};
+ghost use Rattle.loft_parse.specs.Ends.{head_end, head_end_of};
 ghost use Rattle.loft_parse.specs.Grammar.{kind, parameter, further, listed, parameters, local, place, ending, end_of, head};
 ghost use Rattle.loft_parse.specs.View.{reads_flat, viewed, itself, with_front, variables_of};
 
@@ -149,6 +150,19 @@ fn optional_ending<'a>(
     }
 }
 
+/// Reads where the threads of a module begin and end, as they are written.
+fn head_end<'a>(
+    alloc: Global,
+    at: Cursor<'a>,
+) -> Result<((PlaceName, Option<PlaceName>), Cursor<'a>), Stop>
+    ensures { Gives (viewed head_end_of) result (reads_flat limits head_end at.entry) }
+{
+    let at = word::<SourceLimits>(Word::In, at)?;
+    let (begin, at) = place(alloc, at)?;
+    let (end, at) = optional_ending(alloc, at)?;
+    Ok(((begin, end), at))
+}
+
 /// Whether both mean the same place.
 fn same_place(begin: &PlaceName, end: &PlaceName) -> bool
     ensures { result ≡ same_place (place_name_of begin.now) (place_name_of end.now) }
@@ -184,9 +198,7 @@ pub fn head<'a>(alloc: Global, at: Cursor<'a>) -> Result<(ModuleHead, Cursor<'a>
     let (_, at) = first_word::<SourceLimits>(Counted::Module, Word::Module, at)?;
     let (name, at) = name::<SourceLimits>(alloc, None, at)?;
     let (parameters, at) = parameters(alloc, at)?;
-    let at = word::<SourceLimits>(Word::In, at)?;
-    let (begin, at) = place(alloc, at)?;
-    let (end, at) = optional_ending(alloc, at)?;
+    let ((begin, end), at) = head_end(alloc, at)?;
     let end = other_end(&begin, end);
     Ok((
         ModuleHead {

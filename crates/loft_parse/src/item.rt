@@ -4,6 +4,7 @@ ghost use Rattle.loft_tree.specs.View.{declaration_of};
 ghost use Rattle.loft_form.specs.Form.{maybe};
 ghost use Rattle.loft_form.specs.Reading.{Gives};
 ghost use Rattle.loft_parse.specs.Source.{limits, nesting};
+ghost use Rattle.loft_parse.specs.Ends.{body_end, shared_end, start_end, body_end_of, shared_end_of, start_end_of};
 ghost use Rattle.loft_parse.specs.Grammar.{module_item, scheduler_item, event_item, shared_item, alias, start_item, outside_item, item, program};
 ghost use Rattle.loft_parse.specs.View.{reads, reads_flat, viewed, itself, declarations_of};
 
@@ -14,16 +15,26 @@ use crate::cursor::Cursor;
 use crate::head::{head, locals};
 use crate::limited::SourceLimits;
 use crate::lookahead::{next_is_word, next_item};
+use crate::optional::name_end;
 use crate::order::orders;
 use crate::token::{first_word, name, sign, word};
 use loft_form::Stop;
 use loft_lex::{Sign, Word};
 use loft_tree::limits::MAX_NESTING;
-use loft_tree::{Ident, Item};
+use loft_tree::{Argument, Ident, Item, Stmt};
 use std::alloc::Global;
 
 /// How many nestings may be open.
 pub const NESTING: u32 = MAX_NESTING as u32;
+
+/// Reads the body of a module, and the word after it.
+fn body_end<'a>(alloc: Global, at: Cursor<'a>) -> Result<(Vec<Stmt>, Cursor<'a>), Stop>
+    ensures { Gives (viewed body_end_of) result (reads limits nesting body_end at.entry) }
+{
+    let (body, at) = body::<SourceLimits>(alloc, NESTING, at.anew(Counted::Statement))?;
+    let at = word::<SourceLimits>(Word::End, at)?;
+    Ok((body, at))
+}
 
 #[tactic(auto, unfolding(crate::specs::Grammar::module_item), using(crate::proofs::Flat::flat_head))]
 fn module_item<'a>(alloc: Global, at: Cursor<'a>) -> Result<(Item, Cursor<'a>), Stop>
@@ -31,8 +42,7 @@ fn module_item<'a>(alloc: Global, at: Cursor<'a>) -> Result<(Item, Cursor<'a>), 
 {
     let (head, at) = head(alloc, at)?;
     let (locals, at) = locals(alloc, at)?;
-    let (body, at) = body::<SourceLimits>(alloc, NESTING, at.anew(Counted::Statement))?;
-    let at = word::<SourceLimits>(Word::End, at)?;
+    let (body, at) = body_end(alloc, at)?;
     Ok((Item::Module { head, locals, body }, at))
 }
 
@@ -52,9 +62,7 @@ fn event_item<'a>(alloc: Global, at: Cursor<'a>) -> Result<(Item, Cursor<'a>), S
 {
     let (_, at) = first_word::<SourceLimits>(Counted::Event, Word::Event, at)?;
     let (event, at) = name::<SourceLimits>(alloc, None, at)?;
-    let at = word::<SourceLimits>(Word::In, at)?;
-    let (scheduler, at) = name::<SourceLimits>(alloc, None, at)?;
-    let at = sign::<SourceLimits>(Sign::Semicolon, at)?;
+    let (scheduler, at) = name_end::<SourceLimits>(alloc, Word::In, at)?;
     Ok((
         Item::Event {
             name: event,
@@ -64,17 +72,26 @@ fn event_item<'a>(alloc: Global, at: Cursor<'a>) -> Result<(Item, Cursor<'a>), S
     ))
 }
 
+/// Reads what stands after the name of a shared variable: its scheduler, and its value with the offset of that.
+#[tactic(auto, unfolding(crate::specs::Grammar::signed, crate::specs::Grammar::negative))]
+fn shared_end<'a>(alloc: Global, at: Cursor<'a>) -> Result<((Ident, (u32, i64)), Cursor<'a>), Stop>
+    ensures { Gives (viewed shared_end_of) result (reads limits nesting shared_end at.entry) }
+{
+    let at = word::<SourceLimits>(Word::In, at)?;
+    let (scheduler, at) = name::<SourceLimits>(alloc, None, at)?;
+    let at = sign::<SourceLimits>(Sign::Equals, at)?;
+    let (value, at) = signed(at)?;
+    let at = sign::<SourceLimits>(Sign::Semicolon, at)?;
+    Ok(((scheduler, value), at))
+}
+
 #[tactic(auto, unfolding(crate::specs::Grammar::shared_item, crate::specs::Grammar::signed, crate::specs::Grammar::negative))]
 fn shared_item<'a>(alloc: Global, at: Cursor<'a>) -> Result<(Item, Cursor<'a>), Stop>
     ensures { Gives (viewed declaration_of) result (reads limits nesting shared_item at.entry) }
 {
     let (_, at) = first_word::<SourceLimits>(Counted::Shared, Word::Shared, at)?;
     let (shared, at) = name::<SourceLimits>(alloc, None, at)?;
-    let at = word::<SourceLimits>(Word::In, at)?;
-    let (scheduler, at) = name::<SourceLimits>(alloc, None, at)?;
-    let at = sign::<SourceLimits>(Sign::Equals, at)?;
-    let ((_, value), at) = signed(at)?;
-    let at = sign::<SourceLimits>(Sign::Semicolon, at)?;
+    let ((scheduler, (_, value)), at) = shared_end(alloc, at)?;
     Ok((
         Item::Shared {
             name: shared,
@@ -99,6 +116,20 @@ fn optional_alias<'a>(alloc: Global, at: Cursor<'a>) -> Result<(Option<Ident>, C
     }
 }
 
+/// Reads what stands after the module of a start.
+#[tactic(auto, unfolding(crate::specs::Grammar::alias), using(crate::proofs::Flat::flat_arguments))]
+fn start_end<'a>(
+    alloc: Global,
+    at: Cursor<'a>,
+) -> Result<((Vec<Argument>, Option<Ident>), Cursor<'a>), Stop>
+    ensures { Gives (viewed start_end_of) result (reads limits nesting start_end at.entry) }
+{
+    let (arguments, at) = outer_arguments(alloc, at)?;
+    let (name, at) = optional_alias(alloc, at)?;
+    let at = sign::<SourceLimits>(Sign::Semicolon, at)?;
+    Ok(((arguments, name), at))
+}
+
 #[tactic(auto, unfolding(crate::specs::Grammar::start_item, crate::specs::Grammar::alias), using(crate::proofs::Flat::flat_arguments))]
 fn start_item<'a>(alloc: Global, at: Cursor<'a>) -> Result<(Item, Cursor<'a>), Stop>
     ensures { Gives (viewed declaration_of) result (reads limits nesting start_item at.entry) }
@@ -107,9 +138,7 @@ fn start_item<'a>(alloc: Global, at: Cursor<'a>) -> Result<(Item, Cursor<'a>), S
     let (scheduler, at) = name::<SourceLimits>(alloc, None, at)?;
     let at = sign::<SourceLimits>(Sign::Dot, at)?;
     let (called, at) = name::<SourceLimits>(alloc, None, at)?;
-    let (arguments, at) = outer_arguments(alloc, at)?;
-    let (name, at) = optional_alias(alloc, at)?;
-    let at = sign::<SourceLimits>(Sign::Semicolon, at)?;
+    let ((arguments, name), at) = start_end(alloc, at)?;
     Ok((
         Item::Start {
             scheduler,

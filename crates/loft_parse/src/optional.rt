@@ -3,17 +3,18 @@
 ghost use Rattle.loft_tree.specs.View.{value_of};
 ghost use Rattle.loft_form.specs.Form.{maybe};
 ghost use Rattle.loft_form.specs.Reading.{Gives};
+ghost use Rattle.loft_parse.specs.Ends.{name_end, value_end, limit_end, name_end_of, value_end_of};
 ghost use Rattle.loft_parse.specs.Grammar.{whole, behind_comma, time_limit};
-ghost use Rattle.loft_parse.specs.View.{reads, viewed};
+ghost use Rattle.loft_parse.specs.View.{reads, reads_flat, viewed};
 
 use crate::cursor::Cursor;
 use crate::expression::whole;
 use crate::limited::Limited;
 use crate::lookahead::{next_expression, next_is_sign, next_is_word};
-use crate::token::{sign, word};
+use crate::token::{name, sign, word};
 use loft_form::Stop;
 use loft_lex::{Sign, Word};
-use loft_tree::Expr;
+use loft_tree::{Expr, Ident};
 use std::alloc::Global;
 
 /// Reads an expression, if one begins here.
@@ -52,7 +53,7 @@ pub fn optional_value<'a, L: Limited>(
 
 /// Reads `for` and an expression, if `for` stands here.
 #[tactic(auto, unfolding(crate::specs::Grammar::time_limit))]
-pub fn optional_limit<'a, L: Limited>(
+fn optional_limit<'a, L: Limited>(
     alloc: Global,
     deeper: u32,
     at: Cursor<'a>,
@@ -66,4 +67,46 @@ pub fn optional_limit<'a, L: Limited>(
     } else {
         Ok((None, at))
     }
+}
+
+/// Reads a comma and an expression, if a comma stands here, and the end of the statement.
+#[tactic(auto, unfolding(crate::specs::Grammar::behind_comma))]
+pub fn value_end<'a, L: Limited>(
+    alloc: Global,
+    deeper: u32,
+    at: Cursor<'a>,
+) -> Result<(Option<Expr>, Cursor<'a>), Stop>
+    ensures { Gives (viewed value_end_of) result (reads L.limits deeper value_end at.entry) }
+{
+    let (value, at) = optional_value::<L>(alloc, deeper, at)?;
+    let at = sign::<L>(Sign::Semicolon, at)?;
+    Ok((value, at))
+}
+
+/// Reads `for` and an expression, if `for` stands here, and the end of the statement.
+#[tactic(auto, unfolding(crate::specs::Grammar::time_limit))]
+pub fn limit_end<'a, L: Limited>(
+    alloc: Global,
+    deeper: u32,
+    at: Cursor<'a>,
+) -> Result<(Option<Expr>, Cursor<'a>), Stop>
+    ensures { Gives (viewed value_end_of) result (reads L.limits deeper limit_end at.entry) }
+{
+    let (limit, at) = optional_limit::<L>(alloc, deeper, at)?;
+    let at = sign::<L>(Sign::Semicolon, at)?;
+    Ok((limit, at))
+}
+
+/// Reads the word, a name, and the end of the statement.
+pub fn name_end<'a, L: Limited>(
+    alloc: Global,
+    wanted: Word,
+    at: Cursor<'a>,
+) -> Result<(Ident, Cursor<'a>), Stop>
+    ensures { Gives (viewed name_end_of) result (reads_flat L.limits (name_end wanted) at.entry) }
+{
+    let at = word::<L>(wanted, at)?;
+    let (name, at) = name::<L>(alloc, None, at)?;
+    let at = sign::<L>(Sign::Semicolon, at)?;
+    Ok((name, at))
 }

@@ -5,6 +5,7 @@ ghost use Rattle.std.specs.Prelude.{◌≡◌};
 ghost use Rattle.loft_form.specs.Form.{maybe, many, fresh, next_begins};
 ghost use Rattle.loft_form.specs.Reading.{Gives};
 ghost use Rattle.loft_parse.specs.Source.{limits};
+ghost use Rattle.loft_parse.specs.Ends.{create_end, create_end_of};
 ghost use Rattle.loft_parse.specs.Grammar.{create_order, control_order, value_behind_comma, broadcast_order, order};
 ghost use Rattle.loft_parse.specs.View.{symbols_at, reads_flat, viewed, itself, orders_of};
 
@@ -14,12 +15,27 @@ use crate::cursor::Cursor;
 use crate::event_statement::event_name;
 use crate::limited::SourceLimits;
 use crate::lookahead::{next_control, next_is_sign, next_is_word, next_order};
+use crate::optional::name_end;
 use crate::thread_statement::control_word;
-use crate::token::{first_word, name, sign, word};
+use crate::token::{first_word, name, sign};
 use loft_form::Stop;
 use loft_lex::{Sign, Word};
-use loft_tree::OutsideOrder;
+use loft_tree::{Argument, Ident, OutsideOrder};
 use std::alloc::Global;
+
+/// Reads what stands after the scheduler of an order that creates a thread.
+fn create_end<'a>(
+    alloc: Global,
+    at: Cursor<'a>,
+) -> Result<((Ident, Vec<Argument>), Cursor<'a>), Stop>
+    ensures { Gives (viewed create_end_of) result (reads_flat limits create_end at.entry) }
+{
+    let at = sign::<SourceLimits>(Sign::Dot, at)?;
+    let (called, at) = name::<SourceLimits>(alloc, None, at)?;
+    let (arguments, at) = outer_arguments(alloc, at)?;
+    let at = sign::<SourceLimits>(Sign::Semicolon, at)?;
+    Ok(((called, arguments), at))
+}
 
 #[tactic(auto, unfolding(crate::specs::Grammar::create_order))]
 fn create_order<'a>(alloc: Global, at: Cursor<'a>) -> Result<(OutsideOrder, Cursor<'a>), Stop>
@@ -27,10 +43,7 @@ fn create_order<'a>(alloc: Global, at: Cursor<'a>) -> Result<(OutsideOrder, Curs
 {
     let (_, at) = first_word::<SourceLimits>(Counted::Order, Word::Create, at)?;
     let (scheduler, at) = name::<SourceLimits>(alloc, None, at)?;
-    let at = sign::<SourceLimits>(Sign::Dot, at)?;
-    let (called, at) = name::<SourceLimits>(alloc, None, at)?;
-    let (arguments, at) = outer_arguments(alloc, at)?;
-    let at = sign::<SourceLimits>(Sign::Semicolon, at)?;
+    let ((called, arguments), at) = create_end(alloc, at)?;
     Ok((
         OutsideOrder::Create {
             scheduler,
@@ -47,9 +60,7 @@ fn control_order<'a>(alloc: Global, at: Cursor<'a>) -> Result<(OutsideOrder, Cur
 {
     let ((_, control), at) = control_word::<SourceLimits>(Counted::Order, at)?;
     let (thread, at) = name::<SourceLimits>(alloc, None, at)?;
-    let at = word::<SourceLimits>(Word::In, at)?;
-    let (scheduler, at) = name::<SourceLimits>(alloc, None, at)?;
-    let at = sign::<SourceLimits>(Sign::Semicolon, at)?;
+    let (scheduler, at) = name_end::<SourceLimits>(alloc, Word::In, at)?;
     Ok((
         OutsideOrder::Control {
             control,

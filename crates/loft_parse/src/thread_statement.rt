@@ -1,8 +1,9 @@
 //! Reading statements about threads, and `link` and `unlink`.
 
 ghost use Rattle.loft_tree.specs.View.{statement_of};
+ghost use Rattle.loft_form.specs.Form.{made};
 ghost use Rattle.loft_form.specs.Reading.{Gives};
-ghost use Rattle.loft_parse.specs.Grammar.{cooperate, join, control_word, control, run, halt, link, unlink, thread_statement};
+ghost use Rattle.loft_parse.specs.Grammar.{cooperate, join, first_word, control_word, control, run, halt, link, unlink, thread_statement};
 ghost use Rattle.loft_parse.specs.View.{reads, reads_flat, viewed, itself};
 
 use crate::argument::arguments;
@@ -11,14 +12,14 @@ use crate::cursor::Cursor;
 use crate::expression::whole;
 use crate::limited::Limited;
 use crate::lookahead::{next_control, next_is_word};
-use crate::optional::{optional_limit, optional_whole};
-use crate::token::{first_word, name, sign, word};
+use crate::optional::{limit_end, name_end, optional_whole};
+use crate::token::{first_word, name, sign};
 use loft_form::Stop;
 use loft_lex::{Sign, Word};
 use loft_tree::{Control, Stmt};
 use std::alloc::Global;
 
-#[tactic(auto, unfolding(crate::specs::Grammar::cooperate), using(loft_tree::proofs::Trees::statements))]
+#[tactic(auto, unfolding(crate::specs::Grammar::cooperate), using(loft_tree::proofs::Trees::statement_cooperate))]
 fn cooperate<'a, L: Limited>(
     alloc: Global,
     deeper: u32,
@@ -38,7 +39,7 @@ fn cooperate<'a, L: Limited>(
     ))
 }
 
-#[tactic(auto, unfolding(crate::specs::Grammar::join), using(loft_tree::proofs::Trees::statements))]
+#[tactic(auto, unfolding(crate::specs::Grammar::join), using(loft_tree::proofs::Trees::statement_join))]
 fn join<'a, L: Limited>(
     alloc: Global,
     deeper: u32,
@@ -48,8 +49,7 @@ fn join<'a, L: Limited>(
 {
     let (place, at) = first_word::<L>(Counted::Statement, Word::Join, at)?;
     let (thread, at) = whole::<L>(alloc, deeper, at)?;
-    let (limit, at) = optional_limit::<L>(alloc, deeper, at)?;
-    let at = sign::<L>(Sign::Semicolon, at)?;
+    let (limit, at) = limit_end::<L>(alloc, deeper, at)?;
     Ok((
         Stmt::Join {
             at: place,
@@ -60,6 +60,20 @@ fn join<'a, L: Limited>(
     ))
 }
 
+/// Reads the word of this order to a thread, which begins one more of these, with its place.
+fn control_as<'a, L: Limited>(
+    what: Counted,
+    wanted: Word,
+    control: Control,
+    at: Cursor<'a>,
+) -> Result<((u32, Control), Cursor<'a>), Stop>
+    ensures { Gives itself result (reads_flat L.limits
+        (made (λ at. (at, control)) (first_word what wanted)) at.entry) }
+{
+    let (place, at) = first_word::<L>(what, wanted, at)?;
+    Ok(((place, control), at))
+}
+
 /// Reads `stop`, `suspend` or `resume`, which begins one more of these, with its place.
 pub fn control_word<'a, L: Limited>(
     what: Counted,
@@ -68,18 +82,15 @@ pub fn control_word<'a, L: Limited>(
     ensures { Gives itself result (reads_flat L.limits (control_word what) at.entry) }
 {
     if next_is_word(Word::Stop, &at) {
-        let (place, at) = first_word::<L>(what, Word::Stop, at)?;
-        Ok(((place, Control::Stop), at))
+        control_as::<L>(what, Word::Stop, Control::Stop, at)
     } else if next_is_word(Word::Suspend, &at) {
-        let (place, at) = first_word::<L>(what, Word::Suspend, at)?;
-        Ok(((place, Control::Suspend), at))
+        control_as::<L>(what, Word::Suspend, Control::Suspend, at)
     } else {
-        let (place, at) = first_word::<L>(what, Word::Resume, at)?;
-        Ok(((place, Control::Resume), at))
+        control_as::<L>(what, Word::Resume, Control::Resume, at)
     }
 }
 
-#[tactic(auto, unfolding(crate::specs::Grammar::control), using(loft_tree::proofs::Trees::statements))]
+#[tactic(auto, unfolding(crate::specs::Grammar::control), using(loft_tree::proofs::Trees::statement_control))]
 fn control<'a, L: Limited>(
     alloc: Global,
     deeper: u32,
@@ -89,9 +100,7 @@ fn control<'a, L: Limited>(
 {
     let ((place, control), at) = control_word::<L>(Counted::Statement, at)?;
     let (thread, at) = whole::<L>(alloc, deeper, at)?;
-    let at = word::<L>(Word::In, at)?;
-    let (scheduler, at) = name::<L>(alloc, None, at)?;
-    let at = sign::<L>(Sign::Semicolon, at)?;
+    let (scheduler, at) = name_end::<L>(alloc, Word::In, at)?;
     Ok((
         Stmt::Control {
             at: place,
@@ -103,7 +112,7 @@ fn control<'a, L: Limited>(
     ))
 }
 
-#[tactic(auto, unfolding(crate::specs::Grammar::run), using(loft_tree::proofs::Trees::statements))]
+#[tactic(auto, unfolding(crate::specs::Grammar::run), using(loft_tree::proofs::Trees::statement_run))]
 fn run<'a, L: Limited>(
     alloc: Global,
     deeper: u32,
@@ -125,7 +134,7 @@ fn run<'a, L: Limited>(
     ))
 }
 
-#[tactic(auto, unfolding(crate::specs::Grammar::halt), using(loft_tree::proofs::Trees::statements))]
+#[tactic(auto, unfolding(crate::specs::Grammar::halt), using(loft_tree::proofs::Trees::statement_halt))]
 fn halt<'a, L: Limited>(at: Cursor<'a>) -> Result<(Stmt, Cursor<'a>), Stop>
     ensures { Gives (viewed statement_of) result (reads_flat L.limits halt at.entry) }
 {
@@ -135,7 +144,7 @@ fn halt<'a, L: Limited>(at: Cursor<'a>) -> Result<(Stmt, Cursor<'a>), Stop>
 }
 
 /// Reads a statement about threads.
-#[tactic(auto, unfolding(crate::specs::Grammar::thread_statement, crate::specs::Grammar::cooperate, crate::specs::Grammar::join, crate::specs::Grammar::control, crate::specs::Grammar::run, crate::specs::Grammar::halt), using(loft_tree::proofs::Trees::statements))]
+#[tactic(auto, unfolding(crate::specs::Grammar::thread_statement, crate::specs::Grammar::cooperate, crate::specs::Grammar::join, crate::specs::Grammar::control, crate::specs::Grammar::run, crate::specs::Grammar::halt))]
 pub fn thread_statement<'a, L: Limited>(
     alloc: Global,
     deeper: u32,
@@ -157,7 +166,7 @@ pub fn thread_statement<'a, L: Limited>(
 }
 
 /// Reads a `link`.
-#[tactic(auto, unfolding(crate::specs::Grammar::link), using(loft_tree::proofs::Trees::statements))]
+#[tactic(auto, unfolding(crate::specs::Grammar::link), using(loft_tree::proofs::Trees::statement_link))]
 pub fn link<'a, L: Limited>(alloc: Global, at: Cursor<'a>) -> Result<(Stmt, Cursor<'a>), Stop>
     ensures { Gives (viewed statement_of) result (reads_flat L.limits link at.entry) }
 {
@@ -174,7 +183,7 @@ pub fn link<'a, L: Limited>(alloc: Global, at: Cursor<'a>) -> Result<(Stmt, Curs
 }
 
 /// Reads an `unlink`.
-#[tactic(auto, unfolding(crate::specs::Grammar::unlink), using(loft_tree::proofs::Trees::statements))]
+#[tactic(auto, unfolding(crate::specs::Grammar::unlink), using(loft_tree::proofs::Trees::statement_unlink))]
 pub fn unlink<'a, L: Limited>(at: Cursor<'a>) -> Result<(Stmt, Cursor<'a>), Stop>
     ensures { Gives (viewed statement_of) result (reads_flat L.limits unlink at.entry) }
 {

@@ -2,6 +2,7 @@
 
 ghost use Rattle.loft_tree.specs.View.{statement_of};
 ghost use Rattle.loft_form.specs.Reading.{Gives};
+ghost use Rattle.loft_parse.specs.Ends.{assigned_end, created_end, text_end, assigned_end_of, created_end_of, text_end_of};
 ghost use Rattle.loft_parse.specs.Grammar.{assignment, print, create, value_statement};
 ghost use Rattle.loft_parse.specs.View.{reads, viewed};
 
@@ -15,10 +16,37 @@ use crate::optional::optional_value;
 use crate::token::{first_word, name, sign, text, word_place};
 use loft_form::Stop;
 use loft_lex::{Sign, Word};
-use loft_tree::Stmt;
+use loft_tree::{Creation, Expr, Stmt, Text};
 use std::alloc::Global;
 
-#[tactic(auto, unfolding(crate::specs::Grammar::assignment, crate::specs::Grammar::assigned), using(loft_tree::proofs::Trees::statements))]
+/// Reads what is created after the sign of an assignment, and the end of the statement.
+fn created_end<'a, L: Limited>(
+    alloc: Global,
+    deeper: u32,
+    at: Cursor<'a>,
+) -> Result<((u32, Creation), Cursor<'a>), Stop>
+    ensures { Gives (viewed created_end_of) result (reads L.limits deeper created_end at.entry) }
+{
+    let (place, at) = word_place::<L>(Word::Create, at)?;
+    let (creation, at) = creation::<L>(alloc, deeper, at)?;
+    let at = sign::<L>(Sign::Semicolon, at)?;
+    Ok(((place, creation), at))
+}
+
+/// Reads the value after the sign of an assignment, and the end of the statement.
+fn assigned_end<'a, L: Limited>(
+    alloc: Global,
+    deeper: u32,
+    at: Cursor<'a>,
+) -> Result<(Expr, Cursor<'a>), Stop>
+    ensures { Gives (viewed assigned_end_of) result (reads L.limits deeper assigned_end at.entry) }
+{
+    let (value, at) = whole::<L>(alloc, deeper, at)?;
+    let at = sign::<L>(Sign::Semicolon, at)?;
+    Ok((value, at))
+}
+
+#[tactic(auto, unfolding(crate::specs::Grammar::assignment, crate::specs::Grammar::assigned), using(loft_tree::proofs::Trees::statement_assign, loft_tree::proofs::Trees::statement_assign_create))]
 fn assignment<'a, L: Limited>(
     alloc: Global,
     deeper: u32,
@@ -29,9 +57,7 @@ fn assignment<'a, L: Limited>(
     let (target, at) = name::<L>(alloc, Some(Counted::Statement), at)?;
     let at = sign::<L>(Sign::Equals, at)?;
     if next_is_word(Word::Create, &at) {
-        let (place, at) = word_place::<L>(Word::Create, at)?;
-        let (creation, at) = creation::<L>(alloc, deeper, at)?;
-        let at = sign::<L>(Sign::Semicolon, at)?;
+        let ((place, creation), at) = created_end::<L>(alloc, deeper, at)?;
         Ok((
             Stmt::AssignCreate {
                 target,
@@ -41,13 +67,27 @@ fn assignment<'a, L: Limited>(
             at,
         ))
     } else {
-        let (value, at) = whole::<L>(alloc, deeper, at)?;
-        let at = sign::<L>(Sign::Semicolon, at)?;
+        let (value, at) = assigned_end::<L>(alloc, deeper, at)?;
         Ok((Stmt::Assign { target, value }, at))
     }
 }
 
-#[tactic(auto, unfolding(crate::specs::Grammar::print, crate::specs::Grammar::printed), using(loft_tree::proofs::Trees::statements))]
+/// Reads a text, a comma and an expression, if a comma stands there, and the end of the statement.
+#[tactic(auto, unfolding(crate::specs::Grammar::behind_comma))]
+fn text_end<'a, L: Limited>(
+    alloc: Global,
+    deeper: u32,
+    at: Cursor<'a>,
+) -> Result<((Text, Option<Expr>), Cursor<'a>), Stop>
+    ensures { Gives (viewed text_end_of) result (reads L.limits deeper text_end at.entry) }
+{
+    let (text, at) = text::<L>(alloc, at)?;
+    let (value, at) = optional_value::<L>(alloc, deeper, at)?;
+    let at = sign::<L>(Sign::Semicolon, at)?;
+    Ok(((text, value), at))
+}
+
+#[tactic(auto, unfolding(crate::specs::Grammar::print, crate::specs::Grammar::printed), using(loft_tree::proofs::Trees::statement_print_text, loft_tree::proofs::Trees::statement_print_value))]
 fn print<'a, L: Limited>(
     alloc: Global,
     deeper: u32,
@@ -57,9 +97,7 @@ fn print<'a, L: Limited>(
 {
     let (place, at) = first_word::<L>(Counted::Statement, Word::Print, at)?;
     if next_is_text(&at) {
-        let (text, at) = text::<L>(alloc, at)?;
-        let (value, at) = optional_value::<L>(alloc, deeper, at)?;
-        let at = sign::<L>(Sign::Semicolon, at)?;
+        let ((text, value), at) = text_end::<L>(alloc, deeper, at)?;
         Ok((
             Stmt::PrintText {
                 at: place,
@@ -75,7 +113,7 @@ fn print<'a, L: Limited>(
     }
 }
 
-#[tactic(auto, unfolding(crate::specs::Grammar::create), using(loft_tree::proofs::Trees::statements))]
+#[tactic(auto, unfolding(crate::specs::Grammar::create), using(loft_tree::proofs::Trees::statement_create))]
 fn create<'a, L: Limited>(
     alloc: Global,
     deeper: u32,
@@ -96,7 +134,7 @@ fn create<'a, L: Limited>(
 }
 
 /// Reads an assignment, a `print` or a `create`.
-#[tactic(auto, unfolding(crate::specs::Grammar::value_statement, crate::specs::Grammar::assignment, crate::specs::Grammar::print), using(loft_tree::proofs::Trees::statements))]
+#[tactic(auto, unfolding(crate::specs::Grammar::value_statement, crate::specs::Grammar::assignment, crate::specs::Grammar::print))]
 pub fn value_statement<'a, L: Limited>(
     alloc: Global,
     deeper: u32,

@@ -1,12 +1,12 @@
 //! The history of a list of choices.
 
-ghost use Rattle.std.specs.Prelude.{◌≡◌, [], IfOk, IfErr, Err};
+ghost use Rattle.std.specs.Prelude.{◌≡◌, [], IfOk, IfErr, OnOk, Ok, Err};
 ghost use Rattle.loft_tree.specs.ProgramView.{program_of};
 ghost use Rattle.loft_tree.specs.Resolved.{resolved_of};
 ghost use Rattle.loft_sense.specs.Machine.{Tree, heads as heads_of};
 ghost use Rattle.loft_sense.specs.Rest.{IsInRange};
 ghost use Rattle.loft_turns.specs.Course.{IsRun, CanRun, HasWorkers};
-ghost use Rattle.loft_replay.specs.Named.{IsFollowed, IsRefused};
+ghost use Rattle.loft_replay.specs.Named.{follows, IsFollowed, IsRefused};
 
 use crate::choices::choose;
 use crate::plain::{stations, workers};
@@ -44,7 +44,33 @@ impl From<NoMemory> for FollowError {
     }
 }
 
-/// Goes on by all choices.
+/// The run goes on by all choices.
+fn choose_all<X: Setting, E: Engine, B: BlockEngine>(
+    alloc: Global,
+    heads: &Heads,
+    course: &mut Course<X, E, B>,
+    c: &Choices,
+) -> Result<(), FollowError>
+    requires run { IsRun X.program X.options course.old }
+    requires start { course.old.world.history ≡ [] }
+    requires can { CanRun X.program X.options }
+    requires heads { heads.now ≡ heads_of X.program }
+    ensures run { OnOk result (IsRun X.program X.options course.new) }
+    ensures followed { OnOk result
+        (follows X.program X.options c.now ≡ Ok course.new.world.history) }
+    ensures refused { IfErr result (IsRefused X.program X.options c.now) }
+{
+    for (index, choice) in c.as_slice().iter().enumerate() {
+        if !choose(alloc, heads, course, choice)? {
+            return Err(FollowError::NotAllowed {
+                entry: index as u64 + 1,
+            });
+        }
+    }
+    Ok(())
+}
+
+/// Goes on by all choices, to what that leaves.
 fn follow_all<X: Setting, E: Engine, B: BlockEngine>(
     alloc: Global,
     heads: &Heads,
@@ -58,13 +84,7 @@ fn follow_all<X: Setting, E: Engine, B: BlockEngine>(
     ensures followed { IfOk result (λ r. IsFollowed X.program X.options c.now r) }
     ensures refused { IfErr result (IsRefused X.program X.options c.now) }
 {
-    for (index, choice) in c.as_slice().iter().enumerate() {
-        if !choose(alloc, heads, &mut course, choice)? {
-            return Err(FollowError::NotAllowed {
-                entry: index as u64 + 1,
-            });
-        }
-    }
+    choose_all(alloc, heads, &mut course, c)?;
     Ok(course.finish(alloc)?)
 }
 

@@ -33,6 +33,7 @@ fn statement_in(alloc: Global, sort: StatementSort, text: &[u8]) -> Result<Optio
             if statement_sort(&statement) == sort {
                 Ok(Some(statement))
             } else {
+                drop(statement);
                 Ok(None)
             }
         }

@@ -1,5 +1,5 @@
 -- Steps of a thread whose frames are in memory.
-use Rattle.std.proofs.Common.{◌≡◌, ◌≢◌, ℕ, ℤ, zero, suc, ◌+◌, ◌-◌, ◌<◌, ◌≤◌, List, [], ◌∷◌, ◌++◌, refl, sym, ap, subst, ◌∙◌, Bool, true, false, Option, Some, None, length, arith}
+use Rattle.std.proofs.Common.{◌≡◌, ◌≢◌, ℕ, ℤ, zero, suc, ◌+◌, ◌-◌, ◌<◌, ◌≤◌, List, [], ◌∷◌, refl, sym, ap, subst, ◌∙◌, Bool, true, false, Option, Some, None, length, arith}
 use Rattle.std.proofs.lemmas.Bool.{le-ltb, lt-ltb}
 use Rattle.std.proofs.lemmas.List.{length-map, length-reverse}
 use Rattle.std.specs.Prelude.{reverse, nat_lt, slice_get}
@@ -19,7 +19,7 @@ use Rattle.loft_sense.specs.declared.thread.Wait.{Wait}
 use Rattle.loft_sense.specs.declared.thread.Thread.{Thread}
 use Rattle.loft_sense.specs.Around.{Beside}
 use Rattle.loft_sense.specs.Statements.{Now, now, target_of, answered}
-use Rattle.loft_sense.specs.Run.{Next, Finish, Active, Outcome, here, if_finish, live, begun_frame, ends, step, step_on, no_step, going, go_on, go, active_of, frame_of}
+use Rattle.loft_sense.specs.Run.{Next, Finish, Active, Outcome, here, if_finish, live, begun_frame, ends, step, step_on, no_step, going, go_on, go, active_of}
 use Rattle.loft_sense.specs.Code.{Point, point, code, lines_at, landing, next_operation, next_line, next_point, stop_from, after_or_past, pause_in}
 use Rattle.loft_effect.specs.declared.around.Around.{Around as AroundInMemory}
 use Rattle.loft_effect.specs.declared.scope.Beside.{Beside as BesideInMemory}
@@ -29,9 +29,8 @@ use Rattle.loft_step.specs.declared.running.Running.{Running}
 use Rattle.loft_step.specs.declared.step.Move.{Move}
 use Rattle.loft_step.specs.declared.step.Move.TheVariants as move
 use Rattle.loft_step.specs.Lines.{ends_at, op_after, StopsAreNumbered}
-use Rattle.loft_step.specs.Frames.{active, actives, advance_if, advance, Makes, Walks, Stands, IfCalls, IfEnters}
+use Rattle.loft_step.specs.Frames.{active, actives, advance_if, advance, Makes, Walks, IfCalls, IfEnters}
 use Rattle.loft_effect.proofs.Runs.{run_enters, run_deep}
-use Rattle.loft_step.proofs.Kept.{actives-push, goes_on_there}
 
 -- the same beside the frames, but for what stands around the thread
 abbrev pub beside_with : BesideInMemory → AroundInMemory → BesideInMemory
@@ -203,11 +202,9 @@ module _ (c : Automata) (top new : Running) (b b' : BesideInMemory) (outer : Lis
   run_done is none = sym (walked move.Return is ∙ (ap (λ (fs : List Frame). going (code c) left (beside_of b') (actives c fs)) none ∙ nothing_left c left (beside_of b')))
 
   -- the caller goes on
-  pub run_returns : (rest : List Frame) (f : Frame) (caller : Running) → m ≡ move.Return → outer ≡ rest ++ f ∷ [] → active caller ≡ active_of (code c) f
+  pub run_returns : (rest : List Frame) (caller : Running) → m ≡ move.Return → actives c outer ≡ active caller ∷ actives c rest
       → going (code c) left (beside_of b') (active caller ∷ actives c rest) ≡ before
-  run_returns rest f caller is popped woken =
-      ap (λ (a : Active Point). going (code c) left (beside_of b') (a ∷ actives c rest)) woken
-      ∙ sym (walked move.Return is ∙ (ap (λ (fs : List Frame). going (code c) left (beside_of b') (actives c fs)) popped ∙ ap (going (code c) left (beside_of b')) (actives-push c rest f)))
+  run_returns rest caller is back = sym (walked move.Return is ∙ ap (going (code c) left (beside_of b')) back)
 
   module _ (called : ModuleId) (arguments : List Value) (is : m ≡ move.Enter called arguments) where
     fits : (few : Bool) → nat_lt (length outer + 1) MAX_FRAMES ≡ few → nat_lt (length (active new ∷ actives c outer)) MAX_FRAMES ≡ few
@@ -220,12 +217,10 @@ module _ (c : Automata) (top new : Running) (b b' : BesideInMemory) (outer : Lis
         ∙ run_deep (code c) left (going (code c) left) arguments called (active new) (actives c outer) (beside_of b') (fits false (le-ltb _ _ many)))
 
     -- a module begins
-    pub run_calls : (first : Running) (kept : Frame) (pushed : List Frame) → length outer + 1 < MAX_FRAMES → active first ≡ begun_frame (code c) called arguments (beside_of b')
-        → kept ≡ frame_of (code c) (active new) → Stands c new → pushed ≡ outer ++ kept ∷ []
+    pub run_calls : (first : Running) (pushed : List Frame) → length outer + 1 < MAX_FRAMES → active first ≡ begun_frame (code c) called arguments (beside_of b')
+        → actives c pushed ≡ active new ∷ actives c outer
         → going (code c) left (beside_of b') (active first ∷ actives c pushed) ≡ before
-    run_calls first kept pushed few begins keeps stands is_pushed =
-        let frames : actives c pushed ≡ active new ∷ actives c outer =
-        ap (actives c) is_pushed ∙ (actives-push c outer kept ∙ ap (λ (a : Active Point). a ∷ actives c outer) (ap (active_of (code c)) keeps ∙ goes_on_there c new stands)) in
+    run_calls first pushed few begins frames =
         ap (λ (a : Active Point). going (code c) left (beside_of b') (a ∷ actives c pushed)) begins
         ∙ (ap (λ (l : List (Active Point)). going (code c) left (beside_of b') (begun_frame (code c) called arguments (beside_of b') ∷ l)) frames
         ∙ sym (walked (move.Enter called arguments) is

@@ -1,6 +1,6 @@
 //! A thread runs by its code (docs/SEMANTICS.md, "Run").
 
-ghost use Rattle.std.specs.Prelude.{◌≡◌, ◌∷◌, ◌-◌, ◌+◌, ◌<◌, ◌≤◌, true, IfOk, OnOk};
+ghost use Rattle.std.specs.Prelude.{◌≡◌, [], ◌∷◌, ◌-◌, ◌+◌, ◌<◌, ◌≤◌, true, false, length, IfOk, OnOk};
 ghost use Rattle.loft_code.specs.Operations.{Automata};
 ghost use Rattle.loft_code.specs.View.{automata_of};
 ghost use Rattle.loft_sense.specs.declared.thread.Wait.TheVariants.{New as WaitNew};
@@ -8,10 +8,11 @@ ghost use Rattle.loft_sense.specs.Machine.{Code as ByCode};
 ghost use Rattle.loft_sense.specs.Passes.{run_of};
 ghost use Rattle.loft_sense.specs.Around.{Beside as BesideOf};
 ghost use Rattle.loft_sense.specs.Code.{code as control_of};
-ghost use Rattle.loft_sense.specs.Run.{thread_of, ends, going, go_on, no_step, Held, Left};
+ghost use Rattle.loft_sense.specs.Run.{thread_of, begun_frame, ends, going, go_on, no_step, Held, Left};
+ghost use Rattle.loft_effect.specs.declared.effect.Effect.TheVariants.{GoesOn};
 ghost use Rattle.loft_effect.specs.View.{around_of, beside_of, pace_of, steps_left};
 ghost use Rattle.loft_effect.specs.Outcomes.{outcome_of, outcome_with};
-ghost use Rattle.loft_step.specs.Frames.{active, actives};
+ghost use Rattle.loft_step.specs.Frames.{active, actives, advance_if, moved_by, Stands};
 ghost use Rattle.loft_step.specs.Kept.{AreKept};
 ghost use Rattle.loft_step.specs.Midst.{turn_with, IfGoes};
 
@@ -20,9 +21,9 @@ use crate::running::{Running, settle_all};
 use crate::step::Move;
 use crate::steps::Steps;
 use crate::walk::count;
-use loft_base::{NoMemory, Sequence};
+use loft_base::{ModuleId, NoMemory, Sequence, ThreadId, Values};
 use loft_code::Code;
-use loft_effect::{Around, Beside, Outcome, take_around};
+use loft_effect::{Around, Beside, Effect, Outcome, take_around};
 use loft_sense::{At, End, Frame, Frames, MAX_FRAMES, Stop, Thread, To, Wait};
 use std::alloc::Global;
 use std::mem;
@@ -88,6 +89,99 @@ fn end(beside: &mut Beside, end: End) -> Result<Outcome, NoMemory>
     Ok(Outcome::Ended(end))
 }
 
+/// The innermost frame is dropped, and its caller goes on. Answers whether there is one.
+fn go_back(code: &Code, top: &mut Running, outer: &mut Frames) -> bool
+    requires { AreKept outer.old }
+    ensures kept { AreKept outer.new }
+    ensures back { let c = automata_of code.now in result ≡ true
+        → actives c outer.old ≡ active top.new ∷ actives c outer.new }
+    ensures fewer { result ≡ true → length outer.old ≡ length outer.new + 1 }
+    ensures alone { result ≡ false → outer.old ≡ [] }
+{
+    let Some(frame) = outer.pop() else {
+        return false;
+    };
+    let (caller, _) = Running::wake(code, frame);
+    *top = caller;
+    true
+}
+
+/// A module runs in a further frame, over one that stands.
+fn enter(
+    alloc: Global,
+    code: &Code,
+    top: &mut Running,
+    outer: &mut Frames,
+    thread: ThreadId,
+    module: ModuleId,
+    arguments: Values,
+) -> Result<(), NoMemory>
+    requires kept { AreKept outer.old }
+    requires stands { Stands (automata_of code.now) top.old }
+    ensures kept { OnOk result (AreKept outer.new) }
+    ensures begins { OnOk result ((b : BesideOf) → b.id ≡ thread
+        → active top.new ≡ begun_frame (control_of (automata_of code.now)) «module» arguments b) }
+    ensures over { let c = automata_of code.now in OnOk result
+        (actives c outer.new ≡ active top.old ∷ actives c outer.old) }
+    ensures more { OnOk result (length outer.new ≡ length outer.old + 1) }
+{
+    let called = Running::begin(alloc, code, thread, module, arguments)?;
+    outer.push(mem::replace(top, called).keep())?;
+    Ok(())
+}
+
+/// The frames of a thread go on until it stops; where it pauses, also until something was done.
+/// Answers what becomes of the thread, over the frames as they are then.
+fn walk_frames<L: Ledger>(
+    alloc: Global,
+    code: &Code,
+    top: &mut Running,
+    outer: &mut Frames,
+    beside: &mut Beside,
+    pauses: bool,
+    steps: &mut Steps<L>,
+) -> Result<Effect, NoMemory>
+    requires { AreKept outer.old }
+    ensures goes { IfOk result (λ effect. let c = automata_of code.now in
+        let left = steps_left beside.new.around in
+        advance_if (moved_by effect) (control_of c) left (going (control_of c) left)
+        (active top.new) (actives c outer.new) (beside_of beside.new)
+        ≡ going (control_of c) (steps_left beside.old.around) (beside_of beside.old)
+        (active top.old ∷ actives c outer.old)) }
+    ensures kept { OnOk result (AreKept outer.new) }
+    ensures pauses { IfOk result (λ effect. effect ≡ GoesOn → pauses ≡ true) }
+    ensures fewer { IfOk result (λ effect. effect ≡ GoesOn
+        → steps_left beside.new.around < steps_left beside.old.around) }
+    ensures bound { OnOk result (beside.new.around.bound ≡ beside.old.around.bound) }
+    ensures grows { OnOk result (beside.old.around.steps ≤ beside.new.around.steps) }
+    ensures counted { OnOk result
+        (steps.new + beside.old.around.steps ≡ steps.old + beside.new.around.steps) }
+{
+    'going: loop {
+        match top.walk(alloc, code, beside, pauses, steps)? {
+            Move::Pause => {
+                if pauses {
+                    return Ok(Effect::GoesOn);
+                }
+            }
+            Move::Return => {
+                if !go_back(code, top, outer) {
+                    return Ok(Effect::Dies(End::Done));
+                }
+            }
+            Move::Enter(module, arguments) => {
+                if outer.len() >= MAX_FRAMES - 1 {
+                    return Ok(Effect::Dies(End::Deep(top.scope.at)));
+                }
+                enter(alloc, code, top, outer, beside.id, module, arguments)?;
+            }
+            Move::Hold(wait) => return Ok(Effect::Waits(wait)),
+            Move::Leave(to) => return Ok(Effect::Leaves(to)),
+            Move::End(cause) => return Ok(Effect::Dies(cause)),
+        }
+    }
+}
+
 /// A thread goes on with these frames until it stops; where it pauses, also until something was done.
 pub fn run<L: Ledger>(
     alloc: Global,
@@ -106,32 +200,11 @@ pub fn run<L: Ledger>(
     ensures counted { OnOk result (steps.new + beside.old.around.steps ≡ steps.old + beside.new.around.steps) }
 {
     let Stack { mut top, mut outer } = stack;
-    'going: loop {
-        match top.walk(alloc, code, beside, pauses, steps)? {
-            Move::Pause => {
-                if pauses {
-                    return Ok(Turn::Goes(Stack { top, outer }));
-                }
-            }
-            Move::Return => {
-                let Some(frame) = outer.pop() else {
-                    return Ok(Turn::Stops(end(beside, End::Done)?));
-                };
-                let (caller, _) = Running::wake(code, frame);
-                top = caller;
-            }
-            Move::Enter(module, arguments) => {
-                if outer.len() + 1 >= MAX_FRAMES {
-                    let cause = End::Deep(top.scope.at);
-                    return Ok(Turn::Stops(end(beside, cause)?));
-                }
-                let called = Running::begin(alloc, code, beside.id, module, arguments)?;
-                outer.push(mem::replace(&mut top, called).keep())?;
-            }
-            Move::Hold(wait) => return Ok(Turn::Stops(hold(beside, top, outer, wait)?)),
-            Move::Leave(to) => return Ok(Turn::Stops(leave(beside, top, outer, to)?)),
-            Move::End(cause) => return Ok(Turn::Stops(end(beside, cause)?)),
-        }
+    match walk_frames(alloc, code, &mut top, &mut outer, beside, pauses, steps)? {
+        Effect::GoesOn => Ok(Turn::Goes(Stack { top, outer })),
+        Effect::Waits(wait) => Ok(Turn::Stops(hold(beside, top, outer, wait)?)),
+        Effect::Leaves(to) => Ok(Turn::Stops(leave(beside, top, outer, to)?)),
+        Effect::Dies(cause) => Ok(Turn::Stops(end(beside, cause)?)),
     }
 }
 

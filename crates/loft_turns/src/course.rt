@@ -9,9 +9,9 @@ ghost use Rattle.loft_turns.specs.Course.{IsRun, CanRun, Moves, stands_after, ha
 use crate::block_engine::BlockEngine;
 use crate::client::order_at;
 use crate::setting::Setting;
-use crate::station::Station;
+use crate::station::{Station, finish_all};
 use crate::worker::Worker;
-use loft_base::{NoMemory, SchedId, Sequence};
+use loft_base::{NoMemory, SchedId};
 use loft_sense::Engine;
 use loft_tree::Heads;
 use loft_world::{Finals, Finished, Notes, World};
@@ -184,13 +184,7 @@ impl<X: Setting, E: Engine, B: BlockEngine> Course<X, E, B> {
             stations,
             ..
         } = self;
-        let mut notes = Sequence::new(alloc);
-        let mut finals = Sequence::new(alloc);
-        for station in stations {
-            let (own, last) = station.finish(alloc)?;
-            notes.push(own)?;
-            finals.push(last)?;
-        }
+        let (notes, finals) = finish_all(alloc, stations)?;
         Ok(Finished {
             world,
             notes: Notes { of: notes },

@@ -1,16 +1,19 @@
 //! One scheduler in a run.
 
-ghost use Rattle.std.specs.Prelude.{◌≡◌, [], ℕ, false, All, IfOk, OnOk};
+ghost use Rattle.std.specs.Prelude.{◌≡◌, ◌++◌, ◌∷◌, [], ℕ, false, map, All, IfOk, OnOk};
 ghost use Rattle.loft_sense.specs.Fits.{Fits};
 ghost use Rattle.loft_sense.specs.Machine.{empty, heads as heads_of};
 ghost use Rattle.loft_sense.specs.History.{TakeBy, GiveBy, has_turn, waiting};
-ghost use Rattle.loft_world.specs.State.{IsScheduler, scheduler};
+ghost use Rattle.loft_sense.specs.declared.entry.Entry.TheVariants as entry;
+ghost use Rattle.loft_sense.specs.Rest.{is_spent};
+ghost use Rattle.loft_world.specs.State.{IsScheduler, scheduler, with_entry};
+ghost use Rattle.loft_world.specs.Replay.{stand_of};
 ghost use Rattle.loft_turns.specs.Course.{Moves, stand_after, IsLast};
 
 use crate::setting::Setting;
 use loft_base::{NoMemory, SchedId, Sequence};
 use loft_sense::{Engine, FinalState, InstantNote, Orders};
-use loft_world::{NoteList, World};
+use loft_world::{FinalStates, NoteList, NoteLists, World};
 use std::alloc::Global;
 use std::marker::{Model, PhantomData};
 
@@ -89,10 +92,26 @@ impl<X: Setting, E: Engine> Station<X, E> {
         if self.current.is_some() || !self.has_turn(world.left(s)) {
             return Ok(false);
         }
+        self.begin(alloc, s, world)?;
+        Ok(true)
+    }
+
+    /// Takes what waits for the scheduler and makes an instant on it.
+    fn begin(&mut self, alloc: Global, s: SchedId, world: &mut World) -> Result<(), NoMemory>
+        requires declared { IsScheduler world.old.heads s }
+        requires stands { self.old ≡ stand_after X.program X.options world.old.history s.0 }
+        requires shut { self.old.running ≡ false }
+        requires unspent { is_spent X.program X.options.limits self.old.machine ≡ false }
+        requires fits { All (Fits X.program s) (waiting world.old.heads s world.old.history) }
+        ensures stands { OnOk result
+            (self.new ≡ stand_after X.program X.options world.new.history s.0) }
+        ensures taken { OnOk result (world.new ≡ with_entry world.old
+            (entry.Take s (waiting world.old.heads s world.old.history))) }
+    {
         let note = self.engine.take(alloc, world.left(s))?;
         world.record_take(alloc, s)?;
         self.current = Some(note);
-        Ok(true)
+        Ok(())
     }
 
     /// Gives what the instant sent, where the scheduler is in one. Answers whether it has given.
@@ -125,7 +144,7 @@ impl<X: Setting, E: Engine> Station<X, E> {
     }
 
     /// The notes of its instants, and how it stands.
-    pub(crate) fn finish(self, alloc: Global) -> Result<(NoteList, FinalState), NoMemory>
+    fn finish(self, alloc: Global) -> Result<(NoteList, FinalState), NoMemory>
         ensures { IfOk result (λ last. IsLast self last.0 last.1) }
     {
         let Station {
@@ -140,4 +159,35 @@ impl<X: Setting, E: Engine> Station<X, E> {
         }
         Ok((notes, last))
     }
+
+    /// Adds the notes of its instants and how it stands to those of the schedulers before it.
+    fn finish_onto(
+        self,
+        alloc: Global,
+        notes: &mut NoteLists,
+        finals: &mut FinalStates,
+    ) -> Result<(), NoMemory>
+        ensures notes { OnOk result (notes.new ≡ notes.old ++ self.notes ∷ []) }
+        ensures finals { OnOk result (finals.new ≡ finals.old ++ stand_of self.machine ∷ []) }
+    {
+        let (own, last) = self.finish(alloc)?;
+        notes.push(own)?;
+        finals.push(last)
+    }
+}
+
+/// The notes of schedulers, and how each stands, in the order of the schedulers.
+pub(crate) fn finish_all<X: Setting, E: Engine>(
+    alloc: Global,
+    stations: Vec<Station<X, E>>,
+) -> Result<(NoteLists, FinalStates), NoMemory>
+    ensures notes { IfOk result (λ left. left.0 ≡ map (λ s. s.notes) stations.items) }
+    ensures finals { IfOk result (λ left. left.1 ≡ map (λ s. stand_of s.machine) stations.items) }
+{
+    let mut notes = Sequence::new(alloc);
+    let mut finals = Sequence::new(alloc);
+    for station in stations {
+        station.finish_onto(alloc, &mut notes, &mut finals)?;
+    }
+    Ok((notes, finals))
 }

@@ -27,10 +27,12 @@ use Rattle.loft_effect.specs.declared.scope.Scope.{Scope}
 use Rattle.loft_effect.specs.declared.scope.Beside.{Beside as BesideInMemory}
 use Rattle.loft_walk.specs.declared.step.Move.{Move}
 use Rattle.loft_walk.specs.declared.step.Move.TheVariants as move
+use Rattle.loft_walk.specs.declared.thread.Stopped.{Stopped}
+use Rattle.loft_walk.specs.declared.thread.Stopped.TheVariants as stopped
 use Rattle.loft_walk.specs.declared.work.Task.{Task}
 use Rattle.loft_effect.specs.View.{around_of, beside_of}
 use Rattle.loft_walk.specs.Pieces.{work_of, work_of_task}
-use Rattle.loft_walk.specs.Frames.{active, actives, live_of, advance, program_with, Steps, top_target, Answers}
+use Rattle.loft_walk.specs.Frames.{active, actives, live_of, advance, goes_or_stops, program_with, Steps, top_target, Answers}
 use Rattle.loft_effect.proofs.Runs.{run_enters, run_deep}
 use Rattle.loft_walk.proofs.Frames.{actives-push, actives_woken}
 
@@ -41,21 +43,11 @@ module _ (h : Heads) (bodies : List Body) where
   abbrev code : Control (List Work)
   code = tree (program_with h bodies)
 
-  one_step : (running rest : List Running) (top new : Running) (task : Task) (m : Move) (left : ℕ) (b b' : BesideInMemory) → left ≢ 0 → live code (actives running) ≡ live_of (Some (top, task)) rest
-      → Steps h (next_work (work_of_task task ∷ work_of top.work.items)) top b m new b'
-      → going code left (beside_of b) (actives running) ≡ advance m code (left - 1) (going code (left - 1)) (active new) (actives rest) (beside_of b')
-  one_step running rest top new task m zero b b' some l s = absurd (some refl)
-  one_step running rest top new task m (suc n) b b' some l s =
-      let same : n ≡ suc n - 1 = omega arith in
-      ap (step_on code n (going code n) (beside_of b)) l
-      ∙ (s bodies n (going code n) (work_of_task task ∷ work_of top.work.items) (actives rest)
-      ∙ ap (λ (k : ℕ). advance m code k (going code k) (active new) (actives rest) (beside_of b')) same)
-
   -- no step is left
   pub no_left : (running rest : List Running) (top : Running) (task : Task) (o : Option (Running × Task)) (left : ℕ) (b : BesideInMemory) → left ≡ 0 → o ≡ Some (top, task) → live code (actives running) ≡ live_of o rest
-      → ends (Over top.scope.at) (beside_of b) 0 ≡ going code left (beside_of b) (actives running)
-  no_left running rest top task o left b none some l =
-      sym (ap (λ (n : ℕ). going code n (beside_of b) (actives running)) none ∙ ap (no_step (beside_of b)) (l ∙ ap (λ (x : Option (Running × Task)). live_of x rest) some))
+      → ends (Over top.scope.at) (beside_of b) left ≡ going code left (beside_of b) (actives running)
+  no_left running rest top task o zero b none some l = sym (ap (no_step (beside_of b)) (l ∙ ap (λ (x : Option (Running × Task)). live_of x rest) some))
+  no_left running rest top task o (suc n) b none some l = absurd cc
 
   -- no frame has anything to do
   pub nothing_left : (running rest : List Running) (o : Option (Running × Task)) (left : ℕ) (b : BesideInMemory) → o ≡ None → live code (actives running) ≡ live_of o rest
@@ -63,47 +55,59 @@ module _ (h : Heads) (bodies : List Body) where
   nothing_left running rest o zero b none l = sym (ap (no_step (beside_of b)) (l ∙ ap (λ (x : Option (Running × Task)). live_of x rest) none))
   nothing_left running rest o (suc n) b none l = sym (ap (step_on code n (going code n) (beside_of b)) (l ∙ ap (λ (x : Option (Running × Task)). live_of x rest) none))
 
-  goes_pushed : (n : ℕ) (b : BesideInMemory) (rest pushed : List Running) (r : Running) → pushed ≡ rest ++ r ∷ [] → going code n (beside_of b) (active r ∷ actives rest) ≡ going code n (beside_of b) (actives pushed)
-  goes_pushed n b rest pushed r e = ap (going code n (beside_of b)) (sym (ap actives e ∙ actives-push rest r))
+  -- the innermost frame makes a step, after which these frames go on, or the thread stops
+  abbrev pub MakesStep : Running → Task → List Running → BesideInMemory → Option Stopped → List Running → BesideInMemory → Type 0
+  MakesStep top task rest b stopped new b' = (n : ℕ) → goes_or_stops stopped code n (beside_of b') (actives new) ≡ step_on code n (going code n) (beside_of b) (live_of (Some (top, task)) rest)
 
-  module _ (running rest pushed : List Running) (top new : Running) (task : Task) (o : Option (Running × Task)) (m : Move) (left : ℕ) (b b' : BesideInMemory) (some_left : left ≢ 0) (is_some : o ≡ Some (top, task))
-      (lives : live code (actives running) ≡ live_of o rest) (steps : Steps h (next_work (work_of_task task ∷ work_of top.work.items)) top b m new b') (is_pushed : pushed ≡ rest ++ new ∷ []) where
-    steps_as : (n : Move) → m ≡ n → going code left (beside_of b) (actives running) ≡ advance n code (left - 1) (going code (left - 1)) (active new) (actives rest) (beside_of b')
-    steps_as n e =
-        one_step running rest top new task m left b b' some_left (lives ∙ ap (λ (x : Option (Running × Task)). live_of x rest) is_some) steps
-        ∙ ap (λ (v : Move). advance v code (left - 1) (going code (left - 1)) (active new) (actives rest) (beside_of b')) e
+  -- a step is left, and is made
+  pub step_made : (running rest new : List Running) (top : Running) (task : Task) (o : Option (Running × Task)) (s t : Option Stopped) (left : ℕ) (b b' : BesideInMemory) → left ≢ 0 → o ≡ Some (top, task) → live code (actives running) ≡ live_of o rest
+      → MakesStep top task rest b s new b' → s ≡ t → goes_or_stops t code (left - 1) (beside_of b') (actives new) ≡ going code left (beside_of b) (actives running)
+  step_made running rest new top task o s t zero b b' some is_some l makes e = absurd (some refl)
+  step_made running rest new top task o s t (suc n) b b' some is_some l makes e =
+      let same : suc n - 1 ≡ n = omega arith in
+      ap (λ (k : ℕ). goes_or_stops t code k (beside_of b') (actives new)) same
+      ∙ (ap (λ (x : Option Stopped). goes_or_stops x code n (beside_of b') (actives new)) (sym e)
+      ∙ (makes n
+      ∙ sym (ap (step_on code n (going code n) (beside_of b)) (l ∙ ap (λ (x : Option (Running × Task)). live_of x rest) is_some))))
+
+  module _ (rest pushed : List Running) (top new : Running) (task : Task) (m : Move) (b b' : BesideInMemory)
+      (steps : Steps h (next_work (work_of_task task ∷ work_of top.work.items)) top b m new b') (is_pushed : pushed ≡ rest ++ new ∷ []) where
+    steps_as : (left : ℕ) (n : Move) → m ≡ n → step_on code left (going code left) (beside_of b) (live_of (Some (top, task)) rest) ≡ advance n code left (going code left) (active new) (actives rest) (beside_of b')
+    steps_as left n e =
+        steps bodies left (going code left) (work_of_task task ∷ work_of top.work.items) (actives rest)
+        ∙ ap (λ (v : Move). advance v code left (going code left) (active new) (actives rest) (beside_of b')) e
 
     all_frames : active new ∷ actives rest ≡ actives pushed
     all_frames = sym (ap actives is_pushed ∙ actives-push rest new)
 
-    pub step_goes : m ≡ move.GoOn → going code (left - 1) (beside_of b') (actives pushed) ≡ going code left (beside_of b) (actives running)
-    step_goes e = sym (steps_as move.GoOn e ∙ ap (going code (left - 1) (beside_of b')) all_frames)
-
     how_many : length (active new ∷ actives rest) ≡ length pushed
     how_many = ap length all_frames ∙ length_actives pushed
 
+    pub step_goes : m ≡ move.GoOn → MakesStep top task rest b None pushed b'
+    step_goes e left = sym (steps_as left move.GoOn e ∙ ap (going code left (beside_of b')) all_frames)
+
     pub step_enters : (called : ModuleId) (arguments : List Value) (r : Running) (entered : List Running) → m ≡ move.Enter called arguments → length pushed < MAX_FRAMES → active r ≡ begun_frame code called arguments (beside_of b') → entered ≡ pushed ++ r ∷ []
-        → going code (left - 1) (beside_of b') (actives entered) ≡ going code left (beside_of b) (actives running)
-    step_enters called arguments r entered e few begins e_entered =
-        sym (steps_as (move.Enter called arguments) e
-        ∙ (run_enters code (left - 1) (going code (left - 1)) arguments called (active new) (actives rest) (beside_of b') (ap (λ (n : ℕ). nat_lt n MAX_FRAMES) how_many ∙ lt-ltb _ _ few)
-        ∙ (ap (λ (l : List (Active (List Work))). going code (left - 1) (beside_of b') (begun_frame code called arguments (beside_of b') ∷ l)) all_frames
-        ∙ (ap (λ (a : Active (List Work)). going code (left - 1) (beside_of b') (a ∷ actives pushed)) (sym begins)
-        ∙ goes_pushed (left - 1) b' pushed entered r e_entered))))
+        → MakesStep top task rest b None entered b'
+    step_enters called arguments r entered e few begins is_entered left =
+        sym (steps_as left (move.Enter called arguments) e
+        ∙ (run_enters code left (going code left) arguments called (active new) (actives rest) (beside_of b') (ap (λ (n : ℕ). nat_lt n MAX_FRAMES) how_many ∙ lt-ltb _ _ few)
+        ∙ (ap (λ (l : List (Active (List Work))). going code left (beside_of b') (begun_frame code called arguments (beside_of b') ∷ l)) all_frames
+        ∙ (ap (λ (a : Active (List Work)). going code left (beside_of b') (a ∷ actives pushed)) (sym begins)
+        ∙ ap (going code left (beside_of b')) (sym (ap actives is_entered ∙ actives-push pushed r))))))
 
-    pub step_too_deep : (called : ModuleId) (arguments : List Value) → m ≡ move.Enter called arguments → MAX_FRAMES ≤ length pushed → ends (Deep new.scope.at) (beside_of b') (left - 1) ≡ going code left (beside_of b) (actives running)
-    step_too_deep called arguments e many =
-        sym (steps_as (move.Enter called arguments) e
-        ∙ run_deep code (left - 1) (going code (left - 1)) arguments called (active new) (actives rest) (beside_of b') (ap (λ (n : ℕ). nat_lt n MAX_FRAMES) how_many ∙ le-ltb _ _ many))
+    pub step_too_deep : (called : ModuleId) (arguments : List Value) → m ≡ move.Enter called arguments → MAX_FRAMES ≤ length pushed → MakesStep top task rest b (Some (stopped.Ends (Deep new.scope.at))) pushed b'
+    step_too_deep called arguments e many left =
+        sym (steps_as left (move.Enter called arguments) e
+        ∙ run_deep code left (going code left) arguments called (active new) (actives rest) (beside_of b') (ap (λ (n : ℕ). nat_lt n MAX_FRAMES) how_many ∙ le-ltb _ _ many))
 
-    pub step_holds : (wait : Wait) → m ≡ move.Hold wait → Held (thread_of code wait (actives pushed) (beside_of b')) (around_of b'.around) (left - 1) ≡ going code left (beside_of b) (actives running)
-    step_holds wait e = sym (steps_as (move.Hold wait) e ∙ ap (λ (l : List (Active (List Work))). Held (thread_of code wait l (beside_of b')) (around_of b'.around) (left - 1)) all_frames)
+    pub step_holds : (wait : Wait) → m ≡ move.Hold wait → MakesStep top task rest b (Some (stopped.Waits wait)) pushed b'
+    step_holds wait e left = sym (steps_as left (move.Hold wait) e ∙ ap (λ (l : List (Active (List Work))). Held (thread_of code wait l (beside_of b')) (around_of b'.around) left) all_frames)
 
-    pub step_leaves : (to : To) → m ≡ move.Leave to → Left (thread_of code New (actives pushed) (beside_of b')) to (around_of b'.around) (left - 1) ≡ going code left (beside_of b) (actives running)
-    step_leaves to e = sym (steps_as (move.Leave to) e ∙ ap (λ (l : List (Active (List Work))). Left (thread_of code New l (beside_of b')) to (around_of b'.around) (left - 1)) all_frames)
+    pub step_leaves : (to : To) → m ≡ move.Leave to → MakesStep top task rest b (Some (stopped.Leaves to)) pushed b'
+    step_leaves to e left = sym (steps_as left (move.Leave to) e ∙ ap (λ (l : List (Active (List Work))). Left (thread_of code New l (beside_of b')) to (around_of b'.around) left) all_frames)
 
-    pub step_ends : (end : End) → m ≡ move.End end → ends end (beside_of b') (left - 1) ≡ going code left (beside_of b) (actives running)
-    step_ends end e = sym (steps_as (move.End end) e)
+    pub step_ends : (end : End) → m ≡ move.End end → MakesStep top task rest b (Some (stopped.Ends end)) pushed b'
+    step_ends end e left = sym (steps_as left (move.End end) e)
 
 -- the values of the innermost frame are answered
 pub answers : (h : Heads) (wait : Wait) (target : Option TargetInMemory) (old rest new : List Running) (top : Running) (scope : Scope) (b b' : BesideInMemory)

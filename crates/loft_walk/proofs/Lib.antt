@@ -4,4 +4,5 @@ pub mod Bodies
 pub mod Counts
 pub mod Frames
 pub mod Going
+pub mod Live
 pub mod Midst

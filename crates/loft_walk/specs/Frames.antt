@@ -17,6 +17,8 @@ use Rattle.loft_effect.specs.declared.scope.Beside.{Beside as BesideInMemory}
 use Rattle.loft_walk.specs.declared.step.Move.{Move}
 use Rattle.loft_walk.specs.declared.step.Move.TheVariants as move
 use Rattle.loft_walk.specs.declared.work.Task.{Task}
+use Rattle.loft_walk.specs.declared.thread.Stopped.{Stopped}
+use Rattle.loft_walk.specs.declared.thread.Stopped.TheVariants as stopped
 use Rattle.loft_effect.specs.View.{beside_of}
 use Rattle.loft_walk.specs.Pieces.{work_of, work_of_task}
 
@@ -48,6 +50,17 @@ advance (move.Enter m arguments) c left on r rs b = run_on c left on (Some argum
 advance (move.Hold wait) c left on r rs b = Held (thread_of c wait (r ∷ rs) b) b.around left
 advance (move.Leave to) c left on r rs b = Left (thread_of c New (r ∷ rs) b) to b.around left
 advance (move.End end) c left on r rs b = ends end b left
+
+-- a thread with these frames, innermost first, stops
+abbrev pub stops : Stopped → Control (List Work) → ℕ → List (Active (List Work)) → Beside → Outcome
+stops (stopped.Waits wait) c left rs b = Held (thread_of c wait rs b) b.around left
+stops (stopped.Leaves to) c left rs b = Left (thread_of c New rs b) to b.around left
+stops (stopped.Ends end) c left rs b = ends end b left
+
+-- it stops, or goes on in at most so many further steps
+abbrev pub goes_or_stops : Option Stopped → Control (List Work) → ℕ → Beside → List (Active (List Work)) → Outcome
+goes_or_stops None c left b rs = going c left b rs
+goes_or_stops (Some s) c left b rs = stops s c left rs b
 
 -- a program with these heads
 abbrev pub program_with : Heads → List Body → Resolved

@@ -1,6 +1,6 @@
 //! A thread walks its statements (docs/SEMANTICS.md, "Run").
 
-ghost use Rattle.std.specs.Prelude.{◌≡◌, ◌≤◌, ◌-◌, true, IfOk, OnOk, map, reverse};
+ghost use Rattle.std.specs.Prelude.{◌≡◌, ◌≤◌, ◌<◌, ◌-◌, ℕ, true, Some, None, IfOk, OnOk, map, reverse};
 ghost use Rattle.std.specs.Option.{option_map};
 ghost use Rattle.loft_tree.specs.ProgramView.{program_of};
 ghost use Rattle.loft_tree.specs.Resolved.{Resolved, resolved_of, target_of as variable_of};
@@ -8,11 +8,11 @@ ghost use Rattle.loft_sense.specs.declared.thread.Wait.TheVariants.{New as WaitN
 ghost use Rattle.loft_sense.specs.Machine.{Tree};
 ghost use Rattle.loft_sense.specs.Passes.{run_of};
 ghost use Rattle.loft_sense.specs.Around.{Beside as BesideOf};
-ghost use Rattle.loft_sense.specs.Run.{active_of, frame_of, thread_of, live, ends, going, go_on, no_step, Held, Left};
+ghost use Rattle.loft_sense.specs.Run.{active_of, frame_of, thread_of, live, ends, going, go_on, step_on, no_step, Held, Left};
 ghost use Rattle.loft_sense.specs.Tree.{tree};
 ghost use Rattle.loft_effect.specs.View.{around_of, beside_of, steps_left};
 ghost use Rattle.loft_effect.specs.Outcomes.{gone_of};
-ghost use Rattle.loft_walk.specs.Frames.{active, actives, live_of, top_target, Answers};
+ghost use Rattle.loft_walk.specs.Frames.{active, actives, live_of, stops, goes_or_stops, top_target, Answers};
 ghost use Rattle.loft_walk.specs.Midst.{paused_outcome, paused_left, bound_of, progress_outcome, progress_left, bound_in, IfGoes};
 
 use crate::paused::{Paused, Progress};
@@ -30,6 +30,17 @@ use std::alloc::Global;
 struct Woken<'a> {
     running: Vec<Running<'a>>,
     target: Option<Target>,
+}
+
+/// How a thread stops.
+#[derive(Drop)]
+enum Stopped {
+    /// It waits.
+    Waits(Wait),
+    /// It leaves.
+    Leaves(To),
+    /// It ends.
+    Ends(End),
 }
 
 /// All frames go on where they stood.
@@ -175,6 +186,92 @@ fn end(mut beside: Beside, end: End, left: u64) -> Result<Gone, NoMemory>
     Ok(Gone { outcome, around })
 }
 
+/// The thread stops.
+fn stop(
+    alloc: Global,
+    beside: Beside,
+    running: Vec<Running<'_>>,
+    stopped: Stopped,
+    left: u64,
+) -> Result<Gone, NoMemory>
+    requires { left ≤ beside.around.bound }
+    ensures stops { IfOk result (λ gone. (p : Resolved)
+        → gone_of gone ≡ stops stopped (tree p) left (actives running.entry.items) (beside_of beside)) }
+    ensures bound { IfOk result (λ gone. gone.around.bound ≡ beside.around.bound) }
+{
+    match stopped {
+        Stopped::Waits(wait) => hold(alloc, beside, running, wait, left),
+        Stopped::Leaves(to) => leave(alloc, beside, running, to, left),
+        Stopped::Ends(cause) => end(beside, cause, left),
+    }
+}
+
+/// The innermost frame makes a step, over the others, outermost first; how the thread stops, if it does.
+fn make_step<'a>(
+    alloc: Global,
+    program: &'a NamedProgram,
+    running: &mut Vec<Running<'a>>,
+    beside: &mut Beside,
+    mut top: Running<'a>,
+    task: Task<'a>,
+) -> Result<Option<Stopped>, NoMemory>
+    ensures steps { IfOk result (λ stopped. let code = tree (resolved_of (program_of program.now)) in
+        (left : ℕ) → goes_or_stops stopped code left (beside_of beside.new) (actives running.new.items)
+        ≡ step_on code left (going code left) (beside_of beside.old) (live_of (Some (top.entry, task.entry)) running.old.items)) }
+    ensures bound { IfOk result (λ stopped. beside.new.around.bound ≡ beside.old.around.bound) }
+{
+    let step = top.step(alloc, &program.heads, beside, task)?;
+    let at = top.scope.at;
+    running.push(top)?;
+    match step {
+        Move::GoOn => Ok(None),
+        Move::Enter(module, arguments) => {
+            if running.len() >= MAX_FRAMES {
+                return Ok(Some(Stopped::Ends(End::Deep(at))));
+            }
+            let frame = Running::begin(alloc, program, beside.id, module, arguments)?;
+            running.push(frame)?;
+            Ok(None)
+        }
+        Move::Hold(wait) => Ok(Some(Stopped::Waits(wait))),
+        Move::Leave(to) => Ok(Some(Stopped::Leaves(to))),
+        Move::End(cause) => Ok(Some(Stopped::Ends(cause))),
+    }
+}
+
+/// Steps of a thread with these frames, outermost first, until it stops, or no more are left; where it pauses, also until
+/// something was done. How the thread stops, if it does.
+fn make_steps<'a>(
+    alloc: Global,
+    program: &'a NamedProgram,
+    running: &mut Vec<Running<'a>>,
+    beside: &mut Beside,
+    left: &mut u64,
+    pauses: bool,
+) -> Result<Option<Stopped>, NoMemory>
+    ensures steps { IfOk result (λ stopped. let code = tree (resolved_of (program_of program.now)) in
+        goes_or_stops stopped code left.new (beside_of beside.new) (actives running.new.items)
+        ≡ going code left.old (beside_of beside.old) (actives running.old.items)) }
+    ensures pauses { IfOk result (λ stopped. stopped ≡ None → pauses ≡ true) }
+    ensures less { IfOk result (λ stopped. stopped ≡ None → left.new < left.old) }
+    ensures left { IfOk result (λ stopped. left.new ≤ left.old) }
+    ensures bound { IfOk result (λ stopped. beside.new.around.bound ≡ beside.old.around.bound) }
+{
+    'going: while let Some((top, task)) = next_task(running)? {
+        if *left == 0 {
+            return Ok(Some(Stopped::Ends(End::Over(top.scope.at))));
+        }
+        *left -= 1;
+        if let Some(stopped) = make_step(alloc, program, running, beside, top, task)? {
+            return Ok(Some(stopped));
+        }
+        if pauses && !beside.around.acts.is_empty() {
+            return Ok(None);
+        }
+    }
+    Ok(Some(Stopped::Ends(End::Done)))
+}
+
 /// A thread with these frames goes on, outermost first, in at most so many further steps, until it stops; where it pauses,
 /// also until something was done.
 fn run<'a>(
@@ -192,37 +289,11 @@ fn run<'a>(
     ensures left { IfOk result (λ progress. progress_left progress ≤ left) }
     ensures bound { IfOk result (λ progress. bound_in progress ≡ beside.around.bound) }
 {
-    'going: while let Some((mut top, task)) = next_task(&mut running)? {
-        if left == 0 {
-            return Ok(Progress::Stops(end(beside, End::Over(top.scope.at), 0)?));
-        }
-        left -= 1;
-        let step = top.step(alloc, &program.heads, &mut beside, task)?;
-        let at = top.scope.at;
-        running.push(top)?;
-        match step {
-            Move::GoOn => {
-                if pauses && !beside.around.acts.is_empty() {
-                    return Ok(Progress::Goes(Paused::new(running, beside, left)));
-                }
-            }
-            Move::Enter(module, arguments) => {
-                if running.len() >= MAX_FRAMES {
-                    return Ok(Progress::Stops(end(beside, End::Deep(at), left)?));
-                }
-                let frame = Running::begin(alloc, program, beside.id, module, arguments)?;
-                running.push(frame)?;
-            }
-            Move::Hold(wait) => {
-                return Ok(Progress::Stops(hold(alloc, beside, running, wait, left)?));
-            }
-            Move::Leave(to) => {
-                return Ok(Progress::Stops(leave(alloc, beside, running, to, left)?));
-            }
-            Move::End(cause) => return Ok(Progress::Stops(end(beside, cause, left)?)),
-        }
+    let stopped = make_steps(alloc, program, &mut running, &mut beside, &mut left, pauses)?;
+    match stopped {
+        None => Ok(Progress::Goes(Paused::new(running, beside, left))),
+        Some(stopped) => Ok(Progress::Stops(stop(alloc, beside, running, stopped, left)?)),
     }
-    Ok(Progress::Stops(end(beside, End::Done, left)?))
 }
 
 /// The wait of a thread with these frames ends, as it goes on; `target` is the variable that the stop of the innermost

@@ -1,18 +1,18 @@
 //! Statements, with the bodies in them.
 
 ghost use Rattle.std.specs.Prelude.{◌≡◌, ◌+◌, ◌<◌, ◌^◌, IfOk, OnOk};
-ghost use Rattle.loft_tree.specs.View.{statement_of, statements_of};
+ghost use Rattle.loft_tree.specs.View.{expression_of, statement_of, statements_of};
+ghost use Rattle.loft_tree.specs.NamedTree.{If, Repeat, While};
 ghost use Rattle.loft_tree.specs.NamedView as view;
 ghost use Rattle.loft_names.specs.Numbers as numbers;
 ghost use Rattle.loft_names.specs.Numbers.{stops_in, body_stops};
 
-use crate::numbers::call::creation;
-use crate::numbers::expression::{term, term_if, terms};
-use crate::numbers::name::{event_use, event_uses, module, scheduler, target};
+use crate::numbers::expression::term;
+use crate::numbers::simple;
 use crate::scope::Scope;
 use crate::table::Table;
 use loft_base::NoMemory;
-use loft_tree::{NamedStmt, Stmt, Text};
+use loft_tree::{Expr, NamedStmt, Stmt};
 use std::alloc::Global;
 
 /// The number of the next stop.
@@ -25,9 +25,74 @@ fn next_stop(stops: &mut u32) -> u32
     *stops
 }
 
+/// `if (E) then .. else .. end`, where its bodies have numbers already.
+#[tactic(auto, using(loft_tree::proofs::NamedTrees::named_if))]
+fn if_test(
+    alloc: Global,
+    table: &Table,
+    scope: Scope,
+    at: u32,
+    test: &Expr,
+    first: Vec<NamedStmt>,
+    second: Vec<NamedStmt>,
+) -> Result<NamedStmt, NoMemory>
+    ensures { IfOk result (λ t. view.statement_of t
+        ≡ If at (numbers.term_of table.now scope (expression_of test.now))
+        (view.statements_of first.items) (view.statements_of second.items)) }
+{
+    Ok(NamedStmt::If {
+        at,
+        test: term(alloc, table, scope, test)?,
+        first,
+        second,
+    })
+}
+
+/// `while (E) do .. end`, where its body has numbers already.
+#[tactic(auto, using(loft_tree::proofs::NamedTrees::named_while))]
+fn while_test(
+    alloc: Global,
+    table: &Table,
+    scope: Scope,
+    at: u32,
+    test: &Expr,
+    body: Vec<NamedStmt>,
+) -> Result<NamedStmt, NoMemory>
+    ensures { IfOk result (λ t. view.statement_of t
+        ≡ While at (numbers.term_of table.now scope (expression_of test.now))
+        (view.statements_of body.items)) }
+{
+    Ok(NamedStmt::While {
+        at,
+        test: term(alloc, table, scope, test)?,
+        body,
+    })
+}
+
+/// `repeat (E) do .. end`, where its body has numbers already.
+#[tactic(auto, using(loft_tree::proofs::NamedTrees::named_repeat))]
+fn repeat(
+    alloc: Global,
+    table: &Table,
+    scope: Scope,
+    at: u32,
+    count: &Expr,
+    body: Vec<NamedStmt>,
+) -> Result<NamedStmt, NoMemory>
+    ensures { IfOk result (λ t. view.statement_of t
+        ≡ Repeat at (numbers.term_of table.now scope (expression_of count.now))
+        (view.statements_of body.items)) }
+{
+    Ok(NamedStmt::Repeat {
+        at,
+        count: term(alloc, table, scope, count)?,
+        body,
+    })
+}
+
 /// A statement, after so many stops of its module.
 #[cycle(statement)]
-#[tactic(auto, using(crate::proofs::Stops::numbered_statements))]
+#[tactic(auto, using(loft_tree::proofs::Trees::statements))]
 fn statement(
     alloc: Global,
     table: &Table,
@@ -41,165 +106,133 @@ fn statement(
     ensures counted { OnOk result (stops.new ≡ stops.old + stops_in (statement_of s.now)) }
 {
     match s {
-        Stmt::Assign {
-            target: name,
-            value,
-        } => Ok(NamedStmt::Assign {
-            target: target(table, scope, name),
-            value: term(alloc, table, scope, value)?,
-        }),
+        Stmt::Assign { target, value } => simple::assign(alloc, table, scope, target, value),
         Stmt::AssignCreate {
-            target: name,
+            target,
             at,
-            creation: made,
-        } => Ok(NamedStmt::AssignCreate {
-            target: target(table, scope, name),
-            at: *at,
-            creation: creation(alloc, table, scope, made)?,
-        }),
-        Stmt::Create { at, creation: made } => Ok(NamedStmt::Create {
-            at: *at,
-            creation: creation(alloc, table, scope, made)?,
-        }),
-        Stmt::PrintText { at, text, value } => Ok(NamedStmt::PrintText {
-            at: *at,
-            text: Text::new(Vec::from_slice(alloc, text.bytes())?),
-            value: term_if(alloc, table, scope, value)?,
-        }),
-        Stmt::PrintValue { at, value } => Ok(NamedStmt::PrintValue {
-            at: *at,
-            value: term(alloc, table, scope, value)?,
-        }),
-        Stmt::Cooperate { at, instants } => Ok(NamedStmt::Cooperate {
-            at: *at,
-            stop: next_stop(stops),
-            instants: term_if(alloc, table, scope, instants)?,
-        }),
-        Stmt::Generate {
-            at,
-            event: name,
-            value,
-        } => Ok(NamedStmt::Generate {
-            at: *at,
-            event: event_use(table, scope, name),
-            value: term_if(alloc, table, scope, value)?,
-        }),
-        Stmt::Await {
-            at,
-            event: name,
+            creation,
+        } => simple::assign_create(alloc, table, scope, target, *at, creation),
+        Stmt::Create { at, creation } => simple::create(alloc, table, scope, *at, creation),
+        Stmt::PrintText { at, text, value } => simple::print_text(
+            alloc, table, scope, *at, text, value,
+        ),
+        Stmt::PrintValue { at, value } => simple::print_value(alloc, table, scope, *at, value),
+        Stmt::Cooperate { at, instants } => simple::cooperate(
+            alloc,
+            table,
+            scope,
+            *at,
+            next_stop(stops),
+            instants,
+        ),
+        Stmt::Generate { at, event, value } => simple::generate(
+            alloc, table, scope, *at, event, value,
+        ),
+        Stmt::Await { at, event, limit } => simple::await_event(
+            alloc,
+            table,
+            scope,
+            *at,
+            next_stop(stops),
+            event,
             limit,
-        } => Ok(NamedStmt::Await {
-            at: *at,
-            stop: next_stop(stops),
-            event: event_use(table, scope, name),
-            limit: term_if(alloc, table, scope, limit)?,
-        }),
-        Stmt::Select { at, events, limit } => Ok(NamedStmt::Select {
-            at: *at,
-            stop: next_stop(stops),
-            events: event_uses(alloc, table, scope, events.as_slice())?,
-            limit: term_if(alloc, table, scope, limit)?,
-        }),
+        ),
+        Stmt::Select { at, events, limit } => simple::select(
+            alloc,
+            table,
+            scope,
+            *at,
+            next_stop(stops),
+            events.as_slice(),
+            limit,
+        ),
         Stmt::Get {
             at,
-            event: name,
+            event,
             index,
-            target: into,
-        } => Ok(NamedStmt::Get {
-            at: *at,
-            stop: next_stop(stops),
-            event: event_use(table, scope, name),
-            index: term(alloc, table, scope, index)?,
-            target: target(table, scope, into),
-        }),
-        Stmt::Join { at, thread, limit } => Ok(NamedStmt::Join {
-            at: *at,
-            stop: next_stop(stops),
-            thread: term(alloc, table, scope, thread)?,
-            limit: term_if(alloc, table, scope, limit)?,
-        }),
+            target,
+        } => simple::get(
+            alloc,
+            table,
+            scope,
+            *at,
+            next_stop(stops),
+            event,
+            index,
+            target,
+        ),
+        Stmt::Join { at, thread, limit } => simple::join(
+            alloc,
+            table,
+            scope,
+            *at,
+            next_stop(stops),
+            thread,
+            limit,
+        ),
         Stmt::Control {
             at,
             control,
             thread,
-            scheduler: name,
-        } => Ok(NamedStmt::Control {
-            at: *at,
-            control: *control,
-            thread: term(alloc, table, scope, thread)?,
-            scheduler: scheduler(table, scope, name),
-        }),
-        Stmt::Broadcast {
-            at,
-            event: name,
-            value,
-        } => Ok(NamedStmt::Broadcast {
-            at: *at,
-            event: event_use(table, scope, name),
-            value: term_if(alloc, table, scope, value)?,
-        }),
-        Stmt::Link {
-            at,
-            scheduler: name,
-        } => Ok(NamedStmt::Link {
-            at: *at,
-            stop: next_stop(stops),
-            scheduler: scheduler(table, scope, name),
-        }),
-        Stmt::Unlink { at } => Ok(NamedStmt::Unlink {
-            at: *at,
-            stop: next_stop(stops),
-        }),
+            scheduler,
+        } => simple::control_thread(alloc, table, scope, *at, *control, thread, scheduler),
+        Stmt::Broadcast { at, event, value } => simple::broadcast(
+            alloc, table, scope, *at, event, value,
+        ),
+        Stmt::Link { at, scheduler } => Ok(simple::link(
+            table,
+            scope,
+            *at,
+            next_stop(stops),
+            scheduler,
+        )),
+        Stmt::Unlink { at } => Ok(simple::unlink(*at, next_stop(stops))),
         Stmt::Run {
             at,
             called,
             arguments,
-        } => Ok(NamedStmt::Run {
-            at: *at,
-            stop: next_stop(stops),
-            called: called.at(),
-            module: module(table, scope, called),
-            arguments: terms(alloc, table, scope, arguments.as_slice())?,
-        }),
-        Stmt::Halt { at } => Ok(NamedStmt::Halt {
-            at: *at,
-            stop: next_stop(stops),
-        }),
+        } => simple::run(
+            alloc,
+            table,
+            scope,
+            *at,
+            next_stop(stops),
+            called,
+            arguments.as_slice(),
+        ),
+        Stmt::Halt { at } => Ok(simple::halt(*at, next_stop(stops))),
         Stmt::If {
             at,
             test,
             first,
             second,
-        } => Ok(NamedStmt::If {
-            at: *at,
-            test: term(alloc, table, scope, test)?,
-            first: body(alloc, table, scope, first.as_slice(), stops)?,
-            second: body(alloc, table, scope, second.as_slice(), stops)?,
-        }),
+        } => {
+            let first = body(alloc, table, scope, first.as_slice(), stops)?;
+            let second = body(alloc, table, scope, second.as_slice(), stops)?;
+            if_test(alloc, table, scope, *at, test, first, second)
+        }
         Stmt::While {
             at,
             test,
             body: inner,
-        } => Ok(NamedStmt::While {
-            at: *at,
-            test: term(alloc, table, scope, test)?,
-            body: body(alloc, table, scope, inner.as_slice(), stops)?,
-        }),
+        } => {
+            let inner = body(alloc, table, scope, inner.as_slice(), stops)?;
+            while_test(alloc, table, scope, *at, test, inner)
+        }
         Stmt::Repeat {
             at,
             count,
             body: inner,
-        } => Ok(NamedStmt::Repeat {
-            at: *at,
-            count: term(alloc, table, scope, count)?,
-            body: body(alloc, table, scope, inner.as_slice(), stops)?,
-        }),
+        } => {
+            let inner = body(alloc, table, scope, inner.as_slice(), stops)?;
+            repeat(alloc, table, scope, *at, count, inner)
+        }
     }
 }
 
 /// The statements of a body, after so many stops of its module.
 #[cycle(statement)]
-#[tactic(auto, using(crate::proofs::Stops::numbered_statements))]
+#[tactic(auto, using(loft_tree::proofs::Trees::statements))]
 pub fn body(
     alloc: Global,
     table: &Table,

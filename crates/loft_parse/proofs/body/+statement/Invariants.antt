@@ -7,11 +7,8 @@ use Rattle.loft_parse.proofs.body.+statement.Given as goal
 abbrev pub decreases-conditional : goal.decreases-conditional
 decreases-conditional g l = 16 * l.deeper + 0
 
-abbrev pub decreases-while_loop : goal.decreases-while_loop
-decreases-while_loop g l = 16 * l.deeper + 0
-
-abbrev pub decreases-repeat : goal.decreases-repeat
-decreases-repeat g l = 16 * l.deeper + 0
+abbrev pub decreases-looped : goal.decreases-looped
+decreases-looped g l = 16 * l.deeper + 0
 
 abbrev pub decreases-moving_statement : goal.decreases-moving_statement
 decreases-moving_statement g l = 16 * l.deeper + 1
@@ -27,9 +24,6 @@ decreases-otherwise g l = 16 * l.deeper + 4
 
 abbrev pub decreases-branches : goal.decreases-branches
 decreases-branches g l = 16 * l.deeper + 5
-
-abbrev pub decreases-turns : goal.decreases-turns
-decreases-turns g l = 16 * l.deeper + 5
 
 -- what was read and what is left make up the whole
 abbrev pub invariant-body-all : goal.invariant-body-all

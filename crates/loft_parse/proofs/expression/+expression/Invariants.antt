@@ -18,11 +18,8 @@ rank Disjunction = 14
 abbrev pub decreases-bracketed : goal.decreases-bracketed
 decreases-bracketed g l = 20 * l.deeper + 0
 
-abbrev pub decreases-negated : goal.decreases-negated
-decreases-negated g l = 20 * l.deeper + 0
-
-abbrev pub decreases-inverted : goal.decreases-inverted
-decreases-inverted g l = 20 * l.deeper + 0
+abbrev pub decreases-prefixed : goal.decreases-prefixed
+decreases-prefixed g l = 20 * l.deeper + 0
 
 abbrev pub decreases-atom : goal.decreases-atom
 decreases-atom g l = 20 * l.deeper + 1

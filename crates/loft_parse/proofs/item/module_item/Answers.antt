@@ -19,13 +19,6 @@ returns-in_err-body c =
     let l = flat_locals (symbols_at c.in_ok-head.at) (state_at c.in_ok-head.at) ∙ c.in_ok-locals.ensures in
     search (rules, h, l)
 
-pub returns-in_err-at : goal.returns-in_err-at
-unfolding module_item
-returns-in_err-at c =
-    let h = flat_head (symbols_at c.args.at) (state_at c.args.at) ∙ c.in_ok-head.ensures in
-    let l = flat_locals (symbols_at c.in_ok-head.at) (state_at c.in_ok-head.at) ∙ c.in_ok-locals.ensures in
-    search (rules, h, l)
-
 pub returns : goal.returns
 unfolding module_item
 returns c =

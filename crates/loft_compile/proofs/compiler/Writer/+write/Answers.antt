@@ -1,10 +1,10 @@
-use Rattle.std.proofs.Common.{◌≡◌, ◌==◌, true, false, length, map, sym, ap, ◌∙◌}
+use Rattle.std.proofs.Common.{◌≡◌, ◌==◌, true, false, length, map, sym, ap, ◌∙◌, arith}
 use Rattle.loft_tree.specs.NamedView.{term_of, statement_of, statements_of}
 use Rattle.loft_tree.specs.Resolved.{Choose, Loop, Times, exp_of, step_of, body_of}
 use Rattle.loft_tree.proofs.NamedTrees.{named_if, named_while, named_repeat}
 use Rattle.loft_code.specs.View.{operation_of, line_of}
 use Rattle.loft_compile.specs.Targets.{lines_with_target}
-use Rattle.loft_compile.proofs.WriteLemmas.{choose_written, choose_else_written, while_written, repeat_written, empty_body, some_body, long}
+use Rattle.loft_compile.proofs.WriteLemmas.{choose_written, choose_else_written, while_written, repeat_written, empty_body, some_body, long, longer}
 use Rattle.loft_compile.proofs.compiler.Writer.+write.Goals as goal
 
 pub statement-returns-in_ok-go_back-in-While-clause-lines : goal.statement-returns-in_ok-go_back-in-While-clause-lines
@@ -48,3 +48,49 @@ statement-returns-in_ok-body-in-If-clause-lines t c =
     c.in_ok-put.ensures (long _) c.in_ok-there-in-If.ensures.lines (c.len-jump.ensures ∙ c.body.new.self.lines.ok.0 ∙ long _) c.in_ok-put-in-If.ensures (long _)
     (c.set_target-in-If.ensures.lines ∙ ap (λ k. lines_with_target (map line_of c.put-in-If.new.self.lines.items) k (length c.put-in-If.new.self.lines.items)) begin)
     (long _) c.in_ok-body-in-If.ensures.lines (long _) c.set_target-in-If-2.ensures.lines
+
+pub statement-set_target-requires : goal.statement-set_target-requires
+statement-set_target-requires t c =
+    let added = longer c.args.self.now.lines.items c.put.new.self.lines.items _ c.in_ok-put.ensures in
+    let written = longer c.put.new.self.lines.items c.body.new.self.lines.items _ c.in_ok-there-in-If.ensures.lines in
+    omega (arith, c.len-begin.ensures, c.args.self.now.lines.ok.0, added, written)
+
+pub statement-set_target-requires-in-If : goal.statement-set_target-requires-in-If
+statement-set_target-requires-in-If t c =
+    let added = longer c.args.self.now.lines.items c.put.new.self.lines.items _ c.in_ok-put.ensures in
+    let written = longer c.put.new.self.lines.items c.body.new.self.lines.items _ c.in_ok-there-in-If.ensures.lines in
+    let jumped = longer c.body.new.self.lines.items c.put-in-If.new.self.lines.items _ c.in_ok-put-in-If.ensures in
+    omega (arith, c.len-begin.ensures, c.args.self.now.lines.ok.0, added, written, jumped)
+
+pub statement-set_target-requires-in-If-2 : goal.statement-set_target-requires-in-If-2
+statement-set_target-requires-in-If-2 t c =
+    let added = longer c.body.new.self.lines.items c.put-in-If.new.self.lines.items _ c.in_ok-put-in-If.ensures in
+    let written = longer c.set_target-in-If.new.self.lines.items c.body-in-If.new.self.lines.items _ c.in_ok-body-in-If.ensures.lines in
+    omega (arith, c.len-jump.ensures, c.body.new.self.lines.ok.0, added, c.set_target-in-If.ensures.len, written)
+
+pub statement-go_back-requires : goal.statement-go_back-requires
+statement-go_back-requires t c =
+    let added = longer c.put.new.self.lines.items c.put-in-While.new.self.lines.items _ c.in_ok-put-in-While.ensures in
+    let written = longer c.put-in-While.new.self.lines.items c.body-in-While.new.self.lines.items _ c.in_ok-there-in-While.ensures.lines in
+    omega (arith, c.len-again.ensures, c.put.new.self.lines.ok.0, added, written)
+
+pub statement-go_back-requires-in-Repeat : goal.statement-go_back-requires-in-Repeat
+statement-go_back-requires-in-Repeat t c =
+    let added = longer c.put.new.self.lines.items c.put-in-Repeat.new.self.lines.items _ c.in_ok-put-in-Repeat.ensures in
+    let written = longer c.put-in-Repeat.new.self.lines.items c.body-in-Repeat.new.self.lines.items _ c.in_ok-there-in-Repeat.ensures.lines in
+    omega (arith, c.len-turn.ensures, c.put.new.self.lines.ok.0, added, written)
+
+pub statement-overflow_add-depth : goal.statement-overflow_add-depth
+statement-overflow_add-depth t c =
+    let added = longer c.args.self.now.lines.items c.put.new.self.lines.items _ c.in_ok-put.ensures in
+    omega (arith, c.requires, c.put.new.self.lines.ok.0, added)
+
+pub statement-overflow_add-depth-in-Repeat : goal.statement-overflow_add-depth-in-Repeat
+statement-overflow_add-depth-in-Repeat t c =
+    let added = longer c.args.self.now.lines.items c.put.new.self.lines.items _ c.in_ok-put.ensures in
+    omega (arith, c.requires, c.put.new.self.lines.ok.0, added)
+
+pub statement-overflow_add-depth-in-Repeat-2 : goal.statement-overflow_add-depth-in-Repeat-2
+statement-overflow_add-depth-in-Repeat-2 t c =
+    let added = longer c.args.self.now.lines.items c.put.new.self.lines.items _ c.in_ok-put.ensures in
+    omega (arith, c.requires, c.put.new.self.lines.ok.0, added)

@@ -1,7 +1,7 @@
 use Rattle.std.specs.Prelude.{take}
 use Rattle.loft_turns.specs.Course.{IsRun}
 use Rattle.loft_replay.proofs.FollowLemmas.{HasFollowed}
-use Rattle.loft_replay.proofs.replay.follow_all.Given as goal
+use Rattle.loft_replay.proofs.replay.choose_all.Given as goal
 
 -- the run of the choices so far
 abbrev pub invariant-loop-index : goal.invariant-loop-index

@@ -4,7 +4,7 @@ use Rattle.loft_sense.specs.Machine.{heads}
 use Rattle.loft_log.specs.declared.choice.Choice.{Choice}
 use Rattle.loft_replay.specs.Named.{meant, follows, MovesBy}
 use Rattle.loft_replay.proofs.FollowLemmas.{HasFollowed, one_more, refused, one_there}
-use Rattle.loft_replay.proofs.replay.follow_all.Goals as goal
+use Rattle.loft_replay.proofs.replay.choose_all.Goals as goal
 
 pub returns-then-not-branch-clause-refused : goal.returns-then-not-branch-clause-refused
 returns-then-not-branch-clause-refused g c =

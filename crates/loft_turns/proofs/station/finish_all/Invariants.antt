@@ -1,7 +1,7 @@
 use Rattle.std.proofs.Common.{◌≡◌, map}
 use Rattle.loft_world.specs.Replay.{stand_of}
 use Rattle.loft_turns.specs.Course.{Stand}
-use Rattle.loft_turns.proofs.course.Course.finish.Given as goal
+use Rattle.loft_turns.proofs.station.finish_all.Given as goal
 
 -- what the schedulers so far leave
 abbrev pub invariant-loop-station : goal.invariant-loop-station

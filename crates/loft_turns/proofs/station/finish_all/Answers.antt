@@ -1,0 +1,24 @@
+use Rattle.std.proofs.Common.{rules, ◌≡◌, ◌∙◌, map, sym, ap, length}
+use Rattle.std.proofs.lemmas.Iterator.Adapters.{YieldsList-from_vec}
+use Rattle.std.proofs.lemmas.Iterator.Consumers.{YieldsList-end}
+use Rattle.std.specs.Vec.Iter.{into_iter_items, into_iter_len}
+use Rattle.std.proofs.lemmas.List.{map-id}
+use Rattle.loft_world.specs.Replay.{stand_of}
+use Rattle.loft_turns.specs.Course.{Stand}
+use Rattle.loft_turns.proofs.station.finish_all.Goals as goal
+
+pub returns-clause-notes : goal.returns-clause-notes
+returns-clause-notes g c =
+    let all : c.loop-station.yielded ≡ c.args.stations.items =
+    let items : into_iter_items c.into_iter-station-iterator.result ≡ c.args.stations.items = search rules in
+    let many : into_iter_len c.into_iter-station-iterator.result ≡ length c.args.stations.items = search rules in
+    sym (map-id c.loop-station.yielded) ∙ (YieldsList-end (YieldsList-from_vec {s = c.into_iter-station-iterator.result} c.args.stations.items items many) c.loop-station.yielded c.loop-station.station-iterator c.loop-station.yielded_by c.next.result c.next.new.self c.in-None.is c.next.ensures.steps).0 in
+    c.loop-station.invariant.told ∙ ap (map (λ (s : Stand). s.notes)) all
+
+pub returns-clause-finals : goal.returns-clause-finals
+returns-clause-finals g c =
+    let all : c.loop-station.yielded ≡ c.args.stations.items =
+    let items : into_iter_items c.into_iter-station-iterator.result ≡ c.args.stations.items = search rules in
+    let many : into_iter_len c.into_iter-station-iterator.result ≡ length c.args.stations.items = search rules in
+    sym (map-id c.loop-station.yielded) ∙ (YieldsList-end (YieldsList-from_vec {s = c.into_iter-station-iterator.result} c.args.stations.items items many) c.loop-station.yielded c.loop-station.station-iterator c.loop-station.yielded_by c.next.result c.next.new.self c.in-None.is c.next.ensures.steps).0 in
+    c.loop-station.invariant.stands ∙ ap (map (λ (s : Stand). stand_of s.machine)) all
