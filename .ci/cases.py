@@ -12,13 +12,13 @@ In the folder `history` the source is followed by the choices of NAME.choices, o
 FOLLOWERS. A history that hasn't ended has NAME.next in place of an answer, one line: it is followed
 without that choice, and with it.
 
-The folder `words` has a table instead: words, the status, and the first line of the answer, between
-tabs. Its words are separated by a blank, and '' is the empty one; they are those of a program that
-is run in that folder."""
+The folder `words` has a table instead: words, the status, and the first lines of the answer, between
+tabs. Its words are written as for a shell, and are those of a program that is run in that folder."""
 
 import concurrent.futures
 import os
 import pathlib
+import shlex
 import subprocess
 import sys
 import tempfile
@@ -61,6 +61,14 @@ def difference(wrote, wanted):
 def ended(program, words, folder):
     """How a program ends that is run with these words in a folder."""
     return subprocess.run([program, *words], cwd=folder, stdin=subprocess.DEVNULL, capture_output=True, timeout=SECONDS)
+
+
+def followed(program, choices, words):
+    """How a program ends that follows these choices."""
+    with tempfile.NamedTemporaryFile(suffix=".choices") as file:
+        file.write(choices)
+        file.flush()
+        return ended(program, [file.name, *words], TOP)
 
 
 class Source:
@@ -113,6 +121,21 @@ class Listed(Source):
             return ended(program, ["exec", file.name, *self.further()], TOP)
 
 
+class Followed(Source):
+    """A source of which the history that stands in its report is followed, statement by statement."""
+
+    def __init__(self, source, command):
+        super().__init__(source, command)
+        self.name = f"{self.name}, by its history"
+
+    def ran(self, program):
+        """How the program ends for the choices in the head of the stored report."""
+        lines = self.beside(".stdout").read_bytes().splitlines(keepends=True)
+        at, count = next((at, int(it.split()[1])) for at, it in enumerate(lines) if it.startswith(b"history "))
+        choices = b"".join(lines[at + 1 : at + 1 + count])
+        return followed(program, choices, [self.command, str(self.source), *self.further()])
+
+
 class History(Source):
     """A source whose choices are followed."""
 
@@ -134,35 +157,29 @@ class History(Source):
 
     def ran(self, program):
         """How the program ends for the choices."""
-        return self.followed(program, self.choices)
+        return ended(program, [self.choices, self.command, self.name, *self.further()], TOP)
 
     def ran_on(self, program):
         """How the program ends for the choices and the one after them."""
-        with tempfile.NamedTemporaryFile(suffix=".choices") as file:
-            file.write(self.choices.read_bytes() + self.next.read_bytes())
-            file.flush()
-            return self.followed(program, file.name)
-
-    def followed(self, program, choices):
-        """How the program ends for choices in a file."""
-        return ended(program, [choices, self.command, self.name, *self.further()], TOP)
+        choices = self.choices.read_bytes() + self.next.read_bytes()
+        return followed(program, choices, [self.command, self.name, *self.further()])
 
 
 class Row:
     """A row of the table of words."""
 
     def __init__(self, number, line):
-        words, status, self.first = line.split("\t")
-        self.words = ["" if word == "''" else word for word in words.split(" ")] if words else []
+        words, status, *self.lines = line.split("\t")
+        self.words = shlex.split(words)
         self.status = int(status)
         self.name = f"words, line {number}"
 
     def failure(self, program):
         """Why the row fails, or None."""
         ran = ended(program, self.words, WORDS)
-        first = ran.stdout.split(b"\n", 1)[0].decode()
-        if (ran.returncode, first) != (self.status, self.first):
-            return f"the status is {ran.returncode} and the answer begins {first!r}, not {self.status} and {self.first!r}"
+        lines = ran.stdout.decode().split("\n")[: len(self.lines)]
+        if (ran.returncode, lines) != (self.status, self.lines):
+            return f"the status is {ran.returncode} and the answer begins {lines}, not {self.status} and {self.lines}"
         return None
 
 
@@ -209,6 +226,7 @@ def main(programs):
     cases += [Listed(it, "run") for it in sorted(TOP.glob("cases/run/*.loft")) if has_report(it)]
     cases += [Row(number, line) for number, line in enumerate(TABLE.read_text().split("\n")[:-1], 1)]
     runs = [(programs, case) for case in cases]
+    runs += [(FOLLOWERS, Followed(it, "run")) for it in sorted(TOP.glob("cases/run/*.loft")) if has_report(it)]
     runs += [(FOLLOWERS, History(it)) for it in sorted(HISTORIES.glob("*.loft"))]
     with concurrent.futures.ThreadPoolExecutor(os.cpu_count()) as pool:
         found = list(pool.map(lambda run: failures_of(*run), runs))

@@ -83,6 +83,10 @@ done
 
 wants "no words" 2 answer
 wrote "no words" "$room/usage"
+for word in a -- -a --budget=5 --instants; do
+    wants "50,000 words $word" 2 answer run $(yes -- "$word" | head -50000)
+    wrote "50,000 words $word" "$room/usage"
+done
 wants "an unknown option" 2 answer run "$source" --loud
 wrote "an unknown option" "$room/usage"
 wants "a file after --" 0 answer run -- "$source"

@@ -1,20 +1,8 @@
 //! Runs programs of fair threads, and reports what they did.
 #![tactic(auto)]
 
-mod app;
-mod command;
-mod fault_line;
-mod listing;
-mod refusal;
-mod run_code;
-mod source;
-mod status;
-#[cfg(test)]
-mod tests;
-
-use app::loft_main;
 use loft_base::{Failed, HostFiles, HostSink, OpenGate};
-use status::Status;
+use loft_commands::{Status, loft_main};
 use std::process::ExitCode;
 use std::rt::Env;
 use std::{env, io};

@@ -11,8 +11,6 @@ mod in_memory;
 mod lists;
 mod outside;
 mod streams;
-#[cfg(test)]
-mod tests;
 mod whole;
 mod writing;
 

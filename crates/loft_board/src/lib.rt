@@ -4,8 +4,6 @@
 mod board;
 mod laws;
 mod presence;
-#[cfg(test)]
-mod tests;
 
 pub use board::Board;
 pub use laws::{

@@ -2,4 +2,3 @@ pub mod SlotLemmas
 pub mod Checked
 pub mod Decided
 pub mod Leading
-pub mod Sample

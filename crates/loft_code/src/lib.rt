@@ -13,8 +13,6 @@ mod places;
 mod raw;
 mod shared_text;
 mod slots;
-#[cfg(test)]
-mod tests;
 mod valid;
 mod ways;
 

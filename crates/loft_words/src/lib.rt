@@ -7,8 +7,6 @@ mod defaults;
 mod laws;
 mod number;
 mod parts;
-#[cfg(test)]
-mod tests;
 
 pub use command::{Command, read_words};
 pub use defaults::{DEFAULT_BLOCK, DEFAULT_BUDGET, DEFAULT_INSTANTS, DEFAULT_WORKERS};

@@ -1,9 +1,0 @@
-pub mod Written
-pub mod Input
-pub mod Refusals
-pub mod Stops
-pub mod Found
-pub mod Promise
-pub mod Options
-pub mod Status
-pub mod Answer

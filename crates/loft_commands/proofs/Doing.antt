@@ -1,0 +1,145 @@
+-- From what was done for what the contents say to what was done for the contents.
+use Rattle.std.proofs.Common.{◌≡◌, ℕ, ◌⊎◌, inl, inr, List, refl, subst, Option, Some, Result, Ok, Err}
+use Rattle.loft_base.specs.declared.writing.WriteError.{WriteError}
+use Rattle.loft_base.specs.declared.writing.WriteError.TheVariants as write
+use Rattle.loft_refusal.specs.declared.refusal.Refusal.{Refusal}
+use Rattle.loft_refusal.specs.declared.refusal.Refusal.TheVariants as refusal
+use Rattle.loft_refusal.specs.declared.refusal.Stopped.{Stopped}
+use Rattle.loft_refusal.specs.declared.refusal.Stopped.TheVariants as stopped
+use Rattle.loft_sense.specs.declared.limits.RunOptions.{RunOptions}
+use Rattle.loft_words.specs.Command.{Command, Run, Exec, Show, Check, Compile}
+use Rattle.loft_refusal.specs.Input.{Input, ASource, AListing}
+use Rattle.loft_commands.specs.Written.{Appends, IsPrefix}
+use Rattle.loft_commands.specs.declared.code_run.RunError.{RunError}
+use Rattle.loft_commands.specs.declared.code_run.RunError.TheVariants as run
+use Rattle.loft_refusal.specs.Stops.{stop_of_write}
+use Rattle.loft_commands.specs.RunStops.{stop_of_run}
+use Rattle.loft_refusal.specs.Refusals.{IsTextOf, IsRefusedFor, IsCause}
+use Rattle.loft_commands.specs.Asks.{Asks, Takes}
+use Rattle.loft_commands.specs.Promise.{IsAnswerFor, IsAnswer}
+use Rattle.loft_refusal.specs.Found.{IsFault, IsUnlisted}
+use Rattle.loft_commands.specs.Answer.{Does, Attempts}
+use Rattle.loft_commands.proofs.Written.{not_begun, part_of, whole_of}
+
+-- what is read is refused for, its text is refused for
+cause_of : (contents : List ℕ) (x : Input) (r : Refusal) → IsTextOf contents x → IsRefusedFor x r → IsCause contents r
+cause_of contents (ASource p) (refusal.Text e) text refused = absurd refused
+cause_of contents (ASource p) (refusal.Names e) text refused = (ASource p, text, refused)
+cause_of contents (ASource p) (refusal.Links e schedulers) text refused = (ASource p, text, refused)
+cause_of contents (ASource p) (refusal.Listing e) text refused = absurd refused
+cause_of contents (ASource p) (refusal.Code e modules) text refused = absurd refused
+cause_of contents (AListing c) (refusal.Text e) text refused = absurd refused
+cause_of contents (AListing c) (refusal.Names e) text refused = absurd refused
+cause_of contents (AListing c) (refusal.Links e schedulers) text refused = absurd refused
+cause_of contents (AListing c) (refusal.Listing e) text refused = absurd refused
+cause_of contents (AListing c) (refusal.Code e modules) text refused = (AListing c, text, refused)
+
+pub does_attempts : {c : Command} {x : Input} {known : Option (List ℕ)} {result : Result (Unit {0}) Stopped} {old new : Option (List ℕ)}
+    → ((contents : List ℕ) → known ≡ Some contents → IsTextOf contents x) → Does c x result old new → Attempts c known result old new
+does_attempts {c = c} {x = x} {result = result} text does = record {
+  takes = λ contents k ok. (x, text contents k, does.takes ok);
+  written = λ contents k ok. whole_of (IsAnswerFor c x) (IsAnswer c contents) (λ answer holds. (x, text contents k, holds)) (does.written ok);
+  refused = λ contents r k e. ((does.refused r e).0, cause_of contents x r (text contents k) (does.refused r e).1);
+  silent = does.silent;
+  no_file = λ e. absurd (does.no_file e);
+  cut = λ contents k e. part_of (IsAnswerFor c x) (IsAnswer c contents) (λ answer holds. (x, text contents k, holds)) (does.cut e);
+}
+
+-- what stops a command before anything is written
+stopped_attempts : (c : Command) (known : Option (List ℕ)) (e : Stopped) (old : Option (List ℕ))
+    → ((contents : List ℕ) (r : Refusal) → known ≡ Some contents → e ≡ stopped.Refused r → Asks c r × IsCause contents r) → Attempts c known (Err e) old old
+stopped_attempts c known e old cause = record {
+  takes = λ contents k ok. absurd cc;
+  written = λ contents k ok. absurd cc;
+  refused = λ contents r k is. cause contents r k (at (Err e) refl (stopped.Refused r) is);
+  silent = λ r is. refl;
+  no_file = λ is. refl;
+  cut = λ contents k is. not_begun (IsAnswer c contents) refl;
+}
+  where
+    at : (r : Result (Unit {0}) Stopped) → r ≡ Err e → (s : Stopped) → r ≡ Err s → e ≡ s
+    at r is s also = cc (is, also)
+
+-- a command that takes sources
+abbrev pub TakesSources : Command → Type 0
+TakesSources (Run file o) = Unit {0}
+TakesSources (Exec file o) = ⊥
+TakesSources (Show file) = Unit {0}
+TakesSources (Check file) = Unit {0}
+TakesSources (Compile file) = Unit {0}
+
+asks_text : (c : Command) (contents : List ℕ) (r : Refusal) → TakesSources c → IsFault contents (stopped.Refused r) → Asks c r × IsCause contents r
+asks_text (Run file o) contents (refusal.Text e) is fault = (tt, fault)
+asks_text (Exec file o) contents (refusal.Text e) is fault = absurd is
+asks_text (Show file) contents (refusal.Text e) is fault = (tt, fault)
+asks_text (Check file) contents (refusal.Text e) is fault = (tt, fault)
+asks_text (Compile file) contents (refusal.Text e) is fault = (tt, fault)
+asks_text c contents (refusal.Names e) is fault = absurd fault
+asks_text c contents (refusal.Links e schedulers) is fault = absurd fault
+asks_text c contents (refusal.Listing e) is fault = absurd fault
+asks_text c contents (refusal.Code e modules) is fault = absurd fault
+
+-- there is no program in the file, and nothing was written
+pub unread_attempts : (c : Command) (known : Option (List ℕ)) (e : Stopped) (old : Option (List ℕ)) → TakesSources c
+    → ((contents : List ℕ) → known ≡ Some contents → IsFault contents e) → Attempts c known (Err e) old old
+unread_attempts c known e old is fault = stopped_attempts c known e old
+    (λ contents r k same. asks_text c contents r is (subst (IsFault contents) same (fault contents k)))
+
+asks_code : (file : List ℕ) (o : RunOptions) (contents : List ℕ) (r : Refusal) → IsUnlisted contents (stopped.Refused r) → Asks (Exec file o) r × IsCause contents r
+asks_code file o contents (refusal.Text e) fault = absurd fault
+asks_code file o contents (refusal.Names e) fault = absurd fault
+asks_code file o contents (refusal.Links e schedulers) fault = absurd fault
+asks_code file o contents (refusal.Listing e) fault = (tt, fault)
+asks_code file o contents (refusal.Code e modules) (c, text, invalid) = (tt, (AListing c, text, invalid))
+
+-- there is no valid listing in it
+pub unlisted_attempts : (file : List ℕ) (o : RunOptions) (known : Option (List ℕ)) (e : Stopped) (old : Option (List ℕ))
+    → ((contents : List ℕ) → known ≡ Some contents → IsUnlisted contents e) → Attempts (Exec file o) known (Err e) old old
+unlisted_attempts file o known e old fault = stopped_attempts (Exec file o) known e old
+    (λ contents r k same. asks_code file o contents r (subst (IsUnlisted contents) same (fault contents k)))
+
+ok_is_no_stop : {P : Type 0} (result : Result (Unit {0}) Stopped) → result ≡ Ok tt → result ≡ Err stopped.SinkFault ⊎ result ≡ Err stopped.NoMemory → P
+ok_is_no_stop result is (inl e) = absurd cc
+ok_is_no_stop result is (inr e) = absurd cc
+
+-- the answer was written
+pub done_does : {c : Command} {x : Input} {result : Result (Unit {0}) Stopped} {old new : Option (List ℕ)}
+    → result ≡ Ok tt → Takes c x → Appends old new (IsAnswerFor c x) → Does c x result old new
+done_does {result = result} is takes whole = record {
+  takes = λ ok. takes;
+  written = λ ok. whole;
+  refused = λ r e. absurd cc;
+  silent = λ r e. absurd cc;
+  no_file = λ e. cc;
+  cut = λ e. ok_is_no_stop result is e;
+}
+
+-- what was written of the answer breaks off
+pub failed_does : {c : Command} {x : Input} {result : Result (Unit {0}) Stopped} {old new : Option (List ℕ)}
+    → result ≡ Err stopped.SinkFault ⊎ result ≡ Err stopped.NoMemory → Appends old new (IsPrefix (IsAnswerFor c x)) → Does c x result old new
+failed_does (inl is) part = record {
+  takes = λ ok. absurd cc;
+  written = λ ok. absurd cc;
+  refused = λ r e. absurd cc;
+  silent = λ r e. absurd cc;
+  no_file = λ e. cc;
+  cut = λ e. part;
+}
+failed_does (inr is) part = record {
+  takes = λ ok. absurd cc;
+  written = λ ok. absurd cc;
+  refused = λ r e. absurd cc;
+  silent = λ r e. absurd cc;
+  no_file = λ e. cc;
+  cut = λ e. part;
+}
+
+-- what stops a command whose text can't be written
+pub write_stops : (w : WriteError) (result : Result (Unit {0}) Stopped) → result ≡ Err (stop_of_write w) → result ≡ Err stopped.SinkFault ⊎ result ≡ Err stopped.NoMemory
+write_stops write.Sink result is = inl is
+write_stops write.NoMemory result is = inr is
+
+-- what stops a command whose run stops
+pub run_stops : (e : RunError) (result : Result (Unit {0}) Stopped) → result ≡ Err (stop_of_run e) → result ≡ Err stopped.SinkFault ⊎ result ≡ Err stopped.NoMemory
+run_stops run.Sink result is = inl is
+run_stops run.NoMemory result is = inr is

@@ -1,0 +1,69 @@
+-- What a command asks of the contents of its file, and by which line it refuses them (docs/COMMANDS.md, "Fault lines").
+use Rattle.std.specs.Prelude.{◌≡◌, ℕ, List}
+use Rattle.loft_code.specs.Valid.{Valid}
+use Rattle.loft_refusal.specs.declared.refusal.Refusal.{Refusal}
+use Rattle.loft_refusal.specs.declared.refusal.Refusal.TheVariants as refusal
+use Rattle.loft_refusal.specs.Input.{Input, ASource, AListing}
+use Rattle.loft_refusal.specs.Refusals.{Well, IsCause, line_of}
+use Rattle.loft_words.specs.Command.{Command, Run, Exec, Show, Check, Compile}
+use Rattle.loft_commands.specs.Written.{IsLine}
+
+-- what is asked of a source, of one whose names and links have to be correct, and of a listing
+abbrev pub asks_source : Refusal → Type 0
+asks_source (refusal.Text e) = Unit {0}
+asks_source (refusal.Names e) = ⊥
+asks_source (refusal.Links e schedulers) = ⊥
+asks_source (refusal.Listing e) = ⊥
+asks_source (refusal.Code e modules) = ⊥
+
+abbrev pub asks_well : Refusal → Type 0
+asks_well (refusal.Text e) = Unit {0}
+asks_well (refusal.Names e) = Unit {0}
+asks_well (refusal.Links e schedulers) = Unit {0}
+asks_well (refusal.Listing e) = ⊥
+asks_well (refusal.Code e modules) = ⊥
+
+abbrev pub asks_listing : Refusal → Type 0
+asks_listing (refusal.Text e) = ⊥
+asks_listing (refusal.Names e) = ⊥
+asks_listing (refusal.Links e schedulers) = ⊥
+asks_listing (refusal.Listing e) = Unit {0}
+asks_listing (refusal.Code e modules) = Unit {0}
+
+-- what a command asks for: `show` a source, `exec` a listing, the others a source whose names and links are correct
+abbrev pub Asks : Command → Refusal → Type 0
+Asks (Run file o) r = asks_well r
+Asks (Exec file o) r = asks_listing r
+Asks (Show file) r = asks_source r
+Asks (Check file) r = asks_well r
+Asks (Compile file) r = asks_well r
+
+-- a command refuses contents by this line
+abbrev pub Refuses : Command → List ℕ → List ℕ → Type 0
+Refuses c contents line = (r : Refusal) × Asks c r × IsCause contents r × (line ≡ line_of r)
+
+-- the text is the line with which a command refuses contents
+abbrev pub IsRefusal : Command → List ℕ → List ℕ → Type 0
+IsRefusal c contents text = (line : List ℕ) × Refuses c contents line × IsLine line text
+
+-- a source whose names and links are correct, any source, and a listing of valid code
+abbrev pub IsWellSource : Input → Type 0
+IsWellSource (ASource p) = Well p
+IsWellSource (AListing c) = ⊥
+
+abbrev pub IsAnySource : Input → Type 0
+IsAnySource (ASource p) = Unit {0}
+IsAnySource (AListing c) = ⊥
+
+abbrev pub IsValidListing : Input → Type 0
+IsValidListing (ASource p) = ⊥
+IsValidListing (AListing c) = Valid c
+
+-- the command can be done: each source can be shown, and well ones pass the check, are compiled and run; a listing of
+-- valid code is run
+abbrev pub Takes : Command → Input → Type 0
+Takes (Run file o) x = IsWellSource x
+Takes (Exec file o) x = IsValidListing x
+Takes (Show file) x = IsAnySource x
+Takes (Check file) x = IsWellSource x
+Takes (Compile file) x = IsWellSource x

@@ -1,0 +1,7 @@
+pub mod Written
+pub mod Asks
+pub mod RunStops
+pub mod Promise
+pub mod Options
+pub mod Status
+pub mod Answer

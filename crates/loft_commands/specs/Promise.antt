@@ -1,0 +1,66 @@
+-- What the program promises of its answers.
+use Rattle.std.specs.Prelude.{◌≡◌, ℕ, List, ◌++◌, Ok, codes}
+use Rattle.loft_tree.specs.declared.heads.Heads.{Heads}
+use Rattle.loft_tree.specs.Source.{Source}
+use Rattle.loft_tree.specs.Resolved.{resolved_of}
+use Rattle.loft_names.specs.Numbers.{numbered}
+use Rattle.loft_show.specs.Canon.{Canon}
+use Rattle.loft_sense.specs.declared.limits.RunOptions.{RunOptions}
+use Rattle.loft_code.specs.Operations.{Automata}
+use Rattle.loft_sense.specs.Machine.{Prog, Tree, Code, heads}
+use Rattle.loft_sense.specs.declared.entry.Entry.{Entry}
+use Rattle.loft_sense.specs.History.{Choice, hist, HasEnded}
+use Rattle.loft_sense.specs.Legal.{IsLegal}
+use Rattle.loft_sense.specs.Lines.{text_of}
+use Rattle.loft_sense.specs.Report.{head_lines, report}
+use Rattle.loft_compile.specs.Compiled.{compiled}
+use Rattle.loft_listing.specs.Listing.{listing_text}
+use Rattle.loft_words.specs.Command.{Command, Run, Exec, Show, Check, Compile}
+use Rattle.loft_refusal.specs.Input.{Input, ASource, AListing}
+use Rattle.loft_commands.specs.Written.{IsLine}
+use Rattle.loft_refusal.specs.Refusals.{IsTextOf}
+use Rattle.loft_commands.specs.Asks.{Takes}
+
+-- the text begins with these options and these choices
+abbrev pub BeginsWith : Heads → RunOptions → List Choice → List ℕ → Type 0
+BeginsWith h o choices text = (rest : List ℕ) × (text ≡ text_of (head_lines h o choices) ++ rest)
+
+-- The text is the report of one history of the program: that of the choices which stand in it.
+-- The history is legal, and has ended: nothing was left to do, or the bounds were used up.
+pub record IsReport (x : Prog) (o : RunOptions) (text : List ℕ) : Type 0 where
+  pub choices : List Choice
+  pub history : List Entry
+  pub named : BeginsWith (heads x) o choices text
+  pub made : hist x o choices ≡ Ok history
+  pub legal : IsLegal x o history
+  pub whole : text ≡ report x o history
+  pub ended : HasEnded x o history
+
+-- what a command answers of a source: the report of a run by its statements, the canonical text, `ok`, or the listing of
+-- its code
+abbrev pub IsSourceAnswer : Command → Source → List ℕ → Type 0
+IsSourceAnswer (Run file o) p text = IsReport (Tree (resolved_of (numbered p))) o text
+IsSourceAnswer (Exec file o) p text = ⊥
+IsSourceAnswer (Show file) p text = text ≡ Canon p
+IsSourceAnswer (Check file) p text = IsLine (codes "ok") text
+IsSourceAnswer (Compile file) p text = text ≡ listing_text (compiled (resolved_of (numbered p)))
+
+-- and of code: the report of a run by its operations
+abbrev pub IsCodeAnswer : Command → Automata → List ℕ → Type 0
+IsCodeAnswer (Run file o) c text = ⊥
+IsCodeAnswer (Exec file o) c text = IsReport (Code c) o text
+IsCodeAnswer (Show file) c text = ⊥
+IsCodeAnswer (Check file) c text = ⊥
+IsCodeAnswer (Compile file) c text = ⊥
+
+abbrev pub IsAnswerText : Command → Input → List ℕ → Type 0
+IsAnswerText k (ASource p) text = IsSourceAnswer k p text
+IsAnswerText k (AListing c) text = IsCodeAnswer k c text
+
+-- the command can be done for what was read, and this is the answer
+abbrev pub IsAnswerFor : Command → Input → List ℕ → Type 0
+IsAnswerFor k x text = Takes k x × IsAnswerText k x text
+
+-- the contents say so, and this is the answer for it
+abbrev pub IsAnswer : Command → List ℕ → List ℕ → Type 0
+IsAnswer k contents text = (x : Input) × IsTextOf contents x × IsAnswerFor k x text

@@ -1,0 +1,103 @@
+//! Runs code, and writes the report.
+
+ghost use Rattle.std.specs.Prelude.{◌≤◌, IsErrOf, OnOk, OnErr};
+ghost use Rattle.loft_base.specs.Outside.{Rose};
+ghost use Rattle.loft_code.specs.View.{automata_of};
+ghost use Rattle.loft_sense.specs.Machine.{Code as ByCode};
+ghost use Rattle.loft_words.specs.Ranges.{AreInRange};
+ghost use Rattle.loft_commands.specs.Written.{Appends, IsPrefix};
+ghost use Rattle.loft_commands.specs.Promise.{IsReport};
+ghost use Rattle.loft_commands.specs.Options.{options_of};
+
+use loft_base::{Gate, NoMemory, Sink, WriteError};
+use loft_code::Code;
+use loft_log::{reports_of_worlds_are_of_histories, write_report};
+use loft_refusal::Stopped;
+use loft_run::run_whole;
+use loft_sense::{Limits, RunOptions};
+use std::alloc::Global;
+use std::sync::Wait;
+use std::thread::Threads;
+
+/// Why a run stops without its whole report.
+#[derive(Clone, Copy, Debug, PartialEq, Eq)]
+pub enum RunError {
+    /// The sink failed; its count of faults rose.
+    Sink,
+    /// Out of memory for the run or for its report.
+    NoMemory,
+}
+
+impl From<NoMemory> for RunError {
+    ghost use Rattle.std.specs.Prelude.{◌≡◌};
+    ghost use Rattle.loft_commands.specs.declared.code_run.RunError.TheVariants.{NoMemory as no_memory};
+
+    ghost from_gives = { λ _ e. e ≡ no_memory };
+
+    fn from(_error: NoMemory) -> RunError {
+        RunError::NoMemory
+    }
+}
+
+impl From<WriteError> for RunError {
+    ghost use Rattle.std.specs.Prelude.{◌≡◌};
+    ghost use Rattle.loft_commands.specs.RunStops.{run_error_of_write};
+
+    ghost from_gives = { λ error e. e ≡ run_error_of_write error };
+
+    fn from(error: WriteError) -> RunError {
+        match error {
+            WriteError::Sink => RunError::Sink,
+            WriteError::NoMemory => RunError::NoMemory,
+        }
+    }
+}
+
+impl From<RunError> for Stopped {
+    ghost use Rattle.std.specs.Prelude.{◌≡◌};
+    ghost use Rattle.loft_commands.specs.RunStops.{stop_of_run};
+
+    ghost from_gives = { λ e stopped. stopped ≡ stop_of_run e };
+
+    fn from(error: RunError) -> Stopped {
+        match error {
+            RunError::Sink => Stopped::SinkFault,
+            RunError::NoMemory => Stopped::NoMemory,
+        }
+    }
+}
+
+/// Runs valid code within these limits and with 1 to `MAX_WORKERS` workers, and writes the report
+/// (docs/REPORT.md). `Sink` comes where the sink failed,
+/// and `NoMemory` where an allocation fails; then a prefix of a report was written.
+pub fn run_code<R: Threads + Wait + Sync, S: Sink, G: Gate>(
+    rt: &R,
+    alloc: Global,
+    c: &Code,
+    l: Limits,
+    workers: u32,
+    sink: &mut S,
+    gate: &G,
+) -> Result<(), RunError>
+    requires range { AreInRange (options_of l workers) }
+    ensures report { OnOk result (Appends (S.written sink.old) (S.written sink.new)
+        (IsReport (ByCode (automata_of c.now)) (options_of l workers))) }
+    ensures failed { OnErr result (Appends (S.written sink.old) (S.written sink.new)
+        (IsPrefix (IsReport (ByCode (automata_of c.now)) (options_of l workers)))) }
+    ensures sink { IsErrOf result RunError.Sink → Rose (S.faults sink.old) (S.faults sink.new) }
+    ensures never_falls { S.faults sink.old ≤ S.faults sink.new }
+{
+    reports_of_worlds_are_of_histories();
+    let options = RunOptions { limits: l, workers };
+    let run = run_whole(rt, alloc, c, &options, gate)?;
+    write_report(
+        alloc,
+        &c.program().heads,
+        &options,
+        &run.world,
+        &run.notes,
+        &run.finals,
+        sink,
+    )?;
+    Ok(())
+}

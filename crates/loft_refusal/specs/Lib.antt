@@ -1,0 +1,4 @@
+pub mod Input
+pub mod Refusals
+pub mod Stops
+pub mod Found
