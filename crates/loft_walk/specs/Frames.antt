@@ -17,8 +17,8 @@ use Rattle.loft_effect.specs.declared.scope.Beside.{Beside as BesideInMemory}
 use Rattle.loft_walk.specs.declared.step.Move.{Move}
 use Rattle.loft_walk.specs.declared.step.Move.TheVariants as move
 use Rattle.loft_walk.specs.declared.work.Task.{Task}
-use Rattle.loft_walk.specs.declared.thread.Stopped.{Stopped}
-use Rattle.loft_walk.specs.declared.thread.Stopped.TheVariants as stopped
+use Rattle.loft_walk.specs.declared.stopping.Stopped.{Stopped}
+use Rattle.loft_walk.specs.declared.stopping.Stopped.TheVariants as stopped
 use Rattle.loft_effect.specs.View.{beside_of}
 use Rattle.loft_walk.specs.Pieces.{work_of, work_of_task}
 

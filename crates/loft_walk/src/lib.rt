@@ -7,6 +7,7 @@ mod resume;
 mod running;
 mod statement;
 mod step;
+mod stopping;
 mod thread;
 mod work;
 

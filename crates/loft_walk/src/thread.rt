@@ -4,24 +4,24 @@ ghost use Rattle.std.specs.Prelude.{◌≡◌, ◌≤◌, ◌<◌, ◌-◌, ℕ,
 ghost use Rattle.std.specs.Option.{option_map};
 ghost use Rattle.loft_tree.specs.ProgramView.{program_of};
 ghost use Rattle.loft_tree.specs.Resolved.{Resolved, resolved_of, target_of as variable_of};
-ghost use Rattle.loft_sense.specs.declared.thread.Wait.TheVariants.{New as WaitNew};
 ghost use Rattle.loft_sense.specs.Machine.{Tree};
 ghost use Rattle.loft_sense.specs.Passes.{run_of};
 ghost use Rattle.loft_sense.specs.Around.{Beside as BesideOf};
-ghost use Rattle.loft_sense.specs.Run.{active_of, frame_of, thread_of, live, ends, going, go_on, step_on, no_step, Held, Left};
+ghost use Rattle.loft_sense.specs.Run.{active_of, live, ends, going, go_on, step_on, no_step};
 ghost use Rattle.loft_sense.specs.Tree.{tree};
 ghost use Rattle.loft_effect.specs.View.{around_of, beside_of, steps_left};
 ghost use Rattle.loft_effect.specs.Outcomes.{gone_of};
-ghost use Rattle.loft_walk.specs.Frames.{active, actives, live_of, stops, goes_or_stops, top_target, Answers};
+ghost use Rattle.loft_walk.specs.Frames.{active, actives, live_of, goes_or_stops, top_target, Answers};
 ghost use Rattle.loft_walk.specs.Midst.{paused_outcome, paused_left, bound_of, progress_outcome, progress_left, bound_in, IfGoes};
 
 use crate::paused::{Paused, Progress};
 use crate::running::Running;
 use crate::step::Move;
+use crate::stopping::{Stopped, end, stop};
 use crate::work::{Task, take};
-use loft_base::{NoMemory, Sequence};
-use loft_effect::{Around, Beside, Gone, Outcome};
-use loft_sense::{End, Frame, MAX_FRAMES, Thread, To, Wait};
+use loft_base::NoMemory;
+use loft_effect::{Around, Beside, Gone};
+use loft_sense::{End, Frame, MAX_FRAMES, Thread, Wait};
 use loft_tree::{Heads, NamedProgram, Target};
 use std::alloc::Global;
 
@@ -30,17 +30,6 @@ use std::alloc::Global;
 struct Woken<'a> {
     running: Vec<Running<'a>>,
     target: Option<Target>,
-}
-
-/// How a thread stops.
-#[derive(Drop)]
-enum Stopped {
-    /// It waits.
-    Waits(Wait),
-    /// It leaves.
-    Leaves(To),
-    /// It ends.
-    Ends(End),
 }
 
 /// All frames go on where they stood.
@@ -62,18 +51,6 @@ fn wake_all<'a>(
         target = variable;
     }
     Ok(Woken { running, target })
-}
-
-/// All frames as they are kept.
-fn keep_all(alloc: Global, mut running: Vec<Running<'_>>) -> Result<Vec<Frame>, NoMemory>
-    ensures { IfOk result (λ frames. (p : Resolved)
-        → frames.items ≡ map (frame_of (tree p)) (map active running.entry.items)) }
-{
-    let mut frames = Vec::new(alloc);
-    'keeping: while !running.is_empty() {
-        frames.push(running.remove(0).keep(alloc)?)?;
-    }
-    Ok(frames)
 }
 
 /// The innermost frame that has something to do, with its next task; those whose module has ended are dropped.
@@ -98,111 +75,6 @@ fn over(running: &[Running<'_>]) -> End
     match running.last() {
         None => End::Done,
         Some(top) => End::Over(top.scope.at),
-    }
-}
-
-/// What stands around a thread that may still make so many steps in this instant.
-fn around_after(mut around: Around, left: u64) -> Around
-    requires { left ≤ around.bound }
-    ensures same { around_of result ≡ around_of around }
-    ensures left { steps_left result ≡ left }
-    ensures bound { result.bound ≡ around.bound }
-{
-    around.steps = around.bound - left;
-    around
-}
-
-/// The thread with these frames, outermost first, and what stands around it, where it may still make so many steps.
-fn stand(
-    alloc: Global,
-    beside: Beside,
-    running: Vec<Running<'_>>,
-    wait: Wait,
-    left: u64,
-) -> Result<(Thread, Around), NoMemory>
-    requires { left ≤ beside.around.bound }
-    ensures thread { IfOk result (λ stood. (p : Resolved)
-        → stood.0 ≡ thread_of (tree p) wait (actives running.entry.items) (beside_of beside)) }
-    ensures around { IfOk result (λ stood. around_of stood.1 ≡ around_of beside.around) }
-    ensures left { IfOk result (λ stood. steps_left stood.1 ≡ left) }
-    ensures bound { IfOk result (λ stood. stood.1.bound ≡ beside.around.bound) }
-{
-    let frames = Sequence::from_vec(keep_all(alloc, running)?);
-    let thread = Thread {
-        id: beside.id,
-        code: beside.code,
-        mask: beside.mask,
-        wait,
-        frames,
-    };
-    Ok((thread, around_after(beside.around, left)))
-}
-
-/// A stop holds the thread.
-fn hold(
-    alloc: Global,
-    beside: Beside,
-    running: Vec<Running<'_>>,
-    wait: Wait,
-    left: u64,
-) -> Result<Gone, NoMemory>
-    requires { left ≤ beside.around.bound }
-    ensures held { IfOk result (λ gone. (p : Resolved)
-        → gone_of gone ≡ Held (thread_of (tree p) wait (actives running.entry.items) (beside_of beside)) (around_of beside.around) left) }
-    ensures bound { IfOk result (λ gone. gone.around.bound ≡ beside.around.bound) }
-{
-    let (thread, around) = stand(alloc, beside, running, wait, left)?;
-    let outcome = Outcome::Held(thread);
-    Ok(Gone { outcome, around })
-}
-
-/// The thread leaves.
-fn leave(
-    alloc: Global,
-    beside: Beside,
-    running: Vec<Running<'_>>,
-    to: To,
-    left: u64,
-) -> Result<Gone, NoMemory>
-    requires { left ≤ beside.around.bound }
-    ensures left { IfOk result (λ gone. (p : Resolved)
-        → gone_of gone ≡ Left (thread_of (tree p) WaitNew (actives running.entry.items) (beside_of beside)) to (around_of beside.around) left) }
-    ensures bound { IfOk result (λ gone. gone.around.bound ≡ beside.around.bound) }
-{
-    let (thread, around) = stand(alloc, beside, running, Wait::New, left)?;
-    let outcome = Outcome::Left(thread, to);
-    Ok(Gone { outcome, around })
-}
-
-/// The thread ends.
-fn end(mut beside: Beside, end: End, left: u64) -> Result<Gone, NoMemory>
-    requires { left ≤ beside.around.bound }
-    ensures ended { IfOk result (λ gone. gone_of gone ≡ ends end (beside_of beside) left) }
-    ensures bound { IfOk result (λ gone. gone.around.bound ≡ beside.around.bound) }
-{
-    beside.end(end)?;
-    let around = around_after(beside.around, left);
-    let outcome = Outcome::Ended(end);
-    Ok(Gone { outcome, around })
-}
-
-/// The thread stops.
-fn stop(
-    alloc: Global,
-    beside: Beside,
-    running: Vec<Running<'_>>,
-    stopped: Stopped,
-    left: u64,
-) -> Result<Gone, NoMemory>
-    requires { left ≤ beside.around.bound }
-    ensures stops { IfOk result (λ gone. (p : Resolved)
-        → gone_of gone ≡ stops stopped (tree p) left (actives running.entry.items) (beside_of beside)) }
-    ensures bound { IfOk result (λ gone. gone.around.bound ≡ beside.around.bound) }
-{
-    match stopped {
-        Stopped::Waits(wait) => hold(alloc, beside, running, wait, left),
-        Stopped::Leaves(to) => leave(alloc, beside, running, to, left),
-        Stopped::Ends(cause) => end(beside, cause, left),
     }
 }
 

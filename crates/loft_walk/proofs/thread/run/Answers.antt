@@ -3,7 +3,7 @@ use Rattle.loft_tree.specs.ProgramView.{program_of}
 use Rattle.loft_tree.specs.Resolved.{resolved_of}
 use Rattle.loft_sense.specs.Tree.{tree}
 use Rattle.loft_effect.specs.View.{beside_of}
-use Rattle.loft_walk.specs.declared.thread.Stopped.{Stopped}
+use Rattle.loft_walk.specs.declared.stopping.Stopped.{Stopped}
 use Rattle.loft_walk.specs.Frames.{actives, goes_or_stops}
 use Rattle.loft_walk.proofs.thread.run.Goals as goal
 

@@ -2,7 +2,7 @@ use Rattle.std.proofs.Common.{◌∙◌, ap}
 use Rattle.loft_sense.specs.Around.{Around}
 use Rattle.loft_sense.specs.Run.{Ended}
 use Rattle.loft_effect.specs.View.{around_of, steps_left}
-use Rattle.loft_walk.proofs.thread.end.Goals as goal
+use Rattle.loft_walk.proofs.stopping.end.Goals as goal
 
 pub returns-clause-ended : goal.returns-clause-ended
 returns-clause-ended c =

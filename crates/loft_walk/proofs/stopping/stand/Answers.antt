@@ -5,7 +5,7 @@ use Rattle.std.proofs.lemmas.Int.{to_z-of_z}
 use Rattle.loft_sense.specs.Tree.{tree}
 use Rattle.loft_effect.proofs.Runs.{thread_with}
 use Rattle.loft_walk.proofs.Frames.{frames_kept}
-use Rattle.loft_walk.proofs.thread.stand.Goals as goal
+use Rattle.loft_walk.proofs.stopping.stand.Goals as goal
 
 pub returns-clause-thread : goal.returns-clause-thread
 returns-clause-thread c = λ p.

@@ -3,7 +3,7 @@ use Rattle.loft_sense.specs.Tree.{tree}
 use Rattle.loft_sense.specs.Run.{frame_of}
 use Rattle.loft_walk.specs.Frames.{active}
 use Rattle.loft_walk.proofs.Frames.{first_off}
-use Rattle.loft_walk.proofs.thread.keep_all.Goals as goal
+use Rattle.loft_walk.proofs.stopping.keep_all.Goals as goal
 
 pub keeping-preserved : goal.keeping-preserved
 keeping-preserved c = λ p.

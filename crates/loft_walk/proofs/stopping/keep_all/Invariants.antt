@@ -4,7 +4,7 @@ use Rattle.loft_tree.specs.Resolved.{Resolved}
 use Rattle.loft_sense.specs.Tree.{tree}
 use Rattle.loft_sense.specs.Run.{frame_of}
 use Rattle.loft_walk.specs.Frames.{active}
-use Rattle.loft_walk.proofs.thread.keep_all.Given as goal
+use Rattle.loft_walk.proofs.stopping.keep_all.Given as goal
 
 -- those so far, and then the rest
 abbrev pub invariant-keeping : goal.invariant-keeping
