@@ -23,14 +23,14 @@ use std::alloc::Global;
 use std::sync::ledger::Ledger;
 
 /// A thread that can go, and what stands around it.
-#[derive(Debug, Drop)]
+#[derive(Drop)]
 pub struct Ready {
     pub thread: Thread,
     pub around: Around,
 }
 
 /// How one run of a thread ends by the statements of its program, and by the program's code.
-#[derive(Debug, Drop)]
+#[derive(Drop)]
 pub struct BothWays {
     pub by_tree: Gone,
     pub by_code: Gone,

@@ -212,7 +212,7 @@ impl Sink for MemSink {
 }
 
 /// A gate that is always open.
-#[derive(Clone, Copy, Debug, PartialEq, Eq)]
+#[derive(Clone, Copy)]
 pub struct OpenGate;
 
 impl Gate for OpenGate {

@@ -13,7 +13,7 @@ use std::marker::Model;
 use std::ops::{Index, IndexMut};
 
 /// A list that grows at its end. Contracts see it as the list of its elements.
-#[derive(Debug, Drop)]
+#[derive(Drop)]
 pub struct Sequence<T> {
     items: Vec<T>,
 }

@@ -89,7 +89,7 @@ pub trait Sink {
 
 /// What a thread passes through: an instant of a scheduler, with the instant's number from 1, or
 /// an unlinked block that a worker runs.
-#[derive(Clone, Copy, Debug, PartialEq, Eq)]
+#[derive(Clone, Copy)]
 pub enum Turn {
     Instant { s: SchedId, number: u64 },
     Block { w: u32 },

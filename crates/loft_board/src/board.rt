@@ -12,7 +12,7 @@ use std::marker::Model;
 /// that came with it, in order. An event can be present without a value. Contracts see, by the
 /// number of the event, its values where it is present. Each call on an event needs it to be one of
 /// those that the board was made for.
-#[derive(Debug, Drop)]
+#[derive(Drop)]
 pub struct Board {
     events: Vec<Presence>,
 }

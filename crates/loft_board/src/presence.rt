@@ -8,7 +8,7 @@ use std::marker::Model;
 
 /// Whether an event is present, and the values that came with it, in order. Contracts see the values
 /// where it is present.
-#[derive(Debug, Drop)]
+#[derive(Drop)]
 pub struct Presence {
     is_present: bool,
     values: Vec<i64>,

@@ -9,7 +9,7 @@ use std::sync::ArcSlice;
 
 /// The bytes between the quotes of a text. Each line that is the text alone shares them. Contracts
 /// see it as their list.
-#[derive(Debug, Drop)]
+#[derive(Drop)]
 pub struct SharedText {
     bytes: ArcSlice<u8>,
 }

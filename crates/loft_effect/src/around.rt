@@ -13,7 +13,7 @@ use loft_tree::Place;
 use std::alloc::Global;
 
 /// What a running thread sees, and changes for the threads after it in this instant.
-#[derive(Debug, Drop)]
+#[derive(Drop)]
 pub struct Around {
     /// Where it is linked.
     pub place: Place,

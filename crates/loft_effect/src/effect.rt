@@ -3,7 +3,7 @@
 use loft_sense::{End, To, Wait};
 
 /// What becomes of a thread by a statement (docs/SEMANTICS.md, "Statements").
-#[derive(Debug, Drop)]
+#[derive(Drop)]
 pub enum Effect {
     /// It goes on at once.
     GoesOn,

@@ -6,7 +6,7 @@ use crate::around::Around;
 use loft_sense::{End, Stop, Thread, To};
 
 /// How a run of a thread ends, with the thread where it goes on later.
-#[derive(Debug, Drop)]
+#[derive(Drop)]
 pub enum Outcome {
     /// A stop holds it.
     Held(Thread),
@@ -15,7 +15,7 @@ pub enum Outcome {
 }
 
 /// How a run of a thread ends, and what it leaves around it.
-#[derive(Debug, Drop)]
+#[derive(Drop)]
 pub struct Gone {
     pub outcome: Outcome,
     pub around: Around,

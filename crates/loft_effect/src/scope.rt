@@ -17,7 +17,7 @@ use loft_tree::{Heads, NamedExpr, Target};
 use std::alloc::Global;
 
 /// What stands beside the frames of a running thread.
-#[derive(Debug, Drop)]
+#[derive(Drop)]
 pub struct Beside {
     pub id: ThreadId,
     /// How the last wait ended: 0 as it should, 1 as no instant was left, 2 without a value.
@@ -28,7 +28,7 @@ pub struct Beside {
 }
 
 /// A frame that runs: its module and its last stop, and its values.
-#[derive(Debug, Drop)]
+#[derive(Drop)]
 pub struct Scope {
     pub at: At,
     /// The parameters, then the local variables.

@@ -15,7 +15,7 @@ use loft_base::{Div, SchedId, SharedId, ThreadId, Value};
 use loft_tree::{BinaryOperator, Builtin, Heads, NamedExpr, SharedHead};
 
 /// What the expressions of a thread see in one of its frames: nothing of it is moved or copied.
-#[derive(Debug, Clone, Copy)]
+#[derive(Clone, Copy)]
 pub struct Sight<'a> {
     pub heads: &'a Heads,
     /// The parameters of the frame, then its local variables.

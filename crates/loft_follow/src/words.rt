@@ -10,7 +10,7 @@ use loft_sense::RunOptions;
 use loft_words::{Command, read_words};
 
 /// A file of choices and the file of a source, and the options with which they are followed.
-#[derive(Clone, Copy, Debug)]
+#[derive(Clone, Copy)]
 pub struct Request<'a> {
     pub choices: &'a str,
     pub source: &'a str,

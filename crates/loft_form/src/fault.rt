@@ -2,7 +2,7 @@
 
 /// Why a list of symbols stops to be of a form. Where is given by how many symbols are left there, so 0 is the end
 /// (docs/LANGUAGE.md, "The fault of a text").
-#[derive(Clone, Copy, Debug, PartialEq, Eq)]
+#[derive(Clone, Copy)]
 pub enum Fault {
     /// No symbol that may stand here.
     Expected(usize),

@@ -7,7 +7,7 @@ use crate::fault::Fault;
 use std::alloc::{AllocError, AllocFailed};
 
 /// Why a reader of a form gives up.
-#[derive(Debug, Drop)]
+#[derive(Drop)]
 pub enum Stop {
     /// There was no memory for what was read.
     NoMemory,

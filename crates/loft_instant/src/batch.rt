@@ -16,7 +16,7 @@ use loft_tree::Heads;
 use std::alloc::Global;
 
 /// A scheduler while it applies a batch.
-#[derive(Debug, Drop)]
+#[derive(Drop)]
 pub struct Batch {
     pub linked: Vec<Runner>,
     pub known: Sequence<ThreadId>,

@@ -40,7 +40,7 @@ pub struct Setting<I: Interpreter> {
 }
 
 /// A scheduler between two instants.
-#[derive(Debug, Drop)]
+#[derive(Drop)]
 pub struct State {
     /// In the order in which they were linked.
     pub linked: Vec<Runner>,

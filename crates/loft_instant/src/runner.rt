@@ -12,7 +12,7 @@ use loft_sense::{Stop, Thread};
 use std::alloc::Global;
 
 /// A linked thread, and what it has done in an instant so far.
-#[derive(Debug, Drop)]
+#[derive(Drop)]
 pub struct Runner {
     pub thread: Thread,
     pub suspended: bool,

@@ -16,7 +16,7 @@ use loft_step::Paused;
 use std::alloc::Global;
 
 /// A step of a job.
-#[derive(Debug, Drop)]
+#[derive(Drop)]
 pub enum JobStep {
     /// It sends this order.
     Sent(SentOrder),

@@ -13,7 +13,7 @@ use crate::word::Word;
 
 /// What stands at the front: a gap and a token take the first byte and `more` after it, and the offset of a
 /// fault counts from the front.
-#[derive(Clone, Copy, Debug, PartialEq, Eq)]
+#[derive(Clone, Copy)]
 pub enum Step {
     Gap(usize),
     Token { piece: Piece, more: usize },

@@ -10,7 +10,7 @@ use crate::token::TokenKind;
 use crate::word::Word;
 
 /// What a token is, with the word or the sign that its bytes spell.
-#[derive(Clone, Copy, Debug, PartialEq, Eq)]
+#[derive(Clone, Copy)]
 pub enum Piece {
     Name,
     Word(Word),

@@ -7,7 +7,7 @@ ghost use Rattle.loft_lex.specs.Bytes.{begins};
 ghost use Rattle.loft_lex.specs.Sign.{spelling, signs, sign_of};
 
 /// The signs of the language.
-#[derive(Clone, Copy, Debug, PartialEq, Eq)]
+#[derive(Clone, Copy, PartialEq, Eq)]
 pub enum Sign {
     /// `;`
     Semicolon,

@@ -11,7 +11,7 @@ use crate::word::Word;
 use std::alloc::{AllocError, Global};
 
 /// What a token is, with what its bytes say.
-#[derive(Clone, Copy, Debug, PartialEq, Eq)]
+#[derive(Clone, Copy)]
 pub enum What<'a> {
     /// A name, with its bytes.
     Name(&'a [u8]),
@@ -26,7 +26,7 @@ pub enum What<'a> {
 }
 
 /// A token as a grammar sees it.
-#[derive(Clone, Copy, Debug, PartialEq, Eq)]
+#[derive(Clone, Copy)]
 pub struct Symbol<'a> {
     /// What it is.
     pub what: What<'a>,

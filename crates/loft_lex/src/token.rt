@@ -7,7 +7,7 @@ use std::alloc::{AllocError, AllocFailed};
 use std::marker::Model;
 
 /// What a token is (docs/LANGUAGE.md, "Tokens"). Its bytes say which name, word, text or sign.
-#[derive(Clone, Copy, Debug, PartialEq, Eq)]
+#[derive(Clone, Copy)]
 pub enum TokenKind {
     /// A letter or `_`, then letters, digits and `_`: no word of the language.
     Name,
@@ -22,7 +22,7 @@ pub enum TokenKind {
 }
 
 /// A token of a text: its bytes are those from `from` up to and without `to`.
-#[derive(Clone, Copy, Debug, PartialEq, Eq)]
+#[derive(Clone, Copy)]
 pub struct Token {
     /// What it is.
     pub kind: TokenKind,
@@ -97,7 +97,7 @@ impl<T: Drop> From<AllocFailed<T>> for LexError {
 }
 
 /// The tokens of a text, in reading order.
-#[derive(Debug, Drop)]
+#[derive(Drop)]
 pub struct Tokens {
     items: Vec<Token>,
 }

@@ -7,7 +7,7 @@ ghost use Rattle.loft_lex.specs.Bytes.{begins};
 ghost use Rattle.loft_lex.specs.Word.{spelling, words, word_of};
 
 /// The words of the language, which are no names. Each is called as it is spelled; `SelfWord` is `self`.
-#[derive(Clone, Copy, Debug, PartialEq, Eq)]
+#[derive(Clone, Copy, PartialEq, Eq)]
 pub enum Word {
     Scheduler,
     Event,

@@ -8,7 +8,7 @@ pub type Choices = Sequence<Choice>;
 
 /// Who makes the next entry of a history, and of which kind: a line of a report's history
 /// (docs/REPORT.md, "The report"). A name may be that of nobody.
-#[derive(Debug, Drop)]
+#[derive(Drop)]
 pub enum Choice {
     /// The scheduler of this name takes.
     Take(Name),

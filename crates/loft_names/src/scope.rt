@@ -1,7 +1,7 @@
 //! Where declarations can be seen.
 
 /// Where a declaration can be seen (docs/LANGUAGE.md, "Names").
-#[derive(Clone, Copy, Debug, PartialEq, Eq, Hash)]
+#[derive(Clone, Copy, PartialEq, Eq, Hash)]
 pub enum Scope {
     /// In the whole program.
     Everywhere,

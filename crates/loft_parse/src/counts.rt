@@ -9,7 +9,7 @@ use loft_tree::limits::{
 };
 
 /// What a source has only so many of (docs/LANGUAGE.md, "Limits").
-#[derive(Clone, Copy, Debug, PartialEq, Eq)]
+#[derive(Clone, Copy)]
 pub enum Counted {
     /// The schedulers of a program.
     Scheduler,

@@ -10,7 +10,7 @@ use loft_tree::Names;
 use std::alloc::AllocError;
 
 /// Why a source or a listing is refused.
-#[derive(Debug, Drop)]
+#[derive(Drop)]
 pub enum Refusal {
     /// It is the text of no program.
     Text(ParseError),
@@ -31,7 +31,7 @@ pub enum Refusal {
 }
 
 /// What stops a command before its answer is whole.
-#[derive(Debug, Drop)]
+#[derive(Drop)]
 pub enum Stopped {
     /// The source or listing is refused; nothing was written.
     Refused(Refusal),

@@ -20,7 +20,7 @@ const END: &[u8] = b"end\n";
 const ENTER: &[u8] = b"enter\n";
 
 /// The sorts of lines.
-#[derive(Clone, Copy, Debug, PartialEq, Eq)]
+#[derive(Clone, Copy)]
 pub enum LineSort {
     Title,
     Item,
@@ -34,7 +34,7 @@ pub enum LineSort {
 }
 
 /// The sorts of what operations do.
-#[derive(Clone, Copy, Debug, PartialEq, Eq)]
+#[derive(Clone, Copy)]
 pub enum DeedSort {
     Do,
     Stop,
@@ -47,7 +47,7 @@ pub enum DeedSort {
 }
 
 /// The sorts of statements: those that go on at once, stops, and those with bodies.
-#[derive(Clone, Copy, Debug, PartialEq, Eq)]
+#[derive(Clone, Copy, PartialEq, Eq)]
 pub enum StatementSort {
     Action,
     Stop,

@@ -5,7 +5,7 @@ use crate::shared_thread::SharedThread;
 use loft_base::SchedId;
 
 /// Who makes entries: a scheduler, a worker or a client, the last two by their number from 0.
-#[derive(Clone, Copy, Debug, PartialEq, Eq)]
+#[derive(Clone, Copy)]
 pub enum Actor {
     Sched(SchedId),
     Worker(u32),
@@ -13,7 +13,7 @@ pub enum Actor {
 }
 
 /// One event of a run.
-#[derive(Debug, Drop)]
+#[derive(Drop)]
 pub enum Entry {
     /// A scheduler takes all the orders that wait for it.
     Take { s: SchedId, batch: Orders },

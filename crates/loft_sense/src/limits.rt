@@ -25,7 +25,7 @@ pub const MAX_BLOCK: u64 = 100_000_000;
 pub const MAX_WORKERS: u32 = 16;
 
 /// The bounds of every scheduler and worker.
-#[derive(Clone, Copy, Debug, PartialEq, Eq)]
+#[derive(Clone, Copy)]
 pub struct Limits {
     /// How many instants a scheduler makes at most, 1 to `MAX_INSTANTS`.
     pub instants: u64,
@@ -36,7 +36,7 @@ pub struct Limits {
 }
 
 /// The options of a run.
-#[derive(Clone, Copy, Debug, PartialEq, Eq)]
+#[derive(Clone, Copy)]
 pub struct RunOptions {
     pub limits: Limits,
     /// How many worker threads there are, 1 to `MAX_WORKERS`.

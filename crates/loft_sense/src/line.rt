@@ -6,14 +6,14 @@ use loft_code::SharedText;
 use std::marker::Model;
 
 /// Where the bytes of a line are.
-#[derive(Debug, Drop)]
+#[derive(Drop)]
 enum Bytes {
     Own(Vec<u8>),
     OfText(SharedText),
 }
 
 /// The bytes of one printed line, without its end. Contracts see it as their list.
-#[derive(Debug, Drop)]
+#[derive(Drop)]
 pub struct Line {
     bytes: Bytes,
 }

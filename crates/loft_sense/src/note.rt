@@ -26,7 +26,7 @@ pub type Numbers = Sequence<i64>;
 
 /// An order and its address, in memory of their own: so acts are small, of which most send nothing.
 /// Contracts see what is sent.
-#[derive(Debug, Drop)]
+#[derive(Drop)]
 pub struct BoxedSent {
     sent: Box<Sent>,
 }
@@ -57,7 +57,7 @@ impl BoxedSent {
 }
 
 /// What a thread did in an instant, as its report gives it.
-#[derive(Debug, Drop)]
+#[derive(Drop)]
 pub enum Act {
     Print {
         thread: ThreadId,
@@ -79,7 +79,7 @@ pub enum Act {
 }
 
 /// An end that an order made: the order's index in its batch, the thread, and how it ended.
-#[derive(Clone, Copy, Debug, PartialEq, Eq)]
+#[derive(Clone, Copy)]
 pub struct Ended {
     /// Counted from 0.
     pub index: u64,
@@ -88,21 +88,21 @@ pub struct Ended {
 }
 
 /// A shared variable and its new value.
-#[derive(Clone, Copy, Debug, PartialEq, Eq)]
+#[derive(Clone, Copy)]
 pub struct Change {
     pub shared: SharedId,
     pub value: i64,
 }
 
 /// A linked thread, and whether it is suspended.
-#[derive(Debug, Drop)]
+#[derive(Drop)]
 pub struct Standing {
     pub thread: Thread,
     pub suspended: bool,
 }
 
 /// All that an instant did.
-#[derive(Debug, Drop)]
+#[derive(Drop)]
 pub struct InstantNote {
     /// Instants are counted from 1.
     pub number: u64,
@@ -119,7 +119,7 @@ pub struct InstantNote {
 }
 
 /// How a scheduler stands after its last instant.
-#[derive(Debug, Drop)]
+#[derive(Drop)]
 pub struct FinalState {
     pub linked: Standings,
     pub shared: Numbers,

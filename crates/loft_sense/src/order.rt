@@ -13,14 +13,14 @@ pub type Sents = Sequence<Sent>;
 pub type Marks = Sequence<Mark>;
 
 /// A point in a program: a module, and the number of a stop in it.
-#[derive(Clone, Copy, Debug, PartialEq, Eq)]
+#[derive(Clone, Copy)]
 pub struct At {
     pub module: ModuleId,
     pub stop: u32,
 }
 
 /// How a thread ends.
-#[derive(Clone, Copy, Debug, PartialEq, Eq)]
+#[derive(Clone, Copy)]
 pub enum End {
     /// At the end of its module.
     Done,
@@ -39,7 +39,7 @@ pub enum End {
 }
 
 /// What a scheduler is asked to do as its next instant begins.
-#[derive(Debug, Drop)]
+#[derive(Drop)]
 pub enum Order {
     Create {
         thread: ThreadId,
@@ -61,7 +61,7 @@ pub enum Order {
 }
 
 /// To whom an order goes.
-#[derive(Clone, Copy, Debug, PartialEq, Eq)]
+#[derive(Clone, Copy)]
 pub enum To {
     Sched(SchedId),
     /// Each scheduler but this one.
@@ -71,7 +71,7 @@ pub enum To {
 }
 
 /// How a run of a thread stops.
-#[derive(Clone, Copy, Debug, PartialEq, Eq)]
+#[derive(Clone, Copy)]
 pub enum Stop {
     /// A stop holds it.
     Holds,
@@ -81,14 +81,14 @@ pub enum Stop {
 }
 
 /// An order and its address.
-#[derive(Debug, Drop)]
+#[derive(Drop)]
 pub struct Sent {
     pub to: To,
     pub order: Order,
 }
 
 /// What became of an order.
-#[derive(Clone, Copy, Debug, PartialEq, Eq)]
+#[derive(Clone, Copy)]
 pub enum Mark {
     Done,
     /// Its thread was not linked here.

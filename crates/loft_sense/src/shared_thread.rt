@@ -10,7 +10,7 @@ use std::marker::Model;
 use std::sync::Arc;
 
 /// Threads that lie in memory together, and are shared one by one. Contracts see their list.
-#[derive(Debug, Drop)]
+#[derive(Drop)]
 pub struct ThreadGroup {
     threads: Arc<Vec<Thread>>,
 }
@@ -46,7 +46,7 @@ impl ThreadGroup {
 
 /// A thread on its way from one place to another, one of a group. The entries that tell of it and the
 /// orders that wait share it. Contracts see the thread.
-#[derive(Debug, Drop)]
+#[derive(Drop)]
 pub struct SharedThread {
     group: Arc<Vec<Thread>>,
     index: usize,

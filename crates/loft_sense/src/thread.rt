@@ -15,7 +15,7 @@ pub type Frames = Sequence<Frame>;
 pub type Threads = Sequence<Thread>;
 
 /// What a thread waits for.
-#[derive(Debug, Drop)]
+#[derive(Drop)]
 pub enum Wait {
     /// Nothing: it has not run yet where it is linked.
     New,
@@ -34,7 +34,7 @@ pub enum Wait {
 }
 
 /// A module that a thread runs: where it stands in it, and what it keeps there.
-#[derive(Debug, Drop)]
+#[derive(Drop)]
 pub struct Frame {
     pub module: ModuleId,
     /// The number of the last stop, 0 where it has stood at none.
@@ -45,7 +45,7 @@ pub struct Frame {
 }
 
 /// A thread that stands at a stop.
-#[derive(Debug, Drop)]
+#[derive(Drop)]
 pub struct Thread {
     pub id: ThreadId,
     pub code: i64,

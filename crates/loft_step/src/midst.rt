@@ -7,7 +7,7 @@ use loft_effect::{Beside, Gone, Outcome};
 use loft_sense::{Act, Frames};
 
 /// The frames of a thread in the midst of its run: the innermost, and those around it as they are kept.
-#[derive(Debug, Drop)]
+#[derive(Drop)]
 pub struct Stack {
     pub top: Running,
     pub outer: Frames,
@@ -15,21 +15,21 @@ pub struct Stack {
 }
 
 /// Whether the frames of a run go on, or how it has stopped.
-#[derive(Debug, Drop)]
+#[derive(Drop)]
 pub enum Turn {
     Goes(Stack),
     Stops(Outcome),
 }
 
 /// A run in its midst.
-#[derive(Debug, Drop)]
+#[derive(Drop)]
 pub struct Paused {
     pub(crate) stack: Stack,
     pub(crate) beside: Beside,
 }
 
 /// How far a run has come.
-#[derive(Debug, Drop)]
+#[derive(Drop)]
 pub enum Progress {
     /// It goes on.
     Goes(Paused),

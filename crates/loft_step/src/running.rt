@@ -20,7 +20,7 @@ use loft_tree::Target;
 use std::alloc::Global;
 
 /// A frame that runs: the counts of its `repeat`s from the outside in, and the number of the operation at which it goes on.
-#[derive(Debug, Drop)]
+#[derive(Drop)]
 pub struct Running {
     pub scope: Scope,
     pub counts: Counts,

@@ -17,7 +17,7 @@ use loft_tree::{Heads, NamedExpr};
 use std::alloc::Global;
 
 /// What becomes of a thread where its innermost frame doesn't just go on.
-#[derive(Debug, Drop)]
+#[derive(Drop)]
 pub enum Move {
     /// The frame goes on as the run is taken up again.
     Pause,

@@ -19,7 +19,7 @@ pub type Slots = Sequence<SlotHead>;
 pub type Arguments = Sequence<Value>;
 
 /// A declared parameter or local variable: its kind and its name.
-#[derive(Debug, Drop)]
+#[derive(Drop)]
 pub struct SlotHead {
     pub kind: Kind,
     pub name: Name,
@@ -35,14 +35,14 @@ pub enum Place {
 }
 
 /// A declared event, and the scheduler on whose board it stands.
-#[derive(Debug, Drop)]
+#[derive(Drop)]
 pub struct EventHead {
     pub name: Name,
     pub scheduler: SchedId,
 }
 
 /// A declared shared variable: its scheduler, and its value before the first instant.
-#[derive(Debug, Drop)]
+#[derive(Drop)]
 pub struct SharedHead {
     pub name: Name,
     pub scheduler: SchedId,
@@ -51,7 +51,7 @@ pub struct SharedHead {
 
 /// A declared module: its name, its parameters and local variables, and the places where its threads begin and end. The
 /// slots of its frames are numbered from 0, the parameters first.
-#[derive(Debug, Drop)]
+#[derive(Drop)]
 pub struct Signature {
     pub name: Name,
     pub parameters: Slots,
@@ -62,7 +62,7 @@ pub struct Signature {
 
 /// A thread that the source starts: its scheduler, its module, the values of the module's parameters, and the name that
 /// the source gives it, if it gives one.
-#[derive(Debug, Drop)]
+#[derive(Drop)]
 pub struct Start {
     pub scheduler: SchedId,
     pub module: ModuleId,
@@ -71,7 +71,7 @@ pub struct Start {
 }
 
 /// What an outside client orders.
-#[derive(Debug, Drop)]
+#[derive(Drop)]
 pub enum ClientOrder {
     /// A new thread in the scheduler.
     Create {
@@ -93,14 +93,14 @@ pub enum ClientOrder {
 }
 
 /// An outside client: its name, and its orders in text order.
-#[derive(Debug, Drop)]
+#[derive(Drop)]
 pub struct Client {
     pub name: Name,
     pub orders: Sequence<ClientOrder>,
 }
 
 /// A declaration of a program, by its sort and its number among those of its sort.
-#[derive(Clone, Copy, Debug, PartialEq, Eq)]
+#[derive(Clone, Copy)]
 pub enum HeadItem {
     Scheduler(SchedId),
     Event(EventId),
@@ -114,7 +114,7 @@ pub enum HeadItem {
 
 /// All that a program declares outside module bodies, each sort numbered from 0 in text order, and the order in which
 /// the declarations stand in the text.
-#[derive(Debug, Drop)]
+#[derive(Drop)]
 pub struct Heads {
     pub schedulers: Names,
     pub events: Sequence<EventHead>,

@@ -1,7 +1,7 @@
 //! The kinds of values, and the operators and orders of the language.
 
 /// What a variable or a parameter can hold.
-#[derive(Clone, Copy, Debug, PartialEq, Eq)]
+#[derive(Clone, Copy)]
 pub enum Kind {
     /// A number.
     Int,
@@ -10,7 +10,7 @@ pub enum Kind {
 }
 
 /// A value that a thread has without naming it.
-#[derive(Clone, Copy, Debug, PartialEq, Eq)]
+#[derive(Clone, Copy)]
 pub enum Builtin {
     /// `self`: the thread itself.
     Itself,
@@ -21,7 +21,7 @@ pub enum Builtin {
 }
 
 /// An operator with one operand.
-#[derive(Clone, Copy, Debug, PartialEq, Eq)]
+#[derive(Clone, Copy)]
 pub enum UnaryOperator {
     /// `-`
     Minus,
@@ -30,7 +30,7 @@ pub enum UnaryOperator {
 }
 
 /// An operator with two operands.
-#[derive(Clone, Copy, Debug, PartialEq, Eq)]
+#[derive(Clone, Copy)]
 pub enum BinaryOperator {
     /// `||`
     Or,
@@ -61,7 +61,7 @@ pub enum BinaryOperator {
 }
 
 /// What one thread can order of another.
-#[derive(Clone, Copy, Debug, PartialEq, Eq)]
+#[derive(Clone, Copy)]
 pub enum Control {
     /// `stop`: it ends.
     Stop,

@@ -200,7 +200,7 @@ pub struct Module {
 }
 
 /// A declaration that has to do with links, by its number. `at` is the offset of its scheduler's name.
-#[derive(Clone, Copy, Debug, PartialEq, Eq)]
+#[derive(Clone, Copy)]
 pub enum LinkItem {
     /// The module with this number.
     Module(ModuleId),

@@ -16,7 +16,7 @@ use loft_tree::{Heads, NamedExpr, NamedStmt};
 use std::alloc::Global;
 
 /// What a step makes of its thread.
-#[derive(Debug, Drop)]
+#[derive(Drop)]
 pub enum Move {
     /// The frame goes on.
     GoOn,

@@ -7,7 +7,7 @@ ghost use Rattle.loft_words.specs.Arguments.{arguments, value_first, one_more};
 ghost use Rattle.loft_words.specs.Parts.{argument_of};
 
 /// A word that is no option, or an option with its value.
-#[derive(Clone, Copy, Debug)]
+#[derive(Clone, Copy)]
 pub enum Argument<'a> {
     /// A word that is no option, as a file's name.
     Plain(&'a str),

@@ -18,7 +18,7 @@ use crate::parts::Parts;
 use loft_sense::{Limits, MAX_BLOCK, MAX_BUDGET, MAX_INSTANTS, MAX_WORKERS, RunOptions};
 
 /// A command, and the file that it reads.
-#[derive(Clone, Copy, Debug)]
+#[derive(Clone, Copy)]
 pub enum Command<'a> {
     /// To run the source in this file. Each number of the options is in its range (`MAX_INSTANTS` and the others).
     Run { file: &'a str, options: RunOptions },

@@ -9,7 +9,7 @@ ghost use Rattle.loft_words.specs.Parts.{argument_of, parts_of, no_parts, first_
 use crate::argument::{Argument, next_argument};
 
 /// The file, and the values of the options of a run.
-#[derive(Clone, Copy, Debug)]
+#[derive(Clone, Copy)]
 pub struct Parts<'a> {
     /// The word that is no option.
     pub file: Option<&'a str>,

@@ -14,13 +14,13 @@ pub type NoteList = Sequence<InstantNote>;
 pub type NoteLists = Sequence<NoteList>;
 
 /// How each scheduler stands after its last instant.
-#[derive(Debug, Drop)]
+#[derive(Drop)]
 pub struct Finals {
     pub of: FinalStates,
 }
 
 /// What each scheduler's instants did.
-#[derive(Debug, Drop)]
+#[derive(Drop)]
 pub struct Notes {
     pub of: NoteLists,
 }
