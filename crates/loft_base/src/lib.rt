@@ -4,6 +4,7 @@
 #![tactic(auto)]
 
 mod arithmetic;
+mod copy;
 mod errors;
 mod host;
 mod ids;
@@ -15,6 +16,7 @@ mod whole;
 mod writing;
 
 pub use arithmetic::{add, division_law, less, mul, quot, rem, sub, wrapping_law};
+pub use copy::{TryClone, try_clone_all};
 pub use errors::{Div, Failed, FileError, NoMemory};
 pub use host::{HostFiles, HostSink};
 pub use ids::{EventId, Maker, ModuleId, SchedId, SharedId, ThreadId, Value};

@@ -10,7 +10,7 @@ ghost use Rattle.loft_sense.specs.Async.{alone as alone_in, block_sent};
 ghost use Rattle.loft_effect.specs.View.{around_of, steps_left};
 ghost use Rattle.loft_effect.specs.Outcomes.{gone_of};
 
-use loft_base::{NoMemory, Sequence};
+use loft_base::{NoMemory, Sequence, TryClone};
 use loft_board::Board;
 use loft_effect::{Around, Gone, Outcome};
 use loft_sense::{Act, Order, Sent, Sents, SharedThread, Thread, To};

@@ -2,13 +2,14 @@
 use Rattle.std.proofs.Common.{◌≡◌, ℕ, List, inl, inr, subst, arith}
 use Rattle.loft_tree.specs.Source.{Source}
 use Rattle.loft_tree.specs.NamedTree.{NamedProgram}
-use Rattle.loft_names.specs.declared.error.NameError.{NameError}
-use Rattle.loft_names.specs.Faults.{NameFault, NamesFit}
-use Rattle.loft_names.specs.Numbers.{numbered}
+use Rattle.loft_scopes.specs.declared.error.NameError.{NameError}
+use Rattle.loft_scopes.specs.Faults.{NameFault, NamesFit}
+use Rattle.loft_numbers.specs.Numbers.{numbered}
 use Rattle.loft_place.specs.declared.error.PlaceError.{PlaceError}
 use Rattle.loft_place.specs.Links.{IsPlaced, PlaceFault}
 use Rattle.loft_parse.specs.declared.error.ParseError.{ParseError}
-use Rattle.loft_parse.specs.Source.{Reads, SourceFault}
+use Rattle.loft_grammar.specs.Texts.{Reads}
+use Rattle.loft_parse.specs.Faults.{SourceFault}
 use Rattle.loft_code.specs.declared.error.CodeError.{CodeError}
 use Rattle.loft_code.specs.Operations.{Automata}
 use Rattle.loft_code.specs.Valid.{Valid, CodeFault}

@@ -3,7 +3,7 @@ use Rattle.std.specs.Prelude.{◌≡◌, ℕ, List, ◌++◌, Ok, codes}
 use Rattle.loft_tree.specs.declared.heads.Heads.{Heads}
 use Rattle.loft_tree.specs.Source.{Source}
 use Rattle.loft_tree.specs.Resolved.{resolved_of}
-use Rattle.loft_names.specs.Numbers.{numbered}
+use Rattle.loft_numbers.specs.Numbers.{numbered}
 use Rattle.loft_show.specs.Canon.{Canon}
 use Rattle.loft_sense.specs.declared.limits.RunOptions.{RunOptions}
 use Rattle.loft_code.specs.Operations.{Automata}

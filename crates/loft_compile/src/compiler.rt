@@ -13,7 +13,7 @@ ghost use Rattle.loft_compile.specs.Targets.{lines_with_target};
 use crate::copy;
 use crate::laws::compiled_code_is_valid;
 use crate::operation::{first_operation, set_target};
-use loft_base::{ModuleId, NoMemory};
+use loft_base::{ModuleId, NoMemory, TryClone};
 use loft_code::{Code, CodeLine, CodeProgram, ModuleCode, Op, RawCode};
 use loft_place::Placed;
 use loft_tree::{Heads, Module, NamedStmt, Place};
@@ -221,6 +221,6 @@ pub fn compile(alloc: Global, p: &Placed) -> Result<Code, NoMemory>
     compiled_code_is_valid();
     let program = p.program();
     let modules = modules_code(alloc, &program.heads, program.modules.as_slice())?;
-    let heads = copy::heads(alloc, &program.heads)?;
+    let heads = program.heads.try_clone(alloc)?;
     Ok(Code::new(RawCode::new(CodeProgram { heads, modules })))
 }

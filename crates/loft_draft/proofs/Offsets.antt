@@ -7,8 +7,8 @@ use Rattle.loft_tree.specs.Source as src
 use Rattle.loft_tree.specs.Source.{EventName, Expression, Number, Variable, Special, Unary, Binary, Creation, Statement, Assign, AssignCreate, Create, PrintText, PrintValue, Cooperate, Generate, Await, Select, Get, Join, ControlThread, Broadcast, Link, Unlink, Run, Halt, If, While, Repeat, Named, PlaceName, InScheduler, Unlinked, ModuleHead, Argument, ANumber, AName, CreateThere, ControlThere, BroadcastThere, Declaration, Scheduler, Event, Shared, Module, Start, Outside}
 use Rattle.loft_tree.specs.Fits.{Each, IfThere, NameFits, EventNameFits, WordsFit, ExpressionFits, PlaceFits, EndFits, same_place, ArgumentFits, CallFits, OrderFits, DeclarationFits}
 use Rattle.loft_tree.specs.declared.limits.TheConstants.{MAX_OPERANDS, MAX_ARGUMENTS, MAX_PARAMETERS}
-use Rattle.loft_parse.specs.Source.{nesting}
-use Rattle.loft_parse.specs.Parts.{NamedFits, HeadFits, LineFits, LineCreationFits}
+use Rattle.loft_grammar.specs.Limits.{nesting}
+use Rattle.loft_grammar.specs.PartsFit.{NamedFits, HeadFits, LineFits, LineCreationFits}
 use Rattle.loft_show.specs.Places.{bare_expression, bare_value, bare_event, bare_name, bare_creation, bare_statement, bare_named, bare_place, bare_argument, bare_head, bare_order, bare_declaration}
 use Rattle.loft_show.specs.PartReads.{IsOneLine}
 use Rattle.loft_rows.specs.Instructions.{Instruction, Do, Stop, Branch, Enter, Count, Turn, Jump, End as EndOf, bare_instruction}

@@ -3,9 +3,9 @@ use Rattle.std.specs.Prelude.{◌≡◌, ◌≤◌, ℕ, List, length}
 use Rattle.loft_lex.specs.declared.TheConstants.{MAX_TEXT_LEN}
 use Rattle.loft_tree.specs.Source.{Source}
 use Rattle.loft_tree.specs.NamedTree.{NamedProgram}
-use Rattle.loft_parse.specs.Source.{Reads}
-use Rattle.loft_names.specs.Faults.{NamesFit}
-use Rattle.loft_names.specs.Numbers.{numbered}
+use Rattle.loft_grammar.specs.Texts.{Reads}
+use Rattle.loft_scopes.specs.Faults.{NamesFit}
+use Rattle.loft_numbers.specs.Numbers.{numbered}
 use Rattle.loft_place.specs.Links.{IsPlaced}
 
 -- the contents are the text of a program whose names, kinds and links are correct, and this is it with numbers in place of

@@ -4,10 +4,10 @@ ghost use Rattle.std.specs.Prelude.{◌≡◌};
 ghost use Rattle.loft_follow.specs.declared.failure.Failure.TheVariants.{Other as other};
 
 use loft_base::{Failed, FileError, NoMemory, WriteError};
-use loft_names::NameError;
 use loft_parse::ParseError;
 use loft_place::PlaceError;
 use loft_replay::FollowError;
+use loft_scopes::NameError;
 use std::alloc::AllocError;
 use std::io;
 

@@ -8,7 +8,7 @@ ghost use Rattle.loft_instant.specs.Positions.{IsPosition};
 
 use crate::runner::Runner;
 use crate::told::tell_end;
-use loft_base::{EventId, ModuleId, NoMemory, SchedId, Sequence, ThreadId, Values};
+use loft_base::{EventId, ModuleId, NoMemory, SchedId, Sequence, ThreadId, TryClone, Values};
 use loft_board::Board;
 use loft_effect::{first_values, same_thread};
 use loft_sense::{End, Ended, Ends, Frame, MAX_LINKED, Mark, Marks, Order, Sents, Thread, Wait};

@@ -6,7 +6,7 @@ ghost use Rattle.loft_instant.specs.View.{standings_of, linked_of, runners_of, i
 
 use crate::leavers::Leavers;
 use crate::runner::Runner;
-use loft_base::{NoMemory, Sequence};
+use loft_base::{NoMemory, Sequence, TryClone};
 use loft_effect::take_thread;
 use loft_sense::{Sents, Stop, Threads, Wait};
 use std::alloc::Global;

@@ -5,7 +5,7 @@ ghost use Rattle.loft_sense.specs.Rest.{waits_for_ever as waits_for_ever_in, all
 ghost use Rattle.loft_instant.specs.View.{standings_of};
 
 use crate::runner::Runner;
-use loft_base::{NoMemory, Sequence, ThreadId};
+use loft_base::{NoMemory, Sequence, ThreadId, TryClone};
 use loft_effect::is_known;
 use loft_sense::{Standing, Standings, Wait};
 use std::alloc::Global;

@@ -5,7 +5,7 @@ ghost use Rattle.loft_tree.specs.declared.heads.Place.TheVariants.{Sched as Sche
 ghost use Rattle.loft_sense.specs.Apply.{tell_end as tell_end_of};
 ghost use Rattle.loft_sense.specs.Instant.{sent_by};
 
-use loft_base::{NoMemory, SchedId, ThreadId};
+use loft_base::{NoMemory, SchedId, ThreadId, TryClone};
 use loft_sense::{Act, End, Order, Sent, Sents, To};
 use std::alloc::Global;
 

@@ -6,12 +6,12 @@ use Rattle.std.specs.Str.{bytes_eq}
 use Rattle.std.proofs.lemmas.Bool.{eqb-true}
 use Rattle.loft_tree.specs.Source.{Expression, Statement}
 use Rattle.loft_tree.specs.Fits.{ExpressionFits}
-use Rattle.loft_parse.specs.Source.{limits, line_limits, nesting}
-use Rattle.loft_parse.proofs.Checked.{statement_checked, whole_checked}
+use Rattle.loft_grammar.specs.Limits.{limits, line_limits, nesting}
+use Rattle.loft_parts.proofs.Checked.{statement_checked, whole_checked}
 use Rattle.loft_show.specs.Places.{bare_expression, bare_statement}
 use Rattle.loft_show.specs.PartReads.{IsOneLine}
 use Rattle.loft_show.proofs.reads.PartLaw.{expression_reads, statement_reads}
-use Rattle.loft_parse.specs.Parts.{LineFits}
+use Rattle.loft_grammar.specs.PartsFit.{LineFits}
 use Rattle.loft_rows.specs.declared.sort.DeedSort.{DeedSort}
 use Rattle.loft_rows.specs.declared.sort.DeedSort.TheVariants as deed
 use Rattle.loft_rows.specs.Instructions.{Instruction, Do, Stop, Branch, Enter, Count, Turn, Jump, End, bare_instruction, feed, instruction_text, statement_text}

@@ -8,8 +8,8 @@ use Rattle.std.proofs.lemmas.Slice.Eq.{bytes_eq-Decides}
 use Rattle.loft_lex.specs.Bytes.{is_digit}
 use Rattle.loft_tree.specs.Source.{Ident, InScheduler, PlaceName, Unlinked}
 use Rattle.loft_tree.specs.Fits.{NameFits, PlaceFits}
-use Rattle.loft_parse.specs.Source.{limits}
-use Rattle.loft_parse.proofs.Checked.{head_checked, item_checked, local_checked, order_checked}
+use Rattle.loft_grammar.specs.Limits.{limits}
+use Rattle.loft_parts.proofs.Checked.{head_checked, item_checked, local_checked, order_checked}
 use Rattle.loft_show.specs.Places.{bare_declaration, bare_head, bare_name, bare_named, bare_order, bare_place}
 use Rattle.loft_show.proofs.reads.PartLaw.{declaration_reads, head_reads, local_reads, order_reads}
 use Rattle.loft_rows.specs.declared.sort.LineSort.{LineSort}

@@ -10,11 +10,12 @@ use Rattle.loft_form.specs.Form.{Limits}
 use Rattle.loft_form.specs.Faults.{SpellsWhole}
 use Rattle.loft_form.proofs.Checked.{Checked}
 use Rattle.loft_form.proofs.Whole.{spelled_whole}
-use Rattle.loft_parse.specs.Language.{Language}
-use Rattle.loft_parse.specs.Grammar.{Form, rules}
-use Rattle.loft_parse.specs.Source.{beginning, nesting}
-use Rattle.loft_parse.specs.Parts.{SpellsPart}
-use Rattle.loft_parse.proofs.Checked.{told}
+use Rattle.loft_grammar.specs.Language.{Language}
+use Rattle.loft_grammar.specs.Symbols.{Form}
+use Rattle.loft_grammar.specs.Statements.{rules}
+use Rattle.loft_grammar.specs.Limits.{beginning, nesting}
+use Rattle.loft_grammar.specs.Texts.{SpellsPart}
+use Rattle.loft_parts.proofs.Checked.{told}
 use Rattle.loft_show.specs.PartReads.{ReadsAs}
 use Rattle.loft_rows.specs.Cuts.{IsCutAt, IsWithout, is_other}
 use Rattle.loft_rows.specs.RowsFit.{IsSmall}

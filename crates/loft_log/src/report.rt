@@ -1,6 +1,7 @@
 //! Writes the report of a run.
 
 mod history;
+mod instants;
 mod left;
 mod lines;
 mod order_text;
@@ -11,20 +12,18 @@ ghost use Rattle.std.specs.Fmt.{decimal};
 ghost use Rattle.loft_base.specs.Outside.{Rose, appended, GrowsByPrefix};
 ghost use Rattle.loft_world.specs.State.{scheduler};
 ghost use Rattle.loft_sense.specs.Heads.{shared_of};
-ghost use Rattle.loft_sense.specs.History.{choice_of, log};
-ghost use Rattle.loft_sense.specs.Text.{scheduler_name, order_text};
-ghost use Rattle.loft_sense.specs.Lines.{text_of, mark_word, ends_at, batch_lines, leave_line, leave_lines, instant_lines};
-ghost use Rattle.loft_sense.specs.Report.{head_lines, instants_lines, shared_lines, final_lines, schedulers_from};
+ghost use Rattle.loft_sense.specs.History.{choice_of};
+ghost use Rattle.loft_sense.specs.Text.{scheduler_name};
+ghost use Rattle.loft_sense.specs.Lines.{text_of};
+ghost use Rattle.loft_sense.specs.Report.{head_lines, shared_lines, final_lines, schedulers_from};
 ghost use Rattle.loft_log.specs.WorldReport.{world_block, world_blocks, world_report};
 ghost use Rattle.loft_base.specs.Writing.{WritesTo};
 
-use self::history::batch_of;
 use self::lines::{
-    InOneLine, make_end_line, make_leaver_line, make_number_line, make_order_line,
-    make_scheduler_line, make_text_line, make_value_line,
+    InOneLine, make_number_line, make_scheduler_line, make_text_line, make_value_line,
 };
 use loft_base::{NoMemory, SchedId, Sink, WriteError};
-use loft_sense::{Ended, FinalState, InstantNote, Mark, Order, RunOptions, Sent};
+use loft_sense::{FinalState, InstantNote, RunOptions};
 use loft_text::LineBuffer;
 use loft_tree::Heads;
 use loft_world::{Finals, NoteList, Notes, World};
@@ -154,160 +153,6 @@ impl ReportWriter<'_> {
         self.write_scheduler("scheduler ", s, line, sink)?;
         self.write_instants(world, s, notes, line, sink)?;
         self.write_final(s, last, line, sink)
-    }
-
-    /// Writes the instants of a scheduler: its batches in the history, each with its note.
-    fn write_instants<S: Sink>(
-        &self,
-        world: &World,
-        s: SchedId,
-        notes: &[InstantNote],
-        line: &mut LineBuffer,
-        sink: &mut S,
-    ) -> Result<(), WriteError>
-        ensures { WritesTo S.written S.faults sink.old sink.new result
-            (text_of (instants_lines self.now.heads.now (log s world.now.history) notes.now)) }
-    {
-        let mut left = notes;
-        for index in 0..world.length() {
-            if let Some(batch) = batch_of(s, world.entry(index + 1)) {
-                let Some((note, rest)) = left.split_first() else {
-                    return Ok(());
-                };
-                self.write_instant(batch, note, line, sink)?;
-                left = rest;
-            }
-        }
-        Ok(())
-    }
-
-    /// Writes an instant: its batch, and what it did.
-    fn write_instant<S: Sink>(
-        &self,
-        batch: &[Order],
-        note: &InstantNote,
-        line: &mut LineBuffer,
-        sink: &mut S,
-    ) -> Result<(), WriteError>
-        ensures { WritesTo S.written S.faults sink.old sink.new result
-            (text_of (instant_lines self.now.heads.now batch.now note.now)) }
-    {
-        self.write_number("instant ", note.number, line, sink)?;
-        self.write_batch(
-            note.stopped.as_slice(),
-            batch,
-            note.marks.as_slice(),
-            line,
-            sink,
-        )?;
-        self.write_lines(note.acts.as_slice(), line, sink)?;
-        self.write_leavers(note.sent.as_slice(), line, sink)?;
-        self.write_lines(note.stands.as_slice(), line, sink)?;
-        self.write_lines(note.changed.as_slice(), line, sink)
-    }
-
-    /// Writes the orders of a batch, each with its mark and the ends that it made.
-    fn write_batch<S: Sink>(
-        &self,
-        stopped: &[Ended],
-        batch: &[Order],
-        marks: &[Mark],
-        line: &mut LineBuffer,
-        sink: &mut S,
-    ) -> Result<(), WriteError>
-        ensures { WritesTo S.written S.faults sink.old sink.new result
-            (text_of (batch_lines self.now.heads.now stopped.now 0 batch.now marks.now)) }
-    {
-        for index in 0..batch.len().min(marks.len()) {
-            self.write_order(stopped, index, &batch[index], marks[index], line, sink)?;
-        }
-        Ok(())
-    }
-
-    /// Writes an order of a batch and the ends that it made.
-    fn write_order<S: Sink>(
-        &self,
-        stopped: &[Ended],
-        index: usize,
-        order: &Order,
-        mark: Mark,
-        line: &mut LineBuffer,
-        sink: &mut S,
-    ) -> Result<(), WriteError>
-        ensures { WritesTo S.written S.faults sink.old sink.new result
-            (text_of ((mark_word mark ++ order_text self.now.heads.now order.now) ∷ ends_at self.now.heads.now index stopped.now)) }
-    {
-        make_order_line(line, self.heads, mark, order)?;
-        write_line(line, sink)?;
-        self.write_ends(index as u64, stopped, line, sink)
-    }
-
-    /// Writes the ends that an order of a batch made.
-    fn write_ends<S: Sink>(
-        &self,
-        index: u64,
-        stopped: &[Ended],
-        line: &mut LineBuffer,
-        sink: &mut S,
-    ) -> Result<(), WriteError>
-        ensures { WritesTo S.written S.faults sink.old sink.new result
-            (text_of (ends_at self.now.heads.now index stopped.now)) }
-    {
-        for ended in stopped {
-            self.write_end_at(index, *ended, line, sink)?;
-        }
-        Ok(())
-    }
-
-    /// Writes an end where the order with this index made it.
-    fn write_end_at<S: Sink>(
-        &self,
-        index: u64,
-        ended: Ended,
-        line: &mut LineBuffer,
-        sink: &mut S,
-    ) -> Result<(), WriteError>
-        ensures { WritesTo S.written S.faults sink.old sink.new result
-            (text_of (ends_at self.now.heads.now index (ended ∷ []))) }
-    {
-        if ended.index == index {
-            make_end_line(line, self.heads, ended.thread, ended.end)?;
-            write_line(line, sink)?;
-        }
-        Ok(())
-    }
-
-    /// Writes who left.
-    fn write_leavers<S: Sink>(
-        &self,
-        sents: &[Sent],
-        line: &mut LineBuffer,
-        sink: &mut S,
-    ) -> Result<(), WriteError>
-        ensures { WritesTo S.written S.faults sink.old sink.new result
-            (text_of (leave_lines self.now.heads.now sents.now)) }
-    {
-        for sent in sents {
-            self.write_leaver(sent, line, sink)?;
-        }
-        Ok(())
-    }
-
-    /// Writes the thread that leaves, where an order moves one.
-    fn write_leaver<S: Sink>(
-        &self,
-        sent: &Sent,
-        line: &mut LineBuffer,
-        sink: &mut S,
-    ) -> Result<(), WriteError>
-        ensures { WritesTo S.written S.faults sink.old sink.new result
-            (text_of (leave_line self.now.heads.now sent.now.to sent.now.order)) }
-    {
-        if let Order::Arrive(thread) = &sent.order {
-            make_leaver_line(line, self.heads, thread.as_thread().id, sent.to)?;
-            write_line(line, sink)?;
-        }
-        Ok(())
     }
 
     /// Writes the scheduler's last state.

@@ -2,13 +2,13 @@
 use Rattle.std.proofs.Common.{◌≡◌, ℕ, ◌<◌, ◌≤◌, ◌⊎◌, inl, inr, Bool, true, false, ◌&&◌, ◌==◌, zero, suc, List, [], ◌∷◌, Option, Some, None, refl, sym, ap, ◌∙◌, subst, arith}
 use Rattle.std.specs.Prelude.{nat_lt, if◌then◌else◌, Contains, MatchOption}
 use Rattle.std.proofs.lemmas.Bool.{or_cases, and_parts, or_parts, and_cases, ltb-true, ltb-false, eqb-true, eqb-false, cases_order}
-use Rattle.loft_names.specs.declared.error.NameError.{NameError}
-use Rattle.loft_names.specs.declared.error.NameError.TheVariants.{NoScheduler, Unknown, Twice, Arity, Kind as WrongKind, NoMemory}
+use Rattle.loft_scopes.specs.declared.error.NameError.{NameError}
+use Rattle.loft_scopes.specs.declared.error.NameError.TheVariants.{NoScheduler, Unknown, Twice, Arity, Kind as WrongKind, NoMemory}
 use Rattle.loft_tree.specs.Source.{Source}
-use Rattle.loft_names.specs.Scopes.{Declared, declared}
-use Rattle.loft_names.specs.Faults.{place_of, rank_of, first_of, Before, Precedes, IsFirst, faults, twice_from, uses_from}
-use Rattle.loft_names.proofs.First.{least_of-append}
-use Rattle.loft_names.specs.Least.{least_of, before, precedes, sooner}
+use Rattle.loft_scopes.specs.Scopes.{Declared, declared}
+use Rattle.loft_scopes.specs.Faults.{place_of, rank_of, first_of, Before, Precedes, IsFirst, faults, twice_from, uses_from}
+use Rattle.loft_scopes.proofs.First.{least_of-append}
+use Rattle.loft_scopes.specs.Least.{least_of, before, precedes, sooner}
 
 -- ---- the order
 

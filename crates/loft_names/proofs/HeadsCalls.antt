@@ -10,10 +10,11 @@ use Rattle.loft_tree.specs.Source.{Ident, Argument, ANumber, AName, Order, Creat
 use Rattle.loft_tree.specs.Fits.{Each, ArgumentFits, CallFits, OrderFits}
 use Rattle.loft_tree.specs.HeadsFit.{agree, is_of}
 use Rattle.loft_tree.specs.NamedFits.{ArgumentHolds, TakesArguments, CallHolds, OrderHolds}
-use Rattle.loft_names.specs.declared.error.NameError.TheVariants.{Arity}
-use Rattle.loft_names.specs.Scopes.{Scope, Declared, meaning}
-use Rattle.loft_names.specs.Faults.{used, allowed, only_if, use_faults, meant, is_start, arity_faults, kinds_wanted, outer_faults, argument_faults, argument_kind, argument_at, scheduler_faults, module_use, start_use, unlike, thread_if, start_faults, order_faults, orders_faults}
-use Rattle.loft_names.specs.Numbers.{scheduler_of, module_of, argument_of, arguments_of, client_order, client_orders}
+use Rattle.loft_scopes.specs.declared.error.NameError.TheVariants.{Arity}
+use Rattle.loft_scopes.specs.declared.scope.Scope.{Scope}
+use Rattle.loft_scopes.specs.Scopes.{Declared, meaning}
+use Rattle.loft_scopes.specs.Faults.{used, allowed, only_if, use_faults, meant, is_start, arity_faults, kinds_wanted, outer_faults, argument_faults, argument_kind, argument_at, scheduler_faults, module_use, start_use, unlike, thread_if, start_faults, order_faults, orders_faults}
+use Rattle.loft_numbers.specs.Numbers.{scheduler_of, module_of, argument_of, arguments_of, client_order, client_orders}
 use Rattle.loft_names.specs.HeadOf.{HasHead}
 use Rattle.loft_names.proofs.HeadsMeaning.{none_left, none_right, means_one, only_if_true, thread_if_true, scheduler_holds, event_holds, start_holds, called_holds}
 

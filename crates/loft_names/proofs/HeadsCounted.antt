@@ -5,8 +5,9 @@ use Rattle.std.proofs.lemmas.List.Sums.{sum_by-cons}
 use Rattle.loft_tree.specs.Source.{Named, Scheduler, Event, Shared, Module, Start, Outside, Source}
 use Rattle.loft_tree.specs.Fits.{is_scheduler, is_event, is_shared, is_module, is_start, is_outside}
 use Rattle.loft_tree.specs.NamedFits.{Tally, AreCounted, no_items, tally_of}
-use Rattle.loft_names.specs.Scopes.{Declared, Sofar, after, none_yet}
-use Rattle.loft_names.specs.Numbers.{schedulers_in, events_in, shared_in, slots_of, signatures_in, starts_in, clients_in, items_in, heads_of}
+use Rattle.loft_scopes.specs.declared.sofar.Sofar.{Sofar}
+use Rattle.loft_scopes.specs.Scopes.{Declared, after, none_yet}
+use Rattle.loft_numbers.specs.Numbers.{schedulers_in, events_in, shared_in, slots_of, signatures_in, starts_in, clients_in, items_in, heads_of}
 
 -- one that passes a test counts, one that doesn't counts nothing
 counts : {A : Type 0} (test : A → Bool) (x : A) (xs : List A) (n : ℕ) → test x ≡ true → n ≡ count_by test xs → suc n ≡ count_by test (x ∷ xs)

@@ -8,8 +8,11 @@ use Rattle.loft_tree.specs.Source.{Ident, Named, ModuleHead, Scheduler, Event, S
 use Rattle.loft_tree.specs.declared.heads.SlotHead.{SlotHead}
 use Rattle.loft_tree.specs.declared.heads.Signature.{Signature}
 use Rattle.loft_tree.specs.HeadsFit.{kinds_of as slot_kinds}
-use Rattle.loft_names.specs.Scopes.{Sort, AScheduler, AnEvent, AShared, AModule, AStart, AClient, AVariable, Scope, Everywhere, Within, Declared, Sofar, kinds_of, variables, module_declared, everywhere, start_name, after, none_yet, declared_by, declared_from, declared}
-use Rattle.loft_names.specs.Numbers.{schedulers_in, events_in, shared_in, slots_of, signature_of, signatures_in, starts_in, clients_in, name_text, heads_of}
+use Rattle.loft_scopes.specs.declared.scope.Scope.{Scope}
+use Rattle.loft_scopes.specs.declared.scope.Scope.TheVariants.{Everywhere, Within}
+use Rattle.loft_scopes.specs.declared.sofar.Sofar.{Sofar}
+use Rattle.loft_scopes.specs.Scopes.{Sort, AScheduler, AnEvent, AShared, AModule, AStart, AClient, AVariable, Declared, kinds_of, variables, module_declared, everywhere, start_name, after, none_yet, declared_by, declared_from, declared}
+use Rattle.loft_numbers.specs.Numbers.{schedulers_in, events_in, shared_in, slots_of, signature_of, signatures_in, starts_in, clients_in, name_text, heads_of}
 use Rattle.loft_names.specs.HeadOf.{IsHeadIn, IsModuleHead, IsSlotHead, IsDeclared}
 use Rattle.loft_names.proofs.HeadsLists.{head_contained}
 use Rattle.loft_names.proofs.HeadsNumbers.{slot-kinds}

@@ -13,9 +13,11 @@ use Rattle.loft_tree.specs.declared.heads.HeadItem.TheVariants as item
 use Rattle.loft_tree.specs.HeadsFit.{kinds_of as slot_kinds}
 use Rattle.loft_tree.specs.NamedFits.{IsNamed, NamesDiffer, SlotsDiffer, slot_names}
 use Rattle.loft_tree.specs.Source.{Source}
-use Rattle.loft_names.specs.Scopes.{Sort, AScheduler, AnEvent, AShared, AModule, AStart, AClient, AVariable, Scope, Everywhere, Within, Declared, declared, seen_together}
-use Rattle.loft_names.specs.Faults.{faults, twice_from, uses_from}
-use Rattle.loft_names.specs.Numbers.{heads_of}
+use Rattle.loft_scopes.specs.declared.scope.Scope.{Scope}
+use Rattle.loft_scopes.specs.declared.scope.Scope.TheVariants.{Everywhere, Within}
+use Rattle.loft_scopes.specs.Scopes.{Sort, AScheduler, AnEvent, AShared, AModule, AStart, AClient, AVariable, Declared, declared, seen_together}
+use Rattle.loft_scopes.specs.Faults.{faults, twice_from, uses_from}
+use Rattle.loft_numbers.specs.Numbers.{heads_of}
 use Rattle.loft_names.specs.HeadOf.{IsDeclared}
 use Rattle.loft_names.proofs.HeadsLists.{index_of, each_from_get}
 use Rattle.loft_names.proofs.HeadsMeaning.{none_left}

@@ -4,10 +4,12 @@ use Rattle.loft_tree.specs.Source.{Ident, Named, PlaceName, InScheduler, Unlinke
 use Rattle.loft_tree.specs.declared.heads.Heads.{Heads}
 use Rattle.loft_tree.specs.Fits.{Each, IfThere, NameFits, ModuleFits, DeclarationFits, SourceFits}
 use Rattle.loft_tree.specs.NamedFits.{IsName, IsPlace, SlotHolds, EventHolds, SharedHolds, SignatureHolds, StartHolds, ClientHolds, HeadsHold}
-use Rattle.loft_names.specs.Modules.{next_module}
-use Rattle.loft_names.specs.Scopes.{Scope, Everywhere, Within, Declared, declared}
-use Rattle.loft_names.specs.Faults.{NamesFit, faults, declares_scheduler, place_faults, end_faults, module_uses, declaration_uses, uses_from, twice_from}
-use Rattle.loft_names.specs.Numbers.{schedulers_in, events_in, shared_in, slots_of, signature_of, signatures_in, starts_in, clients_in, place_of, end_of, name_text, heads_of}
+use Rattle.loft_scopes.specs.Modules.{next_module}
+use Rattle.loft_scopes.specs.declared.scope.Scope.{Scope}
+use Rattle.loft_scopes.specs.declared.scope.Scope.TheVariants.{Everywhere, Within}
+use Rattle.loft_scopes.specs.Scopes.{Declared, declared}
+use Rattle.loft_scopes.specs.Faults.{NamesFit, faults, declares_scheduler, place_faults, end_faults, module_uses, declaration_uses, uses_from, twice_from}
+use Rattle.loft_numbers.specs.Numbers.{schedulers_in, events_in, shared_in, slots_of, signature_of, signatures_in, starts_in, clients_in, place_of, end_of, name_text, heads_of}
 use Rattle.loft_names.specs.HeadOf.{HasHead}
 use Rattle.loft_names.specs.HeadsKept.{HeadsKept}
 use Rattle.loft_names.proofs.HeadsLists.{some_passes}

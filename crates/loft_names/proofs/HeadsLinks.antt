@@ -5,8 +5,10 @@ use Rattle.std.proofs.lemmas.List.{map-append}
 use Rattle.loft_tree.specs.declared.heads.Heads.{Heads}
 use Rattle.loft_tree.specs.Source.{Order, CreateThere, ControlThere, BroadcastThere, Declaration, Scheduler, Event, Shared, Module, Start, Outside, Source}
 use Rattle.loft_tree.specs.NamedFits.{Linked, ACreate, linked_of, linked_in, creates_from, creates_of}
-use Rattle.loft_names.specs.Scopes.{Declared, Sofar, Everywhere, after, none_yet}
-use Rattle.loft_names.specs.Numbers.{client_orders, creates_in, item_of, items_in, links_of, links_in, heads_of}
+use Rattle.loft_scopes.specs.declared.sofar.Sofar.{Sofar}
+use Rattle.loft_scopes.specs.declared.scope.Scope.TheVariants.{Everywhere}
+use Rattle.loft_scopes.specs.Scopes.{Declared, after, none_yet}
+use Rattle.loft_numbers.specs.Numbers.{client_orders, creates_in, item_of, items_in, links_of, links_in, heads_of}
 use Rattle.loft_names.proofs.HeadsLists.{follows_head}
 use Rattle.loft_names.proofs.HeadsNumbers.{HasRest, has_all, has_later}
 

@@ -10,9 +10,11 @@ use Rattle.loft_tree.specs.Source.{Ident, EventName}
 use Rattle.loft_tree.specs.Fits.{Each}
 use Rattle.loft_tree.specs.HeadsFit.{kinds_of as slot_kinds}
 use Rattle.loft_tree.specs.NamedFits.{IsScheduler}
-use Rattle.loft_names.specs.Scopes.{Sort, AScheduler, AnEvent, AModule, AStart, Scope, Everywhere, Within, Declared, is_seen, same_name, meaning}
-use Rattle.loft_names.specs.Faults.{allowed, used, only_if, use_faults, meant, is_scheduler, is_event, is_start, parameters_of, scheduler_faults, event_faults, module_use, start_use, thread_if}
-use Rattle.loft_names.specs.Numbers.{number_or_0, number_of, scheduler_of}
+use Rattle.loft_scopes.specs.declared.scope.Scope.{Scope}
+use Rattle.loft_scopes.specs.declared.scope.Scope.TheVariants.{Everywhere, Within}
+use Rattle.loft_scopes.specs.Scopes.{Sort, AScheduler, AnEvent, AModule, AStart, Declared, is_seen, same_name, meaning}
+use Rattle.loft_scopes.specs.Faults.{allowed, used, only_if, use_faults, meant, is_scheduler, is_event, is_start, parameters_of, scheduler_faults, event_faults, module_use, start_use, thread_if}
+use Rattle.loft_numbers.specs.Numbers.{number_or_0, number_of, scheduler_of}
 use Rattle.loft_names.specs.HeadOf.{HasHead, IsHeadIn, IsModuleHead}
 use Rattle.loft_names.proofs.HeadsLists.{each_found, mapped_within}
 

@@ -10,8 +10,9 @@ use Rattle.loft_tree.specs.declared.heads.Signature.{Signature}
 use Rattle.loft_tree.specs.declared.heads.Start.{Start as StartHead}
 use Rattle.loft_tree.specs.declared.heads.Heads.{Heads}
 use Rattle.loft_tree.specs.HeadsFit.{kinds_of as slot_kinds}
-use Rattle.loft_names.specs.Scopes.{Declared, Sofar, kinds_of, variables, start_name, after, none_yet, declared_by, declared_from, declared}
-use Rattle.loft_names.specs.Numbers.{schedulers_in, events_in, shared_in, slots_of, signature_of, signatures_in, starts_in, clients_in, name_text, heads_of}
+use Rattle.loft_scopes.specs.declared.sofar.Sofar.{Sofar}
+use Rattle.loft_scopes.specs.Scopes.{Declared, kinds_of, variables, start_name, after, none_yet, declared_by, declared_from, declared}
+use Rattle.loft_numbers.specs.Numbers.{schedulers_in, events_in, shared_in, slots_of, signature_of, signatures_in, starts_in, clients_in, name_text, heads_of}
 use Rattle.loft_names.specs.HeadOf.{HasHead}
 use Rattle.loft_names.proofs.HeadsLists.{Follows, follows_all, follows_head, follows_tail, each-append, each_contained}
 

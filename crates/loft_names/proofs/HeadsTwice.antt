@@ -4,8 +4,10 @@ use Rattle.std.specs.Prelude.{slice_get}
 use Rattle.std.specs.Str.{bytes_eq}
 use Rattle.std.proofs.lemmas.Bool.{and_from, both_ways, eq-eqb, eqb-true}
 use Rattle.loft_tree.specs.Fits.{Each}
-use Rattle.loft_names.specs.Scopes.{Scope, Everywhere, Within, Declared, seen_together, same_name, earlier}
-use Rattle.loft_names.specs.Faults.{again, twice_from}
+use Rattle.loft_scopes.specs.declared.scope.Scope.{Scope}
+use Rattle.loft_scopes.specs.declared.scope.Scope.TheVariants.{Everywhere, Within}
+use Rattle.loft_scopes.specs.Scopes.{Declared, seen_together, same_name, earlier}
+use Rattle.loft_scopes.specs.Faults.{again, twice_from}
 use Rattle.loft_names.proofs.HeadsLists.{each_left, each_right, each_get, each_map, none_found}
 use Rattle.loft_names.proofs.HeadsMeaning.{none_left, none_right}
 

@@ -10,9 +10,11 @@ use Rattle.loft_tree.specs.declared.kinds.Kind.{Kind}
 use Rattle.loft_tree.specs.declared.kinds.Kind.TheVariants.{Int, Thread}
 use Rattle.loft_tree.specs.Fits.{Each, IfThere}
 use Rattle.loft_tree.specs.Source.{Ident, PlaceName, InScheduler, Unlinked, Argument, ANumber, AName, Order, CreateThere, ControlThere, BroadcastThere, Declaration, Scheduler, Event, Shared, Module, Start, Outside, Source}
-use Rattle.loft_names.specs.Modules.{next_module}
-use Rattle.loft_names.specs.Scopes.{AScheduler, AStart, Scope, Everywhere, Within, Declared, declared, earlier, seen_together, same_name}
-use Rattle.loft_names.specs.Faults.{meant, use_faults, unlike, kinds_wanted, arity_faults, thread_if, is_start, is_scheduler, declares_scheduler, again, twice_from, uses_from, NamesFit, scheduler_faults, place_faults, end_faults, argument_faults, argument_kind, argument_at, outer_faults, module_use, start_use, start_faults, order_faults, orders_faults, declaration_uses}
+use Rattle.loft_scopes.specs.Modules.{next_module}
+use Rattle.loft_scopes.specs.declared.scope.Scope.{Scope}
+use Rattle.loft_scopes.specs.declared.scope.Scope.TheVariants.{Everywhere, Within}
+use Rattle.loft_scopes.specs.Scopes.{AScheduler, AStart, Declared, declared, earlier, seen_together, same_name}
+use Rattle.loft_scopes.specs.Faults.{meant, use_faults, unlike, kinds_wanted, arity_faults, thread_if, is_start, is_scheduler, declares_scheduler, again, twice_from, uses_from, NamesFit, scheduler_faults, place_faults, end_faults, argument_faults, argument_kind, argument_at, outer_faults, module_use, start_use, start_faults, order_faults, orders_faults, declaration_uses}
 use Rattle.loft_names.specs.NamesHold.{MeansA, ArgumentIs, OuterAgree, MakesThread, OrderAgrees, PlaceAgrees, DeclarationAgrees, UsesAgree, NamesApart, NamesHold}
 use Rattle.loft_names.proofs.HeadsLists.{found_in, index_of, contains_at}
 use Rattle.loft_names.proofs.HeadsMeaning.{none_left, none_right}

@@ -3,8 +3,9 @@ use Rattle.std.proofs.Common.{◌≡◌, List, [], ◌∷◌, Option, Some, None
 use Rattle.loft_tree.specs.declared.kinds.Kind.TheVariants.{Int, Thread}
 use Rattle.loft_tree.specs.Fits.{Each, IfThere}
 use Rattle.loft_tree.specs.Source.{Ident, EventName, Expression, Statement, Assign, AssignCreate, Create, PrintText, PrintValue, Cooperate, Generate, Await, Select, Get, Join, ControlThread, Broadcast, Link, Unlink, Run, Halt, If, While, Repeat, Statements, Done, Then}
-use Rattle.loft_names.specs.Scopes.{Scope, Declared}
-use Rattle.loft_names.specs.Faults.{use_faults, meant, unlike, begin_of, value_use, kind_of, expression_faults, wants, wants_if, event_faults, events_faults, target_faults, statement_faults, body_faults}
+use Rattle.loft_scopes.specs.declared.scope.Scope.{Scope}
+use Rattle.loft_scopes.specs.Scopes.{Declared}
+use Rattle.loft_scopes.specs.Faults.{use_faults, meant, unlike, begin_of, value_use, kind_of, expression_faults, wants, wants_if, event_faults, events_faults, target_faults, statement_faults, body_faults}
 use Rattle.loft_names.specs.NamesHold.{MeansEvent, IsOfKind, IsInt, HasKind, StatementAgrees, BodyAgrees}
 use Rattle.loft_names.proofs.HeadsMeaning.{none_left, none_right}
 use Rattle.loft_names.proofs.HeadsCalls.{kind_holds}

@@ -7,8 +7,9 @@ use Rattle.loft_tree.specs.declared.kinds.Kind.TheVariants.{Int, Thread}
 use Rattle.loft_tree.specs.KindOf.{builtin_kind, compares}
 use Rattle.loft_tree.specs.NamedFits.{OperandsAgree}
 use Rattle.loft_tree.specs.Source.{Ident, EventName, Expression, Number, Variable, Special, Unary, Binary, Creation}
-use Rattle.loft_names.specs.Scopes.{Sort, AScheduler, AnEvent, AShared, AModule, AStart, AVariable, Scope, Declared, meaning}
-use Rattle.loft_names.specs.Faults.{Means, allowed, used, use_faults, meant, only_if, is_scheduler, is_event, is_start, parameters_of, kind_in, arity_faults, kinds_wanted, unlike, begin_of, value_use, kind_of, kind_faults, expression_faults, wants, scheduler_faults, event_faults, target_faults, arguments_faults, module_use, call_faults, creation_faults, start_use}
+use Rattle.loft_scopes.specs.declared.scope.Scope.{Scope}
+use Rattle.loft_scopes.specs.Scopes.{Sort, AScheduler, AnEvent, AShared, AModule, AStart, AVariable, Declared, meaning}
+use Rattle.loft_scopes.specs.Faults.{Means, allowed, used, use_faults, meant, only_if, is_scheduler, is_event, is_start, parameters_of, kind_in, arity_faults, kinds_wanted, unlike, begin_of, value_use, kind_of, kind_faults, expression_faults, wants, scheduler_faults, event_faults, target_faults, arguments_faults, module_use, call_faults, creation_faults, start_use}
 use Rattle.loft_names.specs.NamesHold.{MeansA, MeansEvent, IsVariable, IsOfKind, HasKind, ArgumentsAgree, CallAgrees, CreationAgrees}
 use Rattle.loft_names.proofs.HeadsMeaning.{none_left, none_right, means_one, meant_one, only_if_true}
 use Rattle.loft_names.proofs.HeadsCalls.{arity_holds, kind_holds}

@@ -1,12 +1,4 @@
-pub mod Positions
-pub mod Keys
-pub mod First
-pub mod Declaring
-pub mod Numbered
-pub mod Uses
 pub mod FirstOf
-pub mod Stops
-pub mod Sizes
 pub mod HeadsLists
 pub mod HeadsNumbers
 pub mod HeadsDeclared

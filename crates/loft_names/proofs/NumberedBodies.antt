@@ -7,14 +7,15 @@ use Rattle.loft_tree.specs.declared.limits.TheConstants.{MAX_STATEMENTS}
 use Rattle.loft_tree.specs.Source.{Named, ModuleHead, Statements, Scheduler, Event, Shared, Module, Start, Outside, Source}
 use Rattle.loft_tree.specs.Fits.{DeclarationFits, Each, ModuleFits, SourceFits}
 use Rattle.loft_tree.specs.NamedFits.{BodyHolds, BodiesHold}
-use Rattle.loft_names.specs.Scopes.{Declared, Within, declared}
-use Rattle.loft_names.specs.Faults.{NamesFit, body_faults, declaration_uses, end_faults, module_uses, place_faults, twice_from, uses_from}
-use Rattle.loft_names.specs.Numbers.{body_of, heads_of, modules_in, signature_of, signatures_in}
+use Rattle.loft_scopes.specs.declared.scope.Scope.TheVariants.{Within}
+use Rattle.loft_scopes.specs.Scopes.{Declared, declared}
+use Rattle.loft_scopes.specs.Faults.{NamesFit, body_faults, declaration_uses, end_faults, module_uses, place_faults, twice_from, uses_from}
+use Rattle.loft_numbers.specs.Numbers.{body_of, heads_of, modules_in, signature_of, signatures_in}
 use Rattle.loft_names.specs.HeadOf.{HasHead}
 use Rattle.loft_names.proofs.HeadsNumbers.{each_declared_has}
 use Rattle.loft_names.proofs.NumberedValues.{none_of_both}
 use Rattle.loft_names.proofs.NumberedStatements.{statements_hold}
-use Rattle.loft_names.proofs.Sizes.{are_numbered, size_kept}
+use Rattle.loft_numbers.proofs.Sizes.{are_numbered, size_kept}
 
 -- what comes after so many
 slice_get-after : {A : Type 0} (before : List A) (x : A) (rest : List A) → slice_get (before ++ x ∷ rest) (length before) ≡ Some x

@@ -2,9 +2,9 @@
 use Rattle.loft_tree.specs.Source.{Source}
 use Rattle.loft_tree.specs.Fits.{SourceFits}
 use Rattle.loft_tree.specs.NamedFits.{NamedFits}
-use Rattle.loft_names.specs.Scopes.{declared}
-use Rattle.loft_names.specs.Faults.{NamesFit}
-use Rattle.loft_names.specs.Numbers.{numbered}
+use Rattle.loft_scopes.specs.Scopes.{declared}
+use Rattle.loft_scopes.specs.Faults.{NamesFit}
+use Rattle.loft_numbers.specs.Numbers.{numbered}
 use Rattle.loft_names.proofs.HeadsDiffer.{names_differ}
 use Rattle.loft_names.proofs.HeadsHolding.{heads_hold}
 use Rattle.loft_names.proofs.HeadsLinks.{all_linked}

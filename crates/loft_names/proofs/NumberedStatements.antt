@@ -10,9 +10,11 @@ use Rattle.loft_tree.specs.Source.{Ident, EventName, Expression, Creation, State
 use Rattle.loft_tree.specs.Fits.{ArgumentsFit, ChoicesFit, CreationFits, Each, ExpressionFits, IfThere, StatementFits, StatementsFit}
 use Rattle.loft_tree.specs.HeadsFit.{kinds_of}
 use Rattle.loft_tree.specs.NamedFits.{ArgumentsHold, ChoicesHold, CreationHolds, IsCall, IsEvent, IsOf, IsValue, StatementHolds, StatementsHold, slots_of}
-use Rattle.loft_names.specs.Scopes.{Scope, Within, Declared}
-use Rattle.loft_names.specs.Faults.{arguments_faults, arity_faults, begin_of, body_faults, call_faults, creation_faults, event_faults, events_faults, expression_faults, kind_of, kinds_wanted, meant, module_use, scheduler_faults, statement_faults, target_faults, unlike, use_faults, value_use, wants, wants_if}
-use Rattle.loft_names.specs.Numbers.{body_of, body_stops, creation_of, event_use, event_uses, number_of, statement_of, stops_in, terms_of, value_of}
+use Rattle.loft_scopes.specs.declared.scope.Scope.{Scope}
+use Rattle.loft_scopes.specs.declared.scope.Scope.TheVariants.{Within}
+use Rattle.loft_scopes.specs.Scopes.{Declared}
+use Rattle.loft_scopes.specs.Faults.{arguments_faults, arity_faults, begin_of, body_faults, call_faults, creation_faults, event_faults, events_faults, expression_faults, kind_of, kinds_wanted, meant, module_use, scheduler_faults, statement_faults, target_faults, unlike, use_faults, value_use, wants, wants_if}
+use Rattle.loft_numbers.specs.Numbers.{body_of, body_stops, creation_of, event_use, event_uses, number_of, statement_of, stops_in, terms_of, value_of}
 use Rattle.loft_names.specs.HeadOf.{HasHead}
 use Rattle.loft_names.proofs.HeadsCalls.{arity_holds}
 use Rattle.loft_names.proofs.HeadsMeaning.{called_holds, event_holds, scheduler_holds}

@@ -3,9 +3,10 @@ use Rattle.std.proofs.Common.{ℕ, ◌+◌, List, [], ◌∷◌}
 use Rattle.loft_tree.specs.Source.{Module, Source}
 use Rattle.loft_tree.specs.Fits.{Each}
 use Rattle.loft_tree.specs.Stops.{AreNumbered}
-use Rattle.loft_names.specs.Scopes.{Declared, Within, declared}
-use Rattle.loft_names.specs.Numbers.{modules_in, numbered}
-use Rattle.loft_names.proofs.Sizes.{are_numbered}
+use Rattle.loft_scopes.specs.declared.scope.Scope.TheVariants.{Within}
+use Rattle.loft_scopes.specs.Scopes.{Declared, declared}
+use Rattle.loft_numbers.specs.Numbers.{modules_in, numbered}
+use Rattle.loft_numbers.proofs.Sizes.{are_numbered}
 
 each_numbered : (ds : List Declared) (m : ℕ) (p : Source) → Each (λ x. AreNumbered x.body 0) (modules_in ds m p)
 each_numbered ds m [] = tt

@@ -15,9 +15,11 @@ use Rattle.loft_tree.specs.KindOf.{builtin_kind, compares}
 use Rattle.loft_tree.specs.Levels as levels
 use Rattle.loft_tree.specs.Levels.{Shape, Operand, Signed, Joined, shape_nesting, shape_operands}
 use Rattle.loft_tree.specs.NamedFits.{HasKind, IsOf, IsValue, OperandsAgree, TargetHasKind, shape_of, slots_of}
-use Rattle.loft_names.specs.Scopes.{Sort, AScheduler, AnEvent, AShared, AModule, AStart, AClient, AVariable, Scope, Everywhere, Within, Declared, is_seen, meaning, same_name}
-use Rattle.loft_names.specs.Faults.{allowed, begin_of, expression_faults, kind_faults, kind_in, kind_of, meant, operand_faults, target_faults, unlike, used, use_faults, value_use, wants, wants_if, Use, NotDeclared, OtherSort, Means}
-use Rattle.loft_names.specs.Numbers.{Holder, InShared, InSlot, held_by, holder_of, if_shared, shared_or, target_of, term_of, value_of, variable_term}
+use Rattle.loft_scopes.specs.declared.scope.Scope.{Scope}
+use Rattle.loft_scopes.specs.declared.scope.Scope.TheVariants.{Everywhere, Within}
+use Rattle.loft_scopes.specs.Scopes.{Sort, AScheduler, AnEvent, AShared, AModule, AStart, AClient, AVariable, Declared, is_seen, meaning, same_name}
+use Rattle.loft_scopes.specs.Faults.{allowed, begin_of, expression_faults, kind_faults, kind_in, kind_of, meant, operand_faults, target_faults, unlike, used, use_faults, value_use, wants, wants_if, Use, NotDeclared, OtherSort, Means}
+use Rattle.loft_numbers.specs.Numbers.{Holder, InShared, InSlot, held_by, holder_of, if_shared, shared_or, target_of, term_of, value_of, variable_term}
 use Rattle.loft_names.specs.HeadOf.{HasHead, IsHeadIn}
 use Rattle.loft_names.proofs.HeadsLists.{found_in, mapped_within}
 use Rattle.loft_names.proofs.HeadsCalls.{kind_holds}

@@ -1,10 +1,3 @@
-pub mod Scopes
-pub mod Faults
-pub mod Numbers
-pub mod Least
-pub mod Tables
-pub mod Rooms
-pub mod Modules
 pub mod HeadOf
 pub mod NamesHold
 pub mod HeadsKept

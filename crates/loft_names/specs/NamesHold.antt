@@ -7,8 +7,10 @@ use Rattle.loft_tree.specs.Source.{Ident, EventName, Expression, Number, Variabl
 use Rattle.loft_tree.specs.Fits.{Each, IfThere}
 use Rattle.loft_tree.specs.KindOf.{builtin_kind, compares}
 use Rattle.loft_tree.specs.NamedFits.{OperandsAgree}
-use Rattle.loft_names.specs.Modules.{next_module}
-use Rattle.loft_names.specs.Scopes.{Sort, AScheduler, AnEvent, AShared, AModule, AStart, AVariable, Scope, Everywhere, Within, Declared, declared, seen_together, meaning}
+use Rattle.loft_scopes.specs.Modules.{next_module}
+use Rattle.loft_scopes.specs.declared.scope.Scope.{Scope}
+use Rattle.loft_scopes.specs.declared.scope.Scope.TheVariants.{Everywhere, Within}
+use Rattle.loft_scopes.specs.Scopes.{Sort, AScheduler, AnEvent, AShared, AModule, AStart, AVariable, Declared, declared, seen_together, meaning}
 
 -- ---- declarations
 

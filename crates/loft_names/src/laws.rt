@@ -6,13 +6,14 @@ ghost use Rattle.loft_tree.specs.Source.{Source};
 ghost use Rattle.loft_tree.specs.Fits.{Each, SourceFits};
 ghost use Rattle.loft_tree.specs.NamedFits.{NamedFits};
 ghost use Rattle.loft_tree.specs.Stops.{AreNumbered};
-ghost use Rattle.loft_names.specs.declared.error.NameError.{NameError};
-ghost use Rattle.loft_names.specs.Scopes.{Sort, Scope, Declared, declared};
-ghost use Rattle.loft_names.specs.Faults.{NameFault, NamesFit, faults};
+ghost use Rattle.loft_scopes.specs.declared.error.NameError.{NameError};
+ghost use Rattle.loft_scopes.specs.declared.scope.Scope.{Scope};
+ghost use Rattle.loft_scopes.specs.Scopes.{Sort, Declared, declared};
+ghost use Rattle.loft_scopes.specs.Faults.{NameFault, NamesFit, faults};
 ghost use Rattle.loft_names.specs.NamesHold.{NamesHold};
 ghost use Rattle.loft_names.specs.HeadOf.{HasHead, IsHeadIn, IsDeclared};
 ghost use Rattle.loft_names.specs.HeadsKept.{HeadsKept};
-ghost use Rattle.loft_names.specs.Numbers.{numbered};
+ghost use Rattle.loft_numbers.specs.Numbers.{numbered};
 
 /// Each program has one answer: its names and kinds are correct, or they have one first fault, and
 /// never both (docs/LANGUAGE.md, "Names").

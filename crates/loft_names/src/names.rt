@@ -3,15 +3,13 @@
 ghost use Rattle.std.specs.Prelude.{◌≡◌, [], IfOk, MatchOption};
 ghost use Rattle.loft_tree.specs.View.{source_of};
 ghost use Rattle.loft_tree.specs.Fits.{SourceFits};
-ghost use Rattle.loft_names.specs.Scopes.{declared};
-ghost use Rattle.loft_names.specs.Faults.{IsFirst, faults};
+ghost use Rattle.loft_scopes.specs.Scopes.{declared};
+ghost use Rattle.loft_scopes.specs.Faults.{IsFirst, faults};
 
-use crate::declare::declare_all;
-use crate::error::NameError;
-use crate::faults;
-use crate::table::Table;
 use loft_base::NoMemory;
+use loft_scopes::{NameError, Table, declare_all};
 use loft_tree::Item;
+use loft_uses::items as note_uses;
 use std::alloc::Global;
 
 /// What is declared, and the first of all that is wrong with names and kinds, by its offset; no fault
@@ -32,6 +30,6 @@ pub fn declared_names<'a>(
 {
     let mut least = None;
     let table = declare_all(alloc, items, &mut least)?;
-    faults::items(&table, items, &mut least);
+    note_uses(&table, items, &mut least);
     Ok((table, least))
 }

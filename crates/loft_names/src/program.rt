@@ -4,16 +4,15 @@ ghost use Rattle.std.specs.Prelude.{◌≡◌, ◌≢◌, IfErr, IfOk, OnOk};
 ghost use Rattle.loft_tree.specs.View.{source_of};
 ghost use Rattle.loft_tree.specs.ProgramView.{program_of};
 ghost use Rattle.loft_tree.specs.Fits.{SourceFits};
-ghost use Rattle.loft_names.specs.Numbers.{numbered};
-ghost use Rattle.loft_names.specs.Scopes.{declared};
-ghost use Rattle.loft_names.specs.Faults.{NameFault, NamesFit};
-ghost use Rattle.loft_names.specs.declared.error.NameError.TheVariants.{NoMemory as no_memory};
+ghost use Rattle.loft_numbers.specs.Numbers.{numbered};
+ghost use Rattle.loft_scopes.specs.Scopes.{declared};
+ghost use Rattle.loft_scopes.specs.Faults.{NameFault, NamesFit};
+ghost use Rattle.loft_scopes.specs.declared.error.NameError.TheVariants.{NoMemory as no_memory};
 
-use crate::error::NameError;
 use crate::names::declared_names;
-use crate::numbers::{heads, links, modules};
-use crate::table::Table;
 use loft_base::NoMemory;
+use loft_numbers::{heads, links, modules};
+use loft_scopes::{NameError, Table};
 use loft_tree::{Item, Named, NamedProgram, Program};
 use std::alloc::Global;
 

@@ -21,13 +21,16 @@ use Rattle.loft_form.proofs.Sound.{Found, read_found}
 use Rattle.loft_form.proofs.Complete.{spelled_read}
 use Rattle.loft_parse.specs.declared.error.ParseError.{ParseError}
 use Rattle.loft_parse.specs.declared.error.ParseError.TheVariants.{Lex, Expected, TooDeep, TooMany, TooLong, NoMemory}
-use Rattle.loft_parse.specs.Language.{Language}
-use Rattle.loft_parse.specs.Grammar.{program, rules}
-use Rattle.loft_parse.specs.Source.{limits, nesting, beginning, located, SpellsProgram, Reads, IsFault}
+use Rattle.loft_grammar.specs.Language.{Language}
+use Rattle.loft_grammar.specs.Statements.{rules}
+use Rattle.loft_grammar.specs.Items.{program}
+use Rattle.loft_grammar.specs.Limits.{limits, nesting, beginning}
+use Rattle.loft_parse.specs.Faults.{located, IsFault}
+use Rattle.loft_grammar.specs.Texts.{SpellsProgram, Reads}
 use Rattle.loft_parse.specs.Parsing.{locate, whole_text, parsed, Answers}
-use Rattle.loft_parse.proofs.fits.SpelledFits.{spelled_fits}
+use Rattle.loft_parts.proofs.fits.SpelledFits.{spelled_fits}
 use Rattle.loft_parse.proofs.SourceFaults.{parsed_fault}
-use Rattle.loft_parse.proofs.Checked.{told, fair, program_clear}
+use Rattle.loft_parts.proofs.Checked.{told, fair, program_clear}
 
 -- what is read with no symbol left is spelled by all of them
 pub whole_spells : (ss : List Symbol) (p : Source) (d : State Language) → read rules limits nesting program ss beginning ≡ done p [] d → SpellsProgram ss p

@@ -1,15 +1,8 @@
-pub mod Chains
-pub mod Checked
-pub mod Flat
-pub mod Inside
 pub mod Laws
-pub mod Leaves
 pub mod Located
-pub mod fits
 pub mod SourceFaults
 pub mod Offsets
 pub mod TextLaws
 pub mod LocalLaws
 pub mod LimitLaws
-pub mod Alone
 pub mod PartLaws

@@ -12,10 +12,13 @@ use Rattle.loft_form.specs.Faults.{unlimited, SpellsWhole, StopsWhole, IsFaultOf
 use Rattle.loft_form.proofs.FirstFault.{spelled_freed, fault_stops, stops_fault, deep_before, many_before, fault_within}
 use Rattle.loft_form.proofs.Fuel.{enough, one_spelled, one_stop as one_expected, never_both as never_spelled}
 use Rattle.loft_parse.specs.declared.error.ParseError.TheVariants.{Expected, TooDeep, TooMany}
-use Rattle.loft_parse.specs.Grammar.{program, rules}
-use Rattle.loft_parse.specs.Source.{limits, nesting, beginning, place, Reads, SourceFault}
+use Rattle.loft_grammar.specs.Statements.{rules}
+use Rattle.loft_grammar.specs.Items.{program}
+use Rattle.loft_grammar.specs.Limits.{limits, nesting, beginning}
+use Rattle.loft_parse.specs.Faults.{place, SourceFault}
+use Rattle.loft_grammar.specs.Texts.{Reads}
 use Rattle.loft_parse.specs.Unlimited.{ReadsUnlimited, StopsUnlimited}
-use Rattle.loft_parse.proofs.Checked.{checked}
+use Rattle.loft_parts.proofs.Checked.{checked}
 use Rattle.loft_parse.proofs.Offsets.{tokens_between, place_rises}
 
 one_cut : (text : List ℕ) (ts us : List Token) → Cut text (Ok ts) → Cut text (Ok us) → ts ≡ us

@@ -12,10 +12,13 @@ use Rattle.loft_form.specs.Faults.{IsFaultOf, left_of}
 use Rattle.loft_form.proofs.Local.{moved, fault_whatever}
 use Rattle.loft_parse.specs.declared.error.ParseError.{ParseError}
 use Rattle.loft_parse.specs.declared.error.ParseError.TheVariants.{Expected, TooDeep, TooMany}
-use Rattle.loft_parse.specs.Grammar.{program, rules}
-use Rattle.loft_parse.specs.Source.{limits, nesting, beginning, first_place, place, located, Reads, SourceFault}
+use Rattle.loft_grammar.specs.Statements.{rules}
+use Rattle.loft_grammar.specs.Items.{program}
+use Rattle.loft_grammar.specs.Limits.{limits, nesting, beginning}
+use Rattle.loft_parse.specs.Faults.{first_place, place, located, SourceFault}
+use Rattle.loft_grammar.specs.Texts.{Reads}
 use Rattle.loft_parse.specs.Alike.{AgreeUpTo, StandsAt}
-use Rattle.loft_parse.proofs.Checked.{checked}
+use Rattle.loft_parts.proofs.Checked.{checked}
 use Rattle.loft_parse.proofs.Offsets.{Between, tokens_between, rises, symbol_at, same_offset, token_count}
 use Rattle.loft_parse.proofs.TextLaws.{never_both}
 

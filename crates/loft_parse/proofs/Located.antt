@@ -10,8 +10,10 @@ use Rattle.loft_form.specs.declared.fault.Fault.TheVariants as fault
 use Rattle.loft_form.specs.Reading.{read, all_of}
 use Rattle.loft_parse.specs.declared.error.ParseError.{ParseError}
 use Rattle.loft_parse.specs.declared.error.ParseError.TheVariants.{Expected, TooDeep, TooMany}
-use Rattle.loft_parse.specs.Grammar.{program, rules}
-use Rattle.loft_parse.specs.Source.{limits, nesting, beginning, first_place, place, located}
+use Rattle.loft_grammar.specs.Statements.{rules}
+use Rattle.loft_grammar.specs.Items.{program}
+use Rattle.loft_grammar.specs.Limits.{limits, nesting, beginning}
+use Rattle.loft_parse.specs.Faults.{first_place, place, located}
 use Rattle.loft_parse.specs.Parsing.{locate, whole_text, parsed}
 use Rattle.loft_parse.specs.SymbolPlaces.{first_offset, offset_of, fault_at, with_offset, spelled}
 

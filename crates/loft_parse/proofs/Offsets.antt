@@ -7,7 +7,7 @@ use Rattle.loft_lex.specs.Fits.{Fits}
 use Rattle.loft_lex.specs.Symbol.{Symbol, symbol_of, symbols}
 use Rattle.loft_lex.specs.Tokens.{tokens, Rising}
 use Rattle.loft_lex.proofs.Spans.{all_fit, all_rise}
-use Rattle.loft_parse.specs.Source.{first_place, place}
+use Rattle.loft_parse.specs.Faults.{first_place, place}
 
 -- tokens that stand between two offsets, one after the other
 abbrev pub Between : ℕ → ℕ → List Token → Type 0

@@ -20,16 +20,18 @@ use Rattle.loft_form.specs.Faults.{SpellsWhole}
 use Rattle.loft_form.specs.Reading.{read, with_rest, all_of, Gives}
 use Rattle.loft_form.proofs.Checked.{Checked}
 use Rattle.loft_form.proofs.Whole.{whole_found, spelled_whole}
-use Rattle.loft_parse.specs.declared.cursor.Cursor.{Cursor}
-use Rattle.loft_parse.specs.Language.{Language}
-use Rattle.loft_parse.specs.Grammar.{Form, rules}
-use Rattle.loft_parse.specs.Source.{nesting, beginning}
-use Rattle.loft_parse.specs.Parts.{SpellsPart, IsCut, unless_more, ComesOf}
-use Rattle.loft_parse.specs.View.{symbols_at, state_at, reads, viewed}
-use Rattle.loft_parse.proofs.Checked.{told}
-use Rattle.loft_parse.proofs.fits.Counting.{none_within}
-use Rattle.loft_parse.proofs.fits.Parts as fits
-use Rattle.loft_parse.proofs.fits.Symbols.{symbols_fit}
+use Rattle.loft_grammar.specs.declared.cursor.Cursor.{Cursor}
+use Rattle.loft_grammar.specs.Language.{Language}
+use Rattle.loft_grammar.specs.Symbols.{Form}
+use Rattle.loft_grammar.specs.Statements.{rules}
+use Rattle.loft_grammar.specs.Limits.{nesting, beginning}
+use Rattle.loft_grammar.specs.Texts.{SpellsPart}
+use Rattle.loft_parse.specs.Parts.{IsCut, unless_more, ComesOf}
+use Rattle.loft_grammar.specs.View.{symbols_at, state_at, reads, viewed}
+use Rattle.loft_parts.proofs.Checked.{told}
+use Rattle.loft_parts.proofs.fits.Counting.{none_within}
+use Rattle.loft_parts.proofs.fits.Parts as fits
+use Rattle.loft_parts.proofs.fits.Symbols.{symbols_fit}
 
 -- what was read, unless there was a fault
 abbrev pub good : {A : Type 0} → Result A Fault → Option A

@@ -11,10 +11,12 @@ use Rattle.loft_form.specs.Reading.{read, all_of}
 use Rattle.loft_form.proofs.FirstFault as first
 use Rattle.loft_parse.specs.declared.error.ParseError.{ParseError}
 use Rattle.loft_parse.specs.declared.error.ParseError.TheVariants.{Lex}
-use Rattle.loft_parse.specs.Grammar.{program, rules}
-use Rattle.loft_parse.specs.Source.{limits, nesting, beginning, located, SourceFault}
+use Rattle.loft_grammar.specs.Statements.{rules}
+use Rattle.loft_grammar.specs.Items.{program}
+use Rattle.loft_grammar.specs.Limits.{limits, nesting, beginning}
+use Rattle.loft_parse.specs.Faults.{located, SourceFault}
 use Rattle.loft_parse.specs.Parsing.{locate, whole_text, parsed}
-use Rattle.loft_parse.proofs.Checked.{checked}
+use Rattle.loft_parts.proofs.Checked.{checked}
 
 -- the fault of a text of these tokens
 located_fault : (text : List ℕ) (ts : List Token) → tokens text ≡ Ok ts → (r : Result Source Fault)

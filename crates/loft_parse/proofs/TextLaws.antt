@@ -2,7 +2,8 @@
 use Rattle.std.proofs.Common.{◌≡◌, ℕ, List, Result, Ok, Err, refl, sym, ◌∙◌, ◌⊎◌, inl, inr}
 use Rattle.loft_tree.specs.Source.{Source}
 use Rattle.loft_parse.specs.declared.error.ParseError.{ParseError}
-use Rattle.loft_parse.specs.Source.{Reads, SourceFault}
+use Rattle.loft_grammar.specs.Texts.{Reads}
+use Rattle.loft_parse.specs.Faults.{SourceFault}
 use Rattle.loft_parse.specs.Parsing.{parsed}
 use Rattle.loft_parse.proofs.Laws.{parsed_reads, reads_parsed}
 use Rattle.loft_parse.proofs.SourceFaults.{parsed_fault, fault_parsed}

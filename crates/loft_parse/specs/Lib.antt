@@ -1,11 +1,4 @@
-pub mod Counts
-pub mod Language
-pub mod Grammar
-pub mod Levels
-pub mod Ends
-pub mod Alone
-pub mod Source
-pub mod View
+pub mod Faults
 pub mod Parsing
 pub mod SymbolPlaces
 pub mod Alike

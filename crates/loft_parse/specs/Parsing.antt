@@ -11,8 +11,10 @@ use Rattle.loft_form.specs.declared.fault.Fault.{Fault}
 use Rattle.loft_form.specs.Reading.{read, all_of}
 use Rattle.loft_parse.specs.declared.error.ParseError.{ParseError}
 use Rattle.loft_parse.specs.declared.error.ParseError.TheVariants.{Lex, Expected, TooDeep, TooMany, TooLong, NoMemory}
-use Rattle.loft_parse.specs.Grammar.{program, rules}
-use Rattle.loft_parse.specs.Source.{limits, nesting, beginning, located}
+use Rattle.loft_grammar.specs.Statements.{rules}
+use Rattle.loft_grammar.specs.Items.{program}
+use Rattle.loft_grammar.specs.Limits.{limits, nesting, beginning}
+use Rattle.loft_parse.specs.Faults.{located}
 
 abbrev pub locate : ℕ → List Token → Result Source Fault → Result Source ParseError
 locate end ts (Ok p) = Ok p

@@ -7,8 +7,9 @@ use Rattle.loft_form.specs.declared.fault.Fault.TheVariants as fault
 use Rattle.loft_form.specs.Reading.{read, all_of}
 use Rattle.loft_parse.specs.declared.error.ParseError.{ParseError}
 use Rattle.loft_parse.specs.declared.error.ParseError.TheVariants.{Expected, TooDeep, TooMany}
-use Rattle.loft_parse.specs.Grammar.{program, rules}
-use Rattle.loft_parse.specs.Source.{limits, nesting, beginning}
+use Rattle.loft_grammar.specs.Statements.{rules}
+use Rattle.loft_grammar.specs.Items.{program}
+use Rattle.loft_grammar.specs.Limits.{limits, nesting, beginning}
 
 -- the offset of the first symbol, or of the text's end
 abbrev pub first_offset : ℕ → List Symbol → ℕ

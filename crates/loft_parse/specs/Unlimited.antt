@@ -6,8 +6,10 @@ use Rattle.loft_lex.specs.Cut.{Cut}
 use Rattle.loft_tree.specs.Source.{Source}
 use Rattle.loft_form.specs.declared.fault.Fault.TheVariants as fault
 use Rattle.loft_form.specs.Faults.{unlimited, SpellsWhole, StopsWhole}
-use Rattle.loft_parse.specs.Grammar.{program, rules}
-use Rattle.loft_parse.specs.Source.{beginning, place}
+use Rattle.loft_grammar.specs.Statements.{rules}
+use Rattle.loft_grammar.specs.Items.{program}
+use Rattle.loft_grammar.specs.Limits.{beginning}
+use Rattle.loft_parse.specs.Faults.{place}
 
 -- The text is that of the program, where nothing is limited: some number of nestings is enough.
 abbrev pub ReadsUnlimited : List ℕ → Source → Type 0

@@ -9,8 +9,11 @@ ghost use Rattle.loft_form.specs.Faults.{IsFaultOf, StopsWhole};
 ghost use Rattle.loft_tree.specs.Source.{Source};
 ghost use Rattle.loft_parse.specs.declared.error.ParseError.{ParseError};
 ghost use Rattle.loft_parse.specs.declared.error.ParseError.TheVariants.{Expected, TooDeep, TooMany};
-ghost use Rattle.loft_parse.specs.Source.{Reads, SourceFault, limits, nesting, beginning};
-ghost use Rattle.loft_parse.specs.Grammar.{program, rules};
+ghost use Rattle.loft_grammar.specs.Texts.{Reads};
+ghost use Rattle.loft_parse.specs.Faults.{SourceFault};
+ghost use Rattle.loft_grammar.specs.Limits.{limits, nesting, beginning};
+ghost use Rattle.loft_grammar.specs.Statements.{rules};
+ghost use Rattle.loft_grammar.specs.Items.{program};
 ghost use Rattle.loft_parse.specs.Alike.{AgreeUpTo, StandsAt};
 ghost use Rattle.loft_parse.specs.Unlimited.{ReadsUnlimited, StopsUnlimited};
 

@@ -6,16 +6,16 @@ ghost use Rattle.loft_tree.specs.Source.{Source};
 ghost use Rattle.loft_tree.specs.View.{source_of};
 ghost use Rattle.loft_parse.specs.declared.error.ParseError.TheVariants.{TooLong};
 ghost use Rattle.loft_parse.specs.declared.error.ParseError.{ParseError};
-ghost use Rattle.loft_parse.specs.Source.{Reads, SourceFault, IsFault};
+ghost use Rattle.loft_grammar.specs.Texts.{Reads};
+ghost use Rattle.loft_parse.specs.Faults.{SourceFault, IsFault};
 ghost use Rattle.loft_parse.specs.Parsing.{parsed, Answers};
 ghost use Rattle.loft_parse.specs.SymbolPlaces.{offset_of, fault_at, spelled};
 
-use crate::counts::Counts;
-use crate::cursor::Cursor;
 use crate::error::ParseError;
-use crate::item::items;
 use loft_form::{Fault, Stop};
+use loft_grammar::{Counts, Cursor};
 use loft_lex::{LexError, MAX_TEXT_LEN, Symbol, read_symbols};
+use loft_parts::item::items;
 use loft_tree::Program;
 use std::alloc::Global;
 

@@ -29,7 +29,7 @@ use Rattle.loft_sense.specs.History.{log, is_open, waiting, jobs, ends_block, le
 use Rattle.loft_sense.specs.Legal.{of, IsCallersOrder, FitsOne, IsLegal, ComesNext}
 use Rattle.loft_sense.proofs.HistoryLemmas.{is_same, on_if, on_first, on_pick, replay_on-append, sent_last-append, left_after-append, unsent_after-append, unsent_none}
 use Rattle.loft_sense.proofs.OwnLemmas.{given}
-use Rattle.loft_sense.proofs.LegalLemmas.{legal_exactly}
+use Rattle.loft_sense.proofs.LegalEntries.{legal_exactly}
 use Rattle.loft_stand.specs.WellFormed.{IsWellFormed}
 use Rattle.loft_stand.proofs.ListLemmas.{all_of}
 use Rattle.loft_stand.proofs.OrderLemmas.{outside_for_one}

@@ -3,8 +3,8 @@ use Rattle.std.proofs.Common.{◌≡◌, ℕ, zero, suc, ◌+◌, ◌<◌, ◌�
 use Rattle.std.specs.List.{Contains}
 use Rattle.std.specs.Borrow.{Bor}
 use Rattle.std.proofs.lemmas.List.Elements.{Contains-append_cases, Contains-append_left}
-use Rattle.loft_names.specs.declared.scope.Scope.{Scope}
-use Rattle.loft_names.specs.Scopes.{Declared}
+use Rattle.loft_scopes.specs.declared.scope.Scope.{Scope}
+use Rattle.loft_scopes.specs.Scopes.{Declared}
 use Rattle.loft_code.specs.Operations.{Line}
 use Rattle.loft_rows.specs.declared.row.OperationRow.{OperationRow}
 use Rattle.loft_draft.specs.Drafts.{DraftOperation}

@@ -8,9 +8,9 @@ use Rattle.loft_tree.specs.declared.program.Item.{Item}
 use Rattle.loft_tree.specs.View.{declaration_of, source_of}
 use Rattle.loft_tree.specs.Source.{Statements, Named, ModuleHead, Declaration, Scheduler, Event, Shared, Module, Start, Outside}
 use Rattle.loft_tree.specs.Fits.{Each}
-use Rattle.loft_names.specs.declared.scope.Scope.TheVariants.{Within}
-use Rattle.loft_names.specs.Modules.{next_module}
-use Rattle.loft_names.specs.Scopes.{Declared}
+use Rattle.loft_scopes.specs.declared.scope.Scope.TheVariants.{Within}
+use Rattle.loft_scopes.specs.Modules.{next_module}
+use Rattle.loft_scopes.specs.Scopes.{Declared}
 use Rattle.loft_code.specs.Operations.{Line}
 use Rattle.loft_rows.specs.Rows.{Local, End}
 use Rattle.loft_draft.specs.Drafts.{Draft, DraftItem, DraftOperation, DraftFits, HasOperations, ItemHolds, IsBare, ShortLineFits, declaration_lines, item_lines, lined_from, lines_text, operation_lines}

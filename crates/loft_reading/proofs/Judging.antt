@@ -4,9 +4,9 @@ use Rattle.std.specs.List.{flat_map}
 use Rattle.std.specs.Prelude.{IfErr, IfOk}
 use Rattle.loft_tree.specs.Source.{Source}
 use Rattle.loft_tree.specs.declared.heads.Heads.{Heads}
-use Rattle.loft_names.specs.Faults.{faults, place_of}
-use Rattle.loft_names.specs.Numbers.{heads_of}
-use Rattle.loft_names.specs.Scopes.{Declared, declared}
+use Rattle.loft_scopes.specs.Faults.{faults, place_of}
+use Rattle.loft_numbers.specs.Numbers.{heads_of}
+use Rattle.loft_scopes.specs.Scopes.{Declared, declared}
 use Rattle.loft_code.specs.Operations.{Automata}
 use Rattle.loft_code.specs.View.{code_of, lines_of}
 use Rattle.loft_code.specs.declared.raw.ModuleCode.{ModuleCode}

@@ -4,11 +4,11 @@ use Rattle.std.specs.List.{flat_map}
 use Rattle.std.proofs.lemmas.List.{length-map}
 use Rattle.loft_tree.specs.Source.{Declaration, Scheduler, Event, Shared, Module, Start, Outside, Source}
 use Rattle.loft_tree.specs.Fits.{Each, SourceFits}
-use Rattle.loft_names.specs.Scopes.{Declared, declared}
-use Rattle.loft_names.specs.declared.scope.Scope.TheVariants.{Within}
-use Rattle.loft_names.specs.Numbers.{heads_of, signatures_in}
-use Rattle.loft_names.specs.Modules.{next_module}
-use Rattle.loft_names.specs.Faults.{faults, place_of}
+use Rattle.loft_scopes.specs.Scopes.{Declared, declared}
+use Rattle.loft_scopes.specs.declared.scope.Scope.TheVariants.{Within}
+use Rattle.loft_numbers.specs.Numbers.{heads_of, signatures_in}
+use Rattle.loft_scopes.specs.Modules.{next_module}
+use Rattle.loft_scopes.specs.Faults.{faults, place_of}
 use Rattle.loft_names.proofs.HeadsHolding.{heads_kept}
 use Rattle.loft_names.proofs.HeadsLists.{each-append, each_left, each_right}
 use Rattle.loft_names.proofs.HeadsMeaning.{none_left, none_right}

@@ -2,9 +2,9 @@
 use Rattle.std.proofs.Common.{ℕ, List, [], ◌∷◌, ◌+◌, map}
 use Rattle.loft_tree.specs.Source.{Statement, Assign, AssignCreate, Create, PrintText, PrintValue, Cooperate, Generate, Await, Select, Get, Join, ControlThread, Broadcast, Link, Unlink, Run, Halt, If, While, Repeat}
 use Rattle.loft_tree.specs.Fits.{Each}
-use Rattle.loft_names.specs.Scopes.{Declared}
-use Rattle.loft_names.specs.declared.scope.Scope.{Scope}
-use Rattle.loft_parse.specs.Parts.{LineFits}
+use Rattle.loft_scopes.specs.Scopes.{Declared}
+use Rattle.loft_scopes.specs.declared.scope.Scope.{Scope}
+use Rattle.loft_grammar.specs.PartsFit.{LineFits}
 use Rattle.loft_code.specs.Fits as code
 use Rattle.loft_code.specs.Fits.{OperationFits}
 use Rattle.loft_rows.specs.Instructions as instruction

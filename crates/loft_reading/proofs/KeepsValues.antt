@@ -6,10 +6,10 @@ use Rattle.loft_tree.specs.Fits.{Each, IfThere, WordsFit, ExpressionFits}
 use Rattle.loft_tree.specs.Levels as levels
 use Rattle.loft_tree.specs.Levels.{Shape, Operand, Signed, Joined, shape_nesting, shape_operands}
 use Rattle.loft_tree.specs.Resolved.{exp_of, exp_if, exps_of}
-use Rattle.loft_names.specs.Scopes.{Declared, meaning}
-use Rattle.loft_names.specs.declared.scope.Scope.{Scope}
-use Rattle.loft_names.specs.Numbers.{Holder, InShared, InSlot, holder_of, term_of, terms_of, value_of, variable_term}
-use Rattle.loft_parse.specs.Source.{nesting}
+use Rattle.loft_scopes.specs.Scopes.{Declared, meaning}
+use Rattle.loft_scopes.specs.declared.scope.Scope.{Scope}
+use Rattle.loft_numbers.specs.Numbers.{Holder, InShared, InSlot, holder_of, term_of, terms_of, value_of, variable_term}
+use Rattle.loft_grammar.specs.Limits.{nesting}
 use Rattle.loft_code.specs.Fits.{shape_of, NumbersFit, ExpFits}
 
 -- the declarations of a listing, and where its names are used

@@ -4,10 +4,10 @@ use Rattle.loft_tree.specs.Source.{Ident, EventName, Expression, Number, Variabl
 use Rattle.loft_tree.specs.Resolved as resolved
 use Rattle.loft_tree.specs.Resolved.{exp_of, exp_if, exps_of, events_of, target_of}
 use Rattle.loft_show.specs.Places.{bare_name, bare_expression, bare_value, bare_event, bare_statement, bare_place}
-use Rattle.loft_names.specs.declared.scope.Scope.{Scope}
-use Rattle.loft_names.specs.Scopes.{Declared, meaning}
-use Rattle.loft_names.specs.Numbers.{Holder, InShared, InSlot, holder_of, variable_term, held_by, term_of, value_of, terms_of, event_uses, place_of, scheduler_of, module_of, event_of}
-use Rattle.loft_names.specs.Numbers as numbers
+use Rattle.loft_scopes.specs.declared.scope.Scope.{Scope}
+use Rattle.loft_scopes.specs.Scopes.{Declared, meaning}
+use Rattle.loft_numbers.specs.Numbers.{Holder, InShared, InSlot, holder_of, variable_term, held_by, term_of, value_of, terms_of, event_uses, place_of, scheduler_of, module_of, event_of}
+use Rattle.loft_numbers.specs.Numbers as numbers
 use Rattle.loft_code.specs.Operations.{Line, Do, Hold, Call, Branch, Count}
 use Rattle.loft_rows.specs.Instructions as instruction
 use Rattle.loft_rows.specs.Instructions.{Instruction, bare_instruction}

@@ -3,8 +3,8 @@ use Rattle.std.specs.Prelude.{◌≡◌, ℕ, ◌+◌, ◌<◌, ◌≤◌, ◌^�
 use Rattle.std.specs.Borrow.{Bor}
 use Rattle.loft_tree.specs.Source.{Declaration}
 use Rattle.loft_tree.specs.Fits.{Each}
-use Rattle.loft_names.specs.declared.scope.Scope.TheVariants.{Within}
-use Rattle.loft_names.specs.Scopes.{Declared}
+use Rattle.loft_scopes.specs.declared.scope.Scope.TheVariants.{Within}
+use Rattle.loft_scopes.specs.Scopes.{Declared}
 use Rattle.loft_rows.specs.Rows.{Operation, line_text}
 use Rattle.loft_rows.specs.declared.row.OperationRow.{OperationRow}
 use Rattle.loft_rows.specs.declared.row.Row.{Row}

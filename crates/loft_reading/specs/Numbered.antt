@@ -3,11 +3,11 @@ use Rattle.std.specs.Prelude.{ℕ, List, [], ◌∷◌, ◌++◌, map}
 use Rattle.loft_tree.specs.Source.{Statement, Declaration, Scheduler, Event, Shared, Module, Start, Outside}
 use Rattle.loft_tree.specs.Resolved as resolved
 use Rattle.loft_tree.specs.Resolved.{Step, exp_of, step_of}
-use Rattle.loft_names.specs.declared.scope.Scope.{Scope}
-use Rattle.loft_names.specs.declared.scope.Scope.TheVariants.{Within}
-use Rattle.loft_names.specs.Scopes.{Declared, declared}
-use Rattle.loft_names.specs.Modules.{next_module}
-use Rattle.loft_names.specs.Numbers.{heads_of, place_of, statement_of, term_of}
+use Rattle.loft_scopes.specs.declared.scope.Scope.{Scope}
+use Rattle.loft_scopes.specs.declared.scope.Scope.TheVariants.{Within}
+use Rattle.loft_scopes.specs.Scopes.{Declared, declared}
+use Rattle.loft_scopes.specs.Modules.{next_module}
+use Rattle.loft_numbers.specs.Numbers.{heads_of, place_of, statement_of, term_of}
 use Rattle.loft_code.specs.Operations.{Operation, Do, Hold, Call, Branch, Enter, Count, Turn, Jump, End, Line, Automata}
 use Rattle.loft_rows.specs.Instructions as instruction
 use Rattle.loft_rows.specs.Instructions.{Instruction}

@@ -10,8 +10,9 @@ ghost use Rattle.loft_reading.specs.Numbered.{numbered_instruction, numbered_lin
 use crate::operation::operation;
 use loft_base::NoMemory;
 use loft_code::{CodeLine, Op};
-use loft_names::{Scope, Table, number_expression, number_place, number_statement};
+use loft_numbers::{number_expression, number_place, number_statement};
 use loft_rows::{Deed, OperationRow};
+use loft_scopes::{Scope, Table};
 use std::alloc::Global;
 
 /// What an operation does, with numbers in place of names. A stop keeps its number.

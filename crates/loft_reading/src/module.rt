@@ -15,8 +15,8 @@ use crate::error::ListError;
 use crate::line::code_line;
 use loft_base::NoMemory;
 use loft_code::ModuleCode;
-use loft_names::{Scope, Table};
 use loft_rows::{OperationRow, Row, find_row, first_line};
+use loft_scopes::{Scope, Table};
 use loft_wrong::{offsets_are_free, operation_names};
 use std::alloc::Global;
 

@@ -2,7 +2,7 @@
 
 ghost use Rattle.std.specs.Prelude.{◌≡◌, ◌<◌, ◌^◌, ◌++◌, length, map, OnOk};
 ghost use Rattle.loft_tree.specs.View.{declaration_of, source_of};
-ghost use Rattle.loft_names.specs.Modules.{next_module};
+ghost use Rattle.loft_scopes.specs.Modules.{next_module};
 ghost use Rattle.loft_code.specs.View.{lines_of};
 ghost use Rattle.loft_draft.specs.Drafts.{Draft, DraftFits, DraftItem};
 ghost use Rattle.loft_draft.specs.InMemory.{operations_text};
@@ -13,7 +13,7 @@ ghost use Rattle.loft_reading.specs.Numbered.{module_lines, modules_from};
 use crate::error::ListError;
 use crate::module::module_code;
 use loft_code::ModuleCode;
-use loft_names::{Scope, Table};
+use loft_scopes::{Scope, Table};
 use loft_tree::Item;
 use std::alloc::Global;
 

@@ -15,7 +15,7 @@ use crate::error::ListError;
 use crate::modules::modules_code;
 use loft_code::{CodeProgram, RawCode};
 use loft_draft::{Drafted, MAX_LISTING_LEN, read_draft};
-use loft_names::number_heads;
+use loft_numbers::number_heads;
 use loft_wrong::{first_misplaced, first_wrong_name};
 use std::alloc::Global;
 

@@ -8,16 +8,17 @@ use Rattle.loft_tree.specs.declared.heads.Place.{Place}
 use Rattle.loft_tree.specs.declared.heads.Place.TheVariants as place
 use Rattle.loft_tree.specs.Source.{Source}
 use Rattle.loft_tree.specs.declared.heads.Heads.{Heads}
-use Rattle.loft_names.specs.declared.error.NameError.{NameError}
-use Rattle.loft_names.specs.declared.error.NameError.TheVariants as name
-use Rattle.loft_names.specs.Faults.{NameFault, NamesFit}
-use Rattle.loft_names.specs.Numbers.{numbered}
+use Rattle.loft_scopes.specs.declared.error.NameError.{NameError}
+use Rattle.loft_scopes.specs.declared.error.NameError.TheVariants as name
+use Rattle.loft_scopes.specs.Faults.{NameFault, NamesFit}
+use Rattle.loft_numbers.specs.Numbers.{numbered}
 use Rattle.loft_place.specs.declared.error.PlaceError.{PlaceError}
 use Rattle.loft_place.specs.declared.error.PlaceError.TheVariants as links
 use Rattle.loft_place.specs.Links.{IsPlaced, PlaceFault}
 use Rattle.loft_parse.specs.declared.error.ParseError.{ParseError}
 use Rattle.loft_parse.specs.declared.error.ParseError.TheVariants.{Lex, Expected, TooDeep, TooMany, TooLong, NoMemory}
-use Rattle.loft_parse.specs.Source.{Reads, SourceFault}
+use Rattle.loft_grammar.specs.Texts.{Reads}
+use Rattle.loft_parse.specs.Faults.{SourceFault}
 use Rattle.loft_code.specs.declared.error.OpAt.{OpAt}
 use Rattle.loft_code.specs.declared.error.CodeError.{CodeError}
 use Rattle.loft_code.specs.declared.error.CodeError.TheVariants as code

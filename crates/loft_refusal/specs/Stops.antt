@@ -5,8 +5,8 @@ use Rattle.loft_base.specs.declared.writing.WriteError.{WriteError}
 use Rattle.loft_base.specs.declared.writing.WriteError.TheVariants as write
 use Rattle.loft_parse.specs.declared.error.ParseError.{ParseError}
 use Rattle.loft_parse.specs.declared.error.ParseError.TheVariants as text
-use Rattle.loft_names.specs.declared.error.NameError.{NameError}
-use Rattle.loft_names.specs.declared.error.NameError.TheVariants as name
+use Rattle.loft_scopes.specs.declared.error.NameError.{NameError}
+use Rattle.loft_scopes.specs.declared.error.NameError.TheVariants as name
 use Rattle.loft_reading.specs.declared.error.ListError.{ListError}
 use Rattle.loft_reading.specs.declared.error.ListError.TheVariants as list
 use Rattle.loft_refusal.specs.declared.refusal.Refusal.TheVariants.{Text, Names, Listing}

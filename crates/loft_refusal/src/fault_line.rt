@@ -8,10 +8,10 @@ use crate::refusal::Refusal;
 use loft_base::{ModuleId, NoMemory};
 use loft_code::{CodeError, OpAt};
 use loft_lex::LexError;
-use loft_names::NameError;
 use loft_parse::ParseError;
 use loft_place::PlaceError;
 use loft_reading::ListError;
+use loft_scopes::NameError;
 use loft_tree::{Names, Place};
 use std::alloc::Global;
 

@@ -4,7 +4,7 @@ ghost use Rattle.std.specs.Prelude.{◌≡◌, ◌≤◌, ℕ, List, Some, IfOk,
 ghost use Rattle.loft_base.specs.Outside.{Rose};
 ghost use Rattle.loft_tree.specs.View.{source_of};
 ghost use Rattle.loft_tree.specs.ProgramView.{program_of};
-ghost use Rattle.loft_names.specs.Numbers.{numbered};
+ghost use Rattle.loft_numbers.specs.Numbers.{numbered};
 ghost use Rattle.loft_refusal.specs.Refusals.{IsSourceOf, Well};
 ghost use Rattle.loft_refusal.specs.Found.{IsFault, IsUnfit};
 

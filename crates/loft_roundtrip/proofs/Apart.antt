@@ -6,10 +6,10 @@ use Rattle.loft_tree.specs.declared.heads.Heads.{Heads}
 use Rattle.loft_tree.specs.Fits.{Each}
 use Rattle.loft_tree.specs.NamedFits.{NamesDiffer}
 use Rattle.loft_tree.specs.Source.{Named, Declaration, Scheduler, Event, Shared, Module, Start, Outside, Source}
-use Rattle.loft_names.specs.Scopes.{Sort, AScheduler, AnEvent, AShared, AModule, AStart, AClient, AVariable, Declared, variables, after, declared_by, declared_from, seen_together, is_seen}
-use Rattle.loft_names.specs.declared.scope.Scope.{Scope}
-use Rattle.loft_names.specs.declared.scope.Scope.TheVariants.{Everywhere, Within}
-use Rattle.loft_names.specs.declared.sofar.Sofar.{Sofar}
+use Rattle.loft_scopes.specs.Scopes.{Sort, AScheduler, AnEvent, AShared, AModule, AStart, AClient, AVariable, Declared, variables, after, declared_by, declared_from, seen_together, is_seen}
+use Rattle.loft_scopes.specs.declared.scope.Scope.{Scope}
+use Rattle.loft_scopes.specs.declared.scope.Scope.TheVariants.{Everywhere, Within}
+use Rattle.loft_scopes.specs.declared.sofar.Sofar.{Sofar}
 use Rattle.loft_names.specs.HeadOf.{HasHead, IsHeadIn}
 use Rattle.loft_names.specs.NamesHold.{NamesApart}
 use Rattle.loft_names.proofs.HeadsLists.{each-append, each_get, each_map}

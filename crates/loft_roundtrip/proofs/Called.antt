@@ -16,11 +16,11 @@ use Rattle.loft_tree.specs.declared.heads.Start.{Start}
 use Rattle.loft_tree.specs.declared.heads.Heads.{Heads}
 use Rattle.loft_tree.specs.HeadsFit.{kinds_of}
 use Rattle.loft_tree.specs.Source.{Ident}
-use Rattle.loft_names.specs.Scopes.{Sort, AScheduler, AnEvent, AShared, AModule, AStart, AVariable, Declared, meaning}
-use Rattle.loft_names.specs.declared.scope.Scope.{Scope}
-use Rattle.loft_names.specs.declared.scope.Scope.TheVariants.{Everywhere, Within}
+use Rattle.loft_scopes.specs.Scopes.{Sort, AScheduler, AnEvent, AShared, AModule, AStart, AVariable, Declared, meaning}
+use Rattle.loft_scopes.specs.declared.scope.Scope.{Scope}
+use Rattle.loft_scopes.specs.declared.scope.Scope.TheVariants.{Everywhere, Within}
 use Rattle.loft_names.specs.NamesHold.{MeansA}
-use Rattle.loft_names.specs.Numbers.{number_of, number_or_0, InShared, InSlot, holder_of, if_shared, shared_or}
+use Rattle.loft_numbers.specs.Numbers.{number_of, number_or_0, InShared, InSlot, holder_of, if_shared, shared_or}
 use Rattle.loft_draft.specs.Lined.{name_at}
 use Rattle.loft_listing.specs.Called.{called_scheduler, called_event, called_shared, called_module, called_thread, called_slot, start_name}
 use Rattle.loft_roundtrip.specs.ThreadsNamed.{IsNamedThread}

@@ -5,13 +5,13 @@ use Rattle.loft_tree.specs.declared.kinds.Kind.{Kind}
 use Rattle.loft_tree.specs.declared.heads.Heads.{Heads}
 use Rattle.loft_tree.specs.Fits.{Each}
 use Rattle.loft_tree.specs.Source.{AName, ANumber, Argument, BroadcastThere, ControlThere, CreateThere, Order, Outside, Source, Start}
-use Rattle.loft_names.specs.Scopes.{Declared, declared, none_yet}
-use Rattle.loft_names.specs.declared.scope.Scope.TheVariants.{Everywhere}
+use Rattle.loft_scopes.specs.Scopes.{Declared, declared, none_yet}
+use Rattle.loft_scopes.specs.declared.scope.Scope.TheVariants.{Everywhere}
 use Rattle.loft_names.specs.HeadOf.{HasHead}
-use Rattle.loft_names.specs.Modules.{next_module}
-use Rattle.loft_names.specs.Faults.{faults, place_of, twice_from, uses_from}
+use Rattle.loft_scopes.specs.Modules.{next_module}
+use Rattle.loft_scopes.specs.Faults.{faults, place_of, twice_from, uses_from}
 use Rattle.loft_names.specs.NamesHold.{OrderAgrees, OuterAgree, UsesAgree}
-use Rattle.loft_names.specs.Numbers.{arguments_of, client_orders, clients_in, events_in, heads_of, schedulers_in, shared_in, signatures_in, starts_in}
+use Rattle.loft_numbers.specs.Numbers.{arguments_of, client_orders, clients_in, events_in, heads_of, schedulers_in, shared_in, signatures_in, starts_in}
 use Rattle.loft_names.proofs.HeadsLists.{follows_all}
 use Rattle.loft_names.proofs.HeadsMeaning.{none_left, none_right}
 use Rattle.loft_names.proofs.HeadsNumbers.{each_declared_has}

@@ -10,7 +10,7 @@ use Rattle.loft_tree.specs.declared.heads.HeadItem.{HeadItem}
 use Rattle.loft_tree.specs.declared.heads.HeadItem.TheVariants as item
 use Rattle.loft_tree.specs.declared.heads.Heads.{Heads}
 use Rattle.loft_tree.specs.NamedFits.{Tally, AreCounted, no_items, tally_of}
-use Rattle.loft_names.specs.declared.sofar.Sofar.{Sofar}
+use Rattle.loft_scopes.specs.declared.sofar.Sofar.{Sofar}
 use Rattle.loft_code.specs.Fits.{RawFits}
 use Rattle.loft_code.specs.Operations.{Line, Automata}
 use Rattle.loft_listing.specs.Listing.{operations_of}

@@ -3,9 +3,9 @@ use Rattle.std.proofs.Common.{[]}
 use Rattle.loft_tree.specs.Fits.{SourceFits}
 use Rattle.loft_tree.specs.Resolved.{resolved_of}
 use Rattle.loft_tree.specs.Source.{Source}
-use Rattle.loft_names.specs.Scopes.{declared}
-use Rattle.loft_names.specs.Faults.{NamesFit, twice_from, uses_from}
-use Rattle.loft_names.specs.Numbers.{numbered}
+use Rattle.loft_scopes.specs.Scopes.{declared}
+use Rattle.loft_scopes.specs.Faults.{NamesFit, twice_from, uses_from}
+use Rattle.loft_numbers.specs.Numbers.{numbered}
 use Rattle.loft_names.proofs.HeadsMeaning.{none_right}
 use Rattle.loft_names.proofs.HoldsPrograms.{uses_agree}
 use Rattle.loft_names.proofs.NumberedFits.{numbered_fits}

@@ -13,12 +13,12 @@ use Rattle.loft_tree.specs.Source.{AName, ANumber, Argument, BroadcastThere, Con
 use Rattle.loft_tree.specs.Fits as fits
 use Rattle.loft_tree.specs.Fits.{Each, EndFits, IfThere}
 use Rattle.loft_show.specs.Places.{bare_argument, bare_head, bare_name, bare_named, bare_order, bare_place}
-use Rattle.loft_names.specs.Scopes.{AScheduler, Declared}
-use Rattle.loft_names.specs.declared.scope.Scope.{Scope}
-use Rattle.loft_names.specs.declared.scope.Scope.TheVariants.{Everywhere, Within}
+use Rattle.loft_scopes.specs.Scopes.{AScheduler, Declared}
+use Rattle.loft_scopes.specs.declared.scope.Scope.{Scope}
+use Rattle.loft_scopes.specs.declared.scope.Scope.TheVariants.{Everywhere, Within}
 use Rattle.loft_names.specs.HeadOf.{HasHead}
 use Rattle.loft_names.specs.NamesHold.{ArgumentIs, MeansA, OrderAgrees, OuterAgree, PlaceAgrees}
-use Rattle.loft_names.specs.Numbers.{argument_of, arguments_of, client_order, client_orders, end_of, name_text, number_of, place_of, signature_of, slots_of}
+use Rattle.loft_numbers.specs.Numbers.{argument_of, arguments_of, client_order, client_orders, end_of, name_text, number_of, place_of, signature_of, slots_of}
 use Rattle.loft_code.specs.Places.{same_place}
 use Rattle.loft_listing.specs.Called.{called, called_argument, called_end, called_head, called_order, called_place, called_scheduler, called_variable}
 use Rattle.loft_roundtrip.proofs.NamesBack.{event_back, module_back, scheduler_back, start_back}

@@ -13,7 +13,7 @@ use Rattle.loft_tree.specs.NamedFits.{SignatureHolds, SlotHolds, slots_of}
 use Rattle.loft_tree.specs.Resolved as r
 use Rattle.loft_tree.specs.Resolved.{Exp, Target}
 use Rattle.loft_names.proofs.HeadsLists.{each-append}
-use Rattle.loft_parse.specs.Source.{nesting}
+use Rattle.loft_grammar.specs.Limits.{nesting}
 use Rattle.loft_code.specs.Fits.{ExpFits, HeadsKeep, NumbersFit, shape_of}
 use Rattle.loft_code.specs.Names.{exp_has, exps_have, has_events, target_has, value_has}
 use Rattle.loft_listing.specs.Called.{called_event, called_expression, called_target, called_value}

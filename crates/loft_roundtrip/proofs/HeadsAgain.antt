@@ -19,10 +19,10 @@ use Rattle.loft_tree.specs.declared.heads.Client.{Client}
 use Rattle.loft_tree.specs.declared.heads.Heads.{Heads}
 use Rattle.loft_tree.specs.Fits.{Each}
 use Rattle.loft_tree.specs.NamedFits.{EventHolds, SharedHolds, SignatureHolds, StartHolds, ClientHolds, OrderHolds, ArgumentHolds, TakesArguments, IsPlace, IsScheduler, IsStarted}
-use Rattle.loft_names.specs.Scopes.{Declared}
-use Rattle.loft_names.specs.declared.scope.Scope.{Scope}
-use Rattle.loft_names.specs.declared.scope.Scope.TheVariants.{Everywhere, Within}
-use Rattle.loft_names.specs.Numbers.{scheduler_of, module_of, place_of, end_of, heads_of}
+use Rattle.loft_scopes.specs.Scopes.{Declared}
+use Rattle.loft_scopes.specs.declared.scope.Scope.{Scope}
+use Rattle.loft_scopes.specs.declared.scope.Scope.TheVariants.{Everywhere, Within}
+use Rattle.loft_numbers.specs.Numbers.{scheduler_of, module_of, place_of, end_of, heads_of}
 use Rattle.loft_code.specs.Fits.{HeadsKeep}
 use Rattle.loft_code.specs.Places.{same_place}
 use Rattle.loft_draft.specs.Drafts.{source_of}

@@ -8,10 +8,10 @@ use Rattle.loft_tree.specs.declared.heads.Heads.{Heads}
 use Rattle.loft_tree.specs.Fits.{Each}
 use Rattle.loft_tree.specs.HeadsFit.{kinds_of as slot_kinds}
 use Rattle.loft_tree.specs.Source.{Source}
-use Rattle.loft_names.specs.Scopes.{Sort, AScheduler, AnEvent, AShared, AModule, AStart, AClient, AVariable, Declared, declared}
-use Rattle.loft_names.specs.declared.scope.Scope.{Scope}
-use Rattle.loft_names.specs.declared.scope.Scope.TheVariants.{Everywhere, Within}
-use Rattle.loft_names.specs.Numbers.{heads_of}
+use Rattle.loft_scopes.specs.Scopes.{Sort, AScheduler, AnEvent, AShared, AModule, AStart, AClient, AVariable, Declared, declared}
+use Rattle.loft_scopes.specs.declared.scope.Scope.{Scope}
+use Rattle.loft_scopes.specs.declared.scope.Scope.TheVariants.{Everywhere, Within}
+use Rattle.loft_numbers.specs.Numbers.{heads_of}
 use Rattle.loft_names.specs.HeadOf.{IsHeadIn, IsModuleHead, IsSlotHead, HasHead, IsDeclared}
 use Rattle.loft_names.proofs.HeadsLists.{each_map}
 use Rattle.loft_names.proofs.HeadsNumbers.{each_declared_has}

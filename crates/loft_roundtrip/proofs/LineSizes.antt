@@ -14,8 +14,8 @@ use Rattle.loft_tree.specs.declared.kinds.Control.TheVariants as c
 use Rattle.loft_tree.specs.declared.limits.TheConstants.{MAX_ARGUMENTS, MAX_CHOICES}
 use Rattle.loft_tree.specs.Source.{AName, ANumber, Argument, Assign, AssignCreate, Await, Broadcast, BroadcastThere, ControlThere, ControlThread, Cooperate, Create, CreateThere, Creation, Declaration, Event, EventName, Expression, Generate, Get, Halt, Ident, If, InScheduler, Join, Link, Module, ModuleHead, Named, Order, Outside, PlaceName, PrintText, PrintValue, Repeat, Run, Scheduler, Select, Shared, Start, Statement, Unlink, Unlinked, While}
 use Rattle.loft_tree.specs.Fits.{ArgumentFits, CallFits, DeclarationFits, Each, EndFits, EventNameFits, ExpressionFits, IfThere, NameFits, OrderFits, PlaceFits, SignedFits}
-use Rattle.loft_parse.specs.Parts.{HeadFits, LineCreationFits, LineFits, NamedFits}
-use Rattle.loft_parse.specs.Source.{nesting}
+use Rattle.loft_grammar.specs.PartsFit.{HeadFits, LineCreationFits, LineFits, NamedFits}
+use Rattle.loft_grammar.specs.Limits.{nesting}
 use Rattle.loft_show.specs.Canon.{Piece, argument_pieces, behind, call_pieces, bracketed_pieces, comma_part, control_word, creation_pieces, declaration_lines, ended, event_pieces, expression_pieces, for_part, further_pieces, head_line, kind_word, line, lines_text, name, name_pieces, named_pieces, order_line, pieces_text, place_pieces, sign, signed_pieces, space, spaced, spelled, tight, word}
 use Rattle.loft_show.specs.PartReads.{IsOneLine}
 use Rattle.loft_rows.specs.Instructions as instruction

@@ -9,13 +9,13 @@ use Rattle.loft_tree.specs.Source as src
 use Rattle.loft_tree.specs.Source.{Declaration, Event, Module, Named, Outside, Scheduler, Shared, Start}
 use Rattle.loft_tree.specs.Fits.{DeclarationFits, Each}
 use Rattle.loft_show.specs.Places.{bare_name, bare_order}
-use Rattle.loft_names.specs.Scopes.{Declared, after}
-use Rattle.loft_names.specs.declared.scope.Scope.TheVariants.{Everywhere, Within}
-use Rattle.loft_names.specs.declared.sofar.Sofar.{Sofar}
+use Rattle.loft_scopes.specs.Scopes.{Declared, after}
+use Rattle.loft_scopes.specs.declared.scope.Scope.TheVariants.{Everywhere, Within}
+use Rattle.loft_scopes.specs.declared.sofar.Sofar.{Sofar}
 use Rattle.loft_names.specs.HeadOf.{HasHead}
-use Rattle.loft_names.specs.Modules.{next_module}
+use Rattle.loft_scopes.specs.Modules.{next_module}
 use Rattle.loft_names.specs.NamesHold.{DeclarationAgrees, UsesAgree}
-use Rattle.loft_names.specs.Numbers.{clients_in, events_in, item_of, items_in, schedulers_in, shared_in, signature_of, signatures_in, slots_of, starts_in}
+use Rattle.loft_numbers.specs.Numbers.{clients_in, events_in, item_of, items_in, schedulers_in, shared_in, signature_of, signatures_in, slots_of, starts_in}
 use Rattle.loft_names.proofs.HeadsLists.{Follows, each_left, each_right, follows_head, follows_tail}
 use Rattle.loft_names.proofs.HeadsMeaning.{none_left, none_right}
 use Rattle.loft_code.specs.Operations.{Line}

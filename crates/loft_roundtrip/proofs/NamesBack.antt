@@ -15,13 +15,13 @@ use Rattle.loft_tree.specs.declared.heads.Heads.{Heads}
 use Rattle.loft_tree.specs.Source.{EventName, Ident}
 use Rattle.loft_tree.specs.Fits.{Each}
 use Rattle.loft_show.specs.Places.{bare_event, bare_name}
-use Rattle.loft_names.specs.Scopes.{AModule, AScheduler, AShared, AStart, AVariable, AnEvent, Declared, Sort, is_seen, meaning, same_name}
-use Rattle.loft_names.specs.declared.scope.Scope.{Scope}
-use Rattle.loft_names.specs.declared.scope.Scope.TheVariants.{Everywhere, Within}
-use Rattle.loft_names.specs.Faults.{Means, NotDeclared, OtherSort, Use, use_faults}
+use Rattle.loft_scopes.specs.Scopes.{AModule, AScheduler, AShared, AStart, AVariable, AnEvent, Declared, Sort, is_seen, meaning, same_name}
+use Rattle.loft_scopes.specs.declared.scope.Scope.{Scope}
+use Rattle.loft_scopes.specs.declared.scope.Scope.TheVariants.{Everywhere, Within}
+use Rattle.loft_scopes.specs.Faults.{Means, NotDeclared, OtherSort, Use, use_faults}
 use Rattle.loft_names.specs.HeadOf.{HasHead, IsHeadIn}
 use Rattle.loft_names.specs.NamesHold.{MeansA}
-use Rattle.loft_names.specs.Numbers.{event_of, holder_of, if_shared, module_of, number_of, number_or_0, scheduler_of, shared_or, Holder, InShared, InSlot}
+use Rattle.loft_numbers.specs.Numbers.{event_of, holder_of, if_shared, module_of, number_of, number_or_0, scheduler_of, shared_or, Holder, InShared, InSlot}
 use Rattle.loft_names.proofs.HeadsLists.{each_contained, found_in}
 use Rattle.loft_listing.specs.Called.{called, called_event, called_made, called_module, called_scheduler, called_shared, called_slot, start_name}
 use Rattle.loft_wrong.specs.Named.{is_right}

@@ -16,9 +16,9 @@ use Rattle.loft_tree.specs.Fits.{Each}
 use Rattle.loft_tree.specs.HeadsFit.{kinds_of as slot_kinds}
 use Rattle.loft_tree.specs.NamedFits.{IsNamed, NamesDiffer, SlotsDiffer, slot_names}
 use Rattle.loft_tree.specs.Source.{Ident}
-use Rattle.loft_names.specs.Scopes.{Sort, AScheduler, AnEvent, AShared, AModule, AStart, AClient, AVariable, Declared, is_seen, meaning, same_name}
-use Rattle.loft_names.specs.declared.scope.Scope.{Scope}
-use Rattle.loft_names.specs.declared.scope.Scope.TheVariants.{Everywhere, Within}
+use Rattle.loft_scopes.specs.Scopes.{Sort, AScheduler, AnEvent, AShared, AModule, AStart, AClient, AVariable, Declared, is_seen, meaning, same_name}
+use Rattle.loft_scopes.specs.declared.scope.Scope.{Scope}
+use Rattle.loft_scopes.specs.declared.scope.Scope.TheVariants.{Everywhere, Within}
 use Rattle.loft_names.specs.HeadOf.{IsHeadOfSort, IsHeadWithin, IsHeadIn, IsSlotHead, HasHead, IsDeclared}
 use Rattle.loft_names.proofs.HeadsLists.{each_contained, each_get, found_in, none_found}
 

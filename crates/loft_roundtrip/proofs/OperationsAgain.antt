@@ -13,9 +13,9 @@ use Rattle.loft_tree.specs.declared.heads.Heads.{Heads}
 use Rattle.loft_tree.specs.NamedFits.{slots_of}
 use Rattle.loft_tree.specs.Resolved as r
 use Rattle.loft_tree.specs.Resolved.{Exp, Target, Action, Pause}
-use Rattle.loft_names.specs.Scopes.{Declared}
-use Rattle.loft_names.specs.declared.scope.Scope.TheVariants.{Within}
-use Rattle.loft_names.specs.Numbers.{module_of, place_of}
+use Rattle.loft_scopes.specs.Scopes.{Declared}
+use Rattle.loft_scopes.specs.declared.scope.Scope.TheVariants.{Within}
+use Rattle.loft_numbers.specs.Numbers.{module_of, place_of}
 use Rattle.loft_code.specs.Names.{action_has, has_choices, has_event, has_events, has_place, made_has, operation_has, pause_has, value_has}
 use Rattle.loft_code.specs.Operations.{Operation, Do, Hold, Call, Branch, Enter, Count, Turn, Jump, End, Line}
 use Rattle.loft_listing.specs.Called.{called_action, called_pause, called_module, called_place}

@@ -7,10 +7,10 @@ use Rattle.loft_tree.specs.declared.heads.Heads.{Heads}
 use Rattle.loft_tree.specs.Source.{Assign, AssignCreate, Await, Broadcast, ControlThread, Cooperate, Create, Creation, Expression, EventName, Generate, Get, Halt, InScheduler, Join, Link, PlaceName, PrintText, PrintValue, Run, Select, Statement, Unlink, Unlinked}
 use Rattle.loft_tree.specs.Fits.{Each}
 use Rattle.loft_show.specs.Places.{bare_creation, bare_place, bare_statement}
-use Rattle.loft_names.specs.Scopes.{Declared}
-use Rattle.loft_names.specs.declared.scope.Scope.TheVariants.{Within}
+use Rattle.loft_scopes.specs.Scopes.{Declared}
+use Rattle.loft_scopes.specs.declared.scope.Scope.TheVariants.{Within}
 use Rattle.loft_names.specs.HeadOf.{HasHead}
-use Rattle.loft_names.specs.Numbers.{module_of, place_of, scheduler_of, terms_of}
+use Rattle.loft_numbers.specs.Numbers.{module_of, place_of, scheduler_of, terms_of}
 use Rattle.loft_tree.specs.Resolved.{exps_of}
 use Rattle.loft_rows.specs.Instructions as instruction
 use Rattle.loft_rows.specs.Instructions.{Instruction, bare_instruction}

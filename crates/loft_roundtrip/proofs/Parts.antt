@@ -9,8 +9,8 @@ use Rattle.loft_tree.specs.declared.heads.Client.{Client}
 use Rattle.loft_tree.specs.declared.heads.HeadItem.{HeadItem}
 use Rattle.loft_tree.specs.declared.heads.HeadItem.TheVariants as item
 use Rattle.loft_tree.specs.declared.heads.Heads.{Heads}
-use Rattle.loft_names.specs.declared.sofar.Sofar.{Sofar}
-use Rattle.loft_names.specs.Scopes.{none_yet}
+use Rattle.loft_scopes.specs.declared.sofar.Sofar.{Sofar}
+use Rattle.loft_scopes.specs.Scopes.{none_yet}
 use Rattle.loft_code.specs.Operations.{Line, Automata}
 use Rattle.loft_listing.specs.Listing.{operations_of}
 

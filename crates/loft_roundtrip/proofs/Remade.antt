@@ -16,12 +16,12 @@ use Rattle.loft_tree.specs.declared.heads.ClientOrder.TheVariants as order
 use Rattle.loft_tree.specs.declared.heads.Client.{Client}
 use Rattle.loft_tree.specs.declared.heads.HeadItem.TheVariants as item
 use Rattle.loft_tree.specs.declared.heads.Heads.{Heads}
-use Rattle.loft_names.specs.Scopes.{Declared, none_yet}
-use Rattle.loft_names.specs.declared.scope.Scope.{Scope}
-use Rattle.loft_names.specs.declared.scope.Scope.TheVariants.{Everywhere, Within}
-use Rattle.loft_names.specs.declared.sofar.Sofar.{Sofar}
-use Rattle.loft_names.specs.Numbers as numbers
-use Rattle.loft_names.specs.Numbers.{number_of, scheduler_of, event_of, module_of, place_of, end_of, name_text, slots_of, arguments_of, client_orders, heads_of}
+use Rattle.loft_scopes.specs.Scopes.{Declared, none_yet}
+use Rattle.loft_scopes.specs.declared.scope.Scope.{Scope}
+use Rattle.loft_scopes.specs.declared.scope.Scope.TheVariants.{Everywhere, Within}
+use Rattle.loft_scopes.specs.declared.sofar.Sofar.{Sofar}
+use Rattle.loft_numbers.specs.Numbers as numbers
+use Rattle.loft_numbers.specs.Numbers.{number_of, scheduler_of, event_of, module_of, place_of, end_of, name_text, slots_of, arguments_of, client_orders, heads_of}
 use Rattle.loft_draft.specs.Drafts.{source_of}
 use Rattle.loft_draft.specs.Lined.{place_at, name_at, variable_at, argument_at, locals_from, orders_from}
 use Rattle.loft_listing.specs.Called.{called, called_scheduler, called_event, called_module, called_thread, called_place, called_end, called_variable, called_argument, called_order}

@@ -3,7 +3,7 @@ use Rattle.std.proofs.Common.{◌≡◌, List, [], ◌∷◌, ◌++◌, map, ref
 use Rattle.std.specs.List.{flat_map}
 use Rattle.loft_tree.specs.declared.heads.Heads.{Heads}
 use Rattle.loft_tree.specs.Fits.{Each}
-use Rattle.loft_names.specs.Scopes.{Declared, declared}
+use Rattle.loft_scopes.specs.Scopes.{Declared, declared}
 use Rattle.loft_names.proofs.HeadsLists.{follows_all}
 use Rattle.loft_code.specs.Fits.{RawFits}
 use Rattle.loft_code.specs.Operations.{Automata}

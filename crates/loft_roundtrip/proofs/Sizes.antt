@@ -17,7 +17,7 @@ use Rattle.loft_tree.specs.declared.kinds.BinaryOperator.TheVariants as o
 use Rattle.loft_tree.specs.Levels.{in_brackets, left_bracketed, nesting, operands, right_bracketed, sign_bracketed}
 use Rattle.loft_tree.specs.Source.{Binary, Expression, Ident, Number, Special, Unary, Variable}
 use Rattle.loft_tree.specs.Fits.{Each, ExpressionFits, IfThere, NameFits, NumberFits, WordsFit}
-use Rattle.loft_parse.specs.Source as parse
+use Rattle.loft_grammar.specs.Limits as grammar
 use Rattle.loft_show.specs.Canon.{Piece, behind, binary_sign, builtin_word, expression_pieces, further_pieces, held, list_pieces, bracketed_pieces, number_text, pieces_text, sign, space, spelled, unary_sign, word}
 
 -- the bytes of pieces
@@ -119,8 +119,8 @@ expression_size (Binary operator left right) m words nests gap short =
     omega (arith, first, second, one, all)
 
 -- at most 64 operands and 32 nestings
-pub value_size : (e : Expression) → ExpressionFits parse.nesting e → (gap : List ℕ) → length gap ≤ 1 → size (expression_pieces e gap) ≤ 17088
-value_size e fits gap short = let most = expression_size e parse.nesting fits.words fits.nests gap short in let few = fits.few in omega (arith, most, few)
+pub value_size : (e : Expression) → ExpressionFits grammar.nesting e → (gap : List ℕ) → length gap ≤ 1 → size (expression_pieces e gap) ≤ 17088
+value_size e fits gap short = let most = expression_size e grammar.nesting fits.words fits.nests gap short in let few = fits.few in omega (arith, most, few)
 
 -- ---- lists
 

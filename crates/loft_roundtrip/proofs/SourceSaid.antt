@@ -9,8 +9,8 @@ use Rattle.loft_tree.specs.declared.heads.Signature.{Signature}
 use Rattle.loft_tree.specs.declared.heads.Heads.{Heads}
 use Rattle.loft_tree.specs.Source.{Declaration, Source}
 use Rattle.loft_tree.specs.Fits.{DeclarationFits, Each, SourceFits, is_event, is_module, is_outside, is_scheduler, is_shared, is_start}
-use Rattle.loft_names.specs.Scopes.{Declared, declared, none_yet}
-use Rattle.loft_names.specs.Faults.{faults, place_of}
+use Rattle.loft_scopes.specs.Scopes.{Declared, declared, none_yet}
+use Rattle.loft_scopes.specs.Faults.{faults, place_of}
 use Rattle.loft_names.proofs.HeadsLists.{follows_all}
 use Rattle.loft_names.proofs.HoldsPrograms.{twice_none, uses_none}
 use Rattle.loft_names.proofs.HoldsValues.{none_both}

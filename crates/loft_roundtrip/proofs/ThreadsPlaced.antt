@@ -16,10 +16,10 @@ use Rattle.loft_tree.specs.Fits.{Each}
 use Rattle.loft_tree.specs.HeadsFit.{HeadsFit, TakesIn}
 use Rattle.loft_tree.specs.NamedFits.{IsScheduler}
 use Rattle.loft_tree.specs.Source.{ModuleHead}
-use Rattle.loft_names.specs.Scopes.{Declared}
-use Rattle.loft_names.specs.declared.scope.Scope.{Scope}
-use Rattle.loft_names.specs.declared.scope.Scope.TheVariants.{Everywhere, Within}
-use Rattle.loft_names.specs.Faults.{is_scheduler}
+use Rattle.loft_scopes.specs.Scopes.{Declared}
+use Rattle.loft_scopes.specs.declared.scope.Scope.{Scope}
+use Rattle.loft_scopes.specs.declared.scope.Scope.TheVariants.{Everywhere, Within}
+use Rattle.loft_scopes.specs.Faults.{is_scheduler}
 use Rattle.loft_code.specs.Fits.{OrderFits}
 use Rattle.loft_draft.specs.Drafts.{source_of}
 use Rattle.loft_draft.specs.Lined.{head_at, name_at, order_at, orders_from, place_at}

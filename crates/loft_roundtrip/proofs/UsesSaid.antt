@@ -19,9 +19,9 @@ use Rattle.loft_tree.specs.declared.heads.Heads.{Heads}
 use Rattle.loft_tree.specs.Fits.{Each, IfThere}
 use Rattle.loft_tree.specs.HeadsFit.{agree, kinds_of, is_of}
 use Rattle.loft_tree.specs.NamedFits.{ArgumentHolds, CallHolds, OrderHolds, TakesArguments, IsPlace, IsScheduler, IsStarted}
-use Rattle.loft_names.specs.Scopes.{Declared, AScheduler, AStart}
-use Rattle.loft_names.specs.declared.scope.Scope.{Scope}
-use Rattle.loft_names.specs.declared.scope.Scope.TheVariants.{Everywhere, Within}
+use Rattle.loft_scopes.specs.Scopes.{Declared, AScheduler, AStart}
+use Rattle.loft_scopes.specs.declared.scope.Scope.{Scope}
+use Rattle.loft_scopes.specs.declared.scope.Scope.TheVariants.{Everywhere, Within}
 use Rattle.loft_names.specs.NamesHold.{ArgumentIs, MakesThread, MeansA, OrderAgrees, OuterAgree, PlaceAgrees, UsesAgree}
 use Rattle.loft_code.specs.Places.{same_place}
 use Rattle.loft_draft.specs.Drafts.{source_of}

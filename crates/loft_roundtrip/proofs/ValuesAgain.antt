@@ -13,11 +13,11 @@ use Rattle.loft_tree.specs.HeadsFit.{kinds_of}
 use Rattle.loft_tree.specs.NamedFits.{slots_of}
 use Rattle.loft_tree.specs.Resolved as r
 use Rattle.loft_tree.specs.Resolved.{Exp, Target, exp_of, exp_if, exps_of, events_of, target_of}
-use Rattle.loft_names.specs.Scopes.{Declared, AScheduler, AnEvent, AShared, AModule, AVariable}
-use Rattle.loft_names.specs.declared.scope.Scope.TheVariants.{Within}
-use Rattle.loft_names.specs.Faults.{is_scheduler, is_event, kind_in, only_if, parameters_of}
-use Rattle.loft_names.specs.Numbers as numbers
-use Rattle.loft_names.specs.Numbers.{event_uses, held_by, term_of, terms_of, value_of, variable_term}
+use Rattle.loft_scopes.specs.Scopes.{Declared, AScheduler, AnEvent, AShared, AModule, AVariable}
+use Rattle.loft_scopes.specs.declared.scope.Scope.TheVariants.{Within}
+use Rattle.loft_scopes.specs.Faults.{is_scheduler, is_event, kind_in, only_if, parameters_of}
+use Rattle.loft_numbers.specs.Numbers as numbers
+use Rattle.loft_numbers.specs.Numbers.{event_uses, held_by, term_of, terms_of, value_of, variable_term}
 use Rattle.loft_names.proofs.HoldsValues.{means_view}
 use Rattle.loft_code.specs.Names.{exp_has, value_has, exps_have, target_has, has_events}
 use Rattle.loft_listing.specs.Called.{called_scheduler, called_event, called_module, called_expression, called_value, called_target}

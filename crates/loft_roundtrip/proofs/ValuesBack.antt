@@ -9,12 +9,12 @@ use Rattle.loft_tree.specs.Source.{Binary, EventName, Expression, Ident, Number,
 use Rattle.loft_tree.specs.Fits.{Each}
 use Rattle.loft_tree.specs.Resolved.{events_of, exp_if, exp_of, exps_of, target_of}
 use Rattle.loft_show.specs.Places.{bare_event, bare_expression, bare_name, bare_value}
-use Rattle.loft_names.specs.Scopes.{Declared, meaning}
-use Rattle.loft_names.specs.declared.scope.Scope.TheVariants.{Within}
-use Rattle.loft_names.specs.Faults.{is_event, is_scheduler, module_use, only_if, used, value_use}
+use Rattle.loft_scopes.specs.Scopes.{Declared, meaning}
+use Rattle.loft_scopes.specs.declared.scope.Scope.TheVariants.{Within}
+use Rattle.loft_scopes.specs.Faults.{is_event, is_scheduler, module_use, only_if, used, value_use}
 use Rattle.loft_names.specs.HeadOf.{HasHead}
-use Rattle.loft_names.specs.Numbers as numbers
-use Rattle.loft_names.specs.Numbers.{event_of, event_uses, held_by, holder_of, module_of, scheduler_of, term_of, terms_of, value_of, variable_term, Holder, InShared, InSlot}
+use Rattle.loft_numbers.specs.Numbers as numbers
+use Rattle.loft_numbers.specs.Numbers.{event_of, event_uses, held_by, holder_of, module_of, scheduler_of, term_of, terms_of, value_of, variable_term, Holder, InShared, InSlot}
 use Rattle.loft_names.proofs.HoldsValues.{event_means, module_means, scheduler_means, variable_means}
 use Rattle.loft_listing.specs.Called.{called_event, called_expression, called_module, called_scheduler, called_target, called_value}
 use Rattle.loft_wrong.specs.Named.{expression_names, names_event, names_module, names_scheduler, names_variable, value_names}

@@ -20,8 +20,8 @@ use Rattle.loft_tree.specs.Source as src
 use Rattle.loft_tree.specs.Source.{Ident, Expression, Number, Variable, Special, Unary, Binary, Creation, Statement, Assign, AssignCreate, Create, PrintText, PrintValue, Cooperate, Generate, Await, Select, Get, Join, ControlThread, Broadcast, Link, Unlink, Run, Halt, If, While, Repeat, Named, PlaceName, InScheduler, Unlinked, ModuleHead, Argument, ANumber, AName, Declaration, Scheduler, Event, Shared, Module, Start, Outside}
 use Rattle.loft_tree.specs.Fits.{Each, IfThere, NameFits, EventNameFits, NumberFits, SignedFits, WordsFit, ExpressionFits, PlaceFits, EndFits, ArgumentFits, CallFits, OrderFits, DeclarationFits}
 use Rattle.loft_tree.specs.Levels.{left_bracketed, right_bracketed, sign_bracketed}
-use Rattle.loft_parse.specs.Source.{nesting}
-use Rattle.loft_parse.specs.Parts.{LineCreationFits, LineFits, NamedFits, HeadFits}
+use Rattle.loft_grammar.specs.Limits.{nesting}
+use Rattle.loft_grammar.specs.PartsFit.{LineCreationFits, LineFits, NamedFits, HeadFits}
 use Rattle.loft_show.specs.Canon.{Piece, spelled, held, tight, spaced, sign, word, name, unary_sign, binary_sign, builtin_word, space, signed_pieces, expression_pieces, ended, line, lines_text, pieces_text, control_word, kind_word, word_line, creation_pieces, comma_part, for_part, behind, further_pieces, list_pieces, event_pieces, name_pieces, named_pieces, place_pieces, argument_pieces, call_pieces, bracketed_pieces}
 use Rattle.loft_show.specs.PartReads.{IsOneLine}
 use Rattle.loft_rows.specs.Cuts.{IsWithout}

@@ -16,10 +16,14 @@ use Rattle.loft_tree.specs.declared.program.OutsideOrder.{OutsideOrder as OrderI
 use Rattle.loft_tree.specs.declared.program.Item.{Item}
 use Rattle.loft_tree.specs.Fits.{NameFits, ExpressionFits, OrderFits, DeclarationFits}
 use Rattle.loft_form.specs.Form.{Limits}
-use Rattle.loft_parse.specs.Language.{Language}
-use Rattle.loft_parse.specs.Grammar.{Form, whole, statement, head, local, order, item}
-use Rattle.loft_parse.specs.Source.{limits, line_limits, nesting}
-use Rattle.loft_parse.specs.Parts.{SpellsPart, NamedFits, HeadFits, LineFits}
+use Rattle.loft_grammar.specs.Language.{Language}
+use Rattle.loft_grammar.specs.Symbols.{Form}
+use Rattle.loft_grammar.specs.Expressions.{whole}
+use Rattle.loft_grammar.specs.Statements.{statement}
+use Rattle.loft_grammar.specs.Items.{head, local, order, item}
+use Rattle.loft_grammar.specs.Limits.{limits, line_limits, nesting}
+use Rattle.loft_grammar.specs.Texts.{SpellsPart}
+use Rattle.loft_grammar.specs.PartsFit.{NamedFits, HeadFits, LineFits}
 use Rattle.loft_show.specs.Canon.{lines_text, pieces_text, expression_pieces, declaration_lines, head_line, local_line, order_line}
 use Rattle.loft_show.specs.Places.{bare_expression, bare_name, bare_statement, bare_declaration, bare_head, bare_named, bare_order}
 use Rattle.loft_show.specs.PartReads.{ReadsAs, IsOneLine}

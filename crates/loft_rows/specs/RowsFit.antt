@@ -3,8 +3,8 @@ use Rattle.std.specs.Prelude.{◌≡◌, ℕ, ◌≤◌, List}
 use Rattle.loft_lex.specs.Bytes.{max_number}
 use Rattle.loft_tree.specs.Source.{Declaration, Scheduler, Event, Shared, Module, Start, Outside, Statement}
 use Rattle.loft_tree.specs.Fits.{NameFits, PlaceFits, ExpressionFits, OrderFits, DeclarationFits}
-use Rattle.loft_parse.specs.Source.{nesting}
-use Rattle.loft_parse.specs.Parts.{NamedFits, HeadFits, LineFits}
+use Rattle.loft_grammar.specs.Limits.{nesting}
+use Rattle.loft_grammar.specs.PartsFit.{NamedFits, HeadFits, LineFits}
 use Rattle.loft_rows.specs.declared.sort.LineSort.{LineSort}
 use Rattle.loft_rows.specs.declared.sort.DeedSort.{DeedSort}
 use Rattle.loft_rows.specs.declared.sort.StatementSort.{StatementSort}

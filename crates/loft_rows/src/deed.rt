@@ -3,7 +3,7 @@
 ghost use Rattle.std.specs.Prelude.{◌≢◌, ◌++◌, IfOk, IfSome, codes};
 ghost use Rattle.loft_tree.specs.View.{expression_of, statement_of};
 ghost use Rattle.loft_tree.specs.Fits.{ExpressionFits};
-ghost use Rattle.loft_parse.specs.Source.{nesting};
+ghost use Rattle.loft_grammar.specs.Limits.{nesting};
 ghost use Rattle.loft_show.specs.Places.{bare_expression, bare_statement};
 ghost use Rattle.loft_rows.specs.Finds.{Finds};
 ghost use Rattle.loft_rows.specs.Instructions.{bare_instruction, instruction_text, statement_text, value_text};

@@ -5,7 +5,7 @@ ghost use Rattle.std.specs.Option.{option_map};
 ghost use Rattle.loft_tree.specs.Source.{Ident, PlaceName, Variable};
 ghost use Rattle.loft_tree.specs.Fits.{ExpressionFits, NameFits, PlaceFits};
 ghost use Rattle.loft_tree.specs.View.{expression_of, place_name_of};
-ghost use Rattle.loft_parse.specs.Source.{nesting};
+ghost use Rattle.loft_grammar.specs.Limits.{nesting};
 ghost use Rattle.loft_show.specs.Canon.{pieces_text, place_pieces};
 ghost use Rattle.loft_show.specs.Places.{bare_expression, bare_name, bare_place};
 ghost use Rattle.loft_rows.specs.Finds.{Finds};

@@ -3,7 +3,7 @@
 ghost use Rattle.std.specs.Prelude.{◌↔◌, [], ◌∷◌, IfOk, IfSome, IsTrue};
 ghost use Rattle.loft_tree.specs.View.{declaration_of, head_of, named_of, order_of};
 ghost use Rattle.loft_tree.specs.Fits.{NameFits, OrderFits};
-ghost use Rattle.loft_parse.specs.Parts.{HeadFits, NamedFits};
+ghost use Rattle.loft_grammar.specs.PartsFit.{HeadFits, NamedFits};
 ghost use Rattle.loft_show.specs.Canon.{declaration_lines, head_line, lines_text, local_line, order_line, outside_line};
 ghost use Rattle.loft_show.specs.Places.{bare_declaration, bare_head, bare_name, bare_named, bare_order};
 ghost use Rattle.loft_rows.specs.Finds.{Finds};

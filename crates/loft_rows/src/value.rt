@@ -3,7 +3,7 @@
 ghost use Rattle.std.specs.Prelude.{◌++◌, [], IfOk, IfSome};
 ghost use Rattle.loft_tree.specs.View.{expression_of};
 ghost use Rattle.loft_tree.specs.Fits.{ExpressionFits};
-ghost use Rattle.loft_parse.specs.Source.{nesting};
+ghost use Rattle.loft_grammar.specs.Limits.{nesting};
 ghost use Rattle.loft_show.specs.Canon.{expression_pieces, pieces_text};
 ghost use Rattle.loft_show.specs.Places.{bare_expression};
 ghost use Rattle.loft_rows.specs.Finds.{Finds};

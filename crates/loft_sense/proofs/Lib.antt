@@ -6,4 +6,5 @@ pub mod EventLemmas
 pub mod CodeLemmas
 pub mod HistoryLemmas
 pub mod LegalLemmas
+pub mod LegalEntries
 pub mod OwnLemmas

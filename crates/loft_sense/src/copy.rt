@@ -1,17 +1,12 @@
 //! Copies of what holds memory. Each answers `NoMemory` where there is none for the copy.
 
-ghost use Rattle.std.specs.Prelude.{◌≡◌, IfOk};
-
 use crate::order::{Order, Sent};
-use crate::thread::{Frame, Frames, Thread, Wait};
-use loft_base::{NoMemory, Sequence};
+use crate::thread::{Frame, Thread, Wait};
+use loft_base::{NoMemory, Sequence, TryClone, try_clone_all};
 use std::alloc::Global;
 
-impl Wait {
-    /// A copy.
-    pub fn try_clone(&self, alloc: Global) -> Result<Wait, NoMemory>
-        ensures { IfOk result (λ wait. wait ≡ self.now) }
-    {
+impl TryClone for Wait {
+    fn try_clone(&self, alloc: Global) -> Result<Wait, NoMemory> {
         Ok(match self {
             Wait::New => Wait::New,
             Wait::Coop(left) => Wait::Coop(*left),
@@ -33,11 +28,8 @@ impl Wait {
     }
 }
 
-impl Frame {
-    /// A copy.
-    pub fn try_clone(&self, alloc: Global) -> Result<Frame, NoMemory>
-        ensures { IfOk result (λ frame. frame ≡ self.now) }
-    {
+impl TryClone for Frame {
+    fn try_clone(&self, alloc: Global) -> Result<Frame, NoMemory> {
         Ok(Frame {
             module: self.module,
             stop: self.stop,
@@ -47,37 +39,20 @@ impl Frame {
     }
 }
 
-/// A copy of frames.
-fn frames_from(alloc: Global, frames: &[Frame]) -> Result<Frames, NoMemory>
-    ensures { IfOk result (λ copy. copy ≡ frames.now) }
-{
-    let mut copy = Vec::with_capacity(alloc, frames.len())?;
-    for frame in frames {
-        copy.push(frame.try_clone(alloc)?)?;
-    }
-    Ok(Sequence::from_vec(copy))
-}
-
-impl Thread {
-    /// A copy.
-    pub fn try_clone(&self, alloc: Global) -> Result<Thread, NoMemory>
-        ensures { IfOk result (λ thread. thread ≡ self.now) }
-    {
+impl TryClone for Thread {
+    fn try_clone(&self, alloc: Global) -> Result<Thread, NoMemory> {
         Ok(Thread {
             id: self.id,
             code: self.code,
             mask: self.mask,
             wait: self.wait.try_clone(alloc)?,
-            frames: frames_from(alloc, self.frames.as_slice())?,
+            frames: try_clone_all(alloc, self.frames.as_slice())?,
         })
     }
 }
 
-impl Order {
-    /// A copy.
-    pub fn try_clone(&self, alloc: Global) -> Result<Order, NoMemory>
-        ensures { IfOk result (λ order. order ≡ self.now) }
-    {
+impl TryClone for Order {
+    fn try_clone(&self, alloc: Global) -> Result<Order, NoMemory> {
         Ok(match self {
             Order::Create {
                 thread,
@@ -104,11 +79,8 @@ impl Order {
     }
 }
 
-impl Sent {
-    /// A copy.
-    pub fn try_clone(&self, alloc: Global) -> Result<Sent, NoMemory>
-        ensures { IfOk result (λ sent. sent ≡ self.now) }
-    {
+impl TryClone for Sent {
+    fn try_clone(&self, alloc: Global) -> Result<Sent, NoMemory> {
         Ok(Sent {
             to: self.to,
             order: self.order.try_clone(alloc)?,

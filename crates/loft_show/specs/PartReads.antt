@@ -1,9 +1,9 @@
 -- A text that reads as a part of a source (docs/LANGUAGE.md, "Parts of a source").
 use Rattle.std.specs.Prelude.{◌≡◌, ℕ, List}
 use Rattle.loft_form.specs.Form.{Limits}
-use Rattle.loft_parse.specs.Language.{Language}
-use Rattle.loft_parse.specs.Grammar.{Form}
-use Rattle.loft_parse.specs.Parts.{SpellsPart}
+use Rattle.loft_grammar.specs.Language.{Language}
+use Rattle.loft_grammar.specs.Symbols.{Form}
+use Rattle.loft_grammar.specs.Texts.{SpellsPart}
 use Rattle.loft_tree.specs.Source.{Statement, Assign, AssignCreate, Create, PrintText, PrintValue, Cooperate, Generate, Await, Select, Get, Join, ControlThread, Broadcast, Link, Unlink, Run, Halt, If, While, Repeat}
 
 -- The text reads as this value, but for the offsets in it, which `bare` makes 0.

@@ -3,9 +3,12 @@
 ghost use Rattle.std.specs.Prelude.{◌≡◌, ℕ, [], ◌∷◌};
 ghost use Rattle.loft_tree.specs.Source.{Source, Expression, Statement, Declaration, ModuleHead, Named, Order};
 ghost use Rattle.loft_tree.specs.Fits.{SourceFits, ExpressionFits, DeclarationFits, OrderFits};
-ghost use Rattle.loft_parse.specs.Source.{Reads, limits, line_limits, nesting};
-ghost use Rattle.loft_parse.specs.Grammar.{whole, statement, item, head, local, order};
-ghost use Rattle.loft_parse.specs.Parts.{HeadFits, NamedFits, LineFits};
+ghost use Rattle.loft_grammar.specs.Texts.{Reads};
+ghost use Rattle.loft_grammar.specs.Limits.{limits, line_limits, nesting};
+ghost use Rattle.loft_grammar.specs.Expressions.{whole};
+ghost use Rattle.loft_grammar.specs.Statements.{statement};
+ghost use Rattle.loft_grammar.specs.Items.{item, head, local, order};
+ghost use Rattle.loft_grammar.specs.PartsFit.{HeadFits, NamedFits, LineFits};
 ghost use Rattle.loft_show.specs.Canon.{Canon, line, lines_text, expression_pieces, statement_lines, declaration_lines, head_line, local_line, order_line};
 ghost use Rattle.loft_show.specs.Places.{without_places, bare_expression, bare_statement, bare_declaration, bare_head, bare_named, bare_order};
 ghost use Rattle.loft_show.specs.PartReads.{ReadsAs, IsOneLine};

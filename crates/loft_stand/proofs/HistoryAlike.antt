@@ -27,7 +27,7 @@ use Rattle.loft_sense.specs.Legal.{AtEach, IsCallersOrder, FitsOne, IsLegal, IsC
 use Rattle.loft_sense.specs.Lines.{text_of}
 use Rattle.loft_sense.specs.Report.{head_lines, block_lines, scheduler_lines, left_line, schedulers_from, left_part, report_lines, report}
 use Rattle.loft_sense.proofs.HistoryLemmas.{choice_kept, left_after-append}
-use Rattle.loft_sense.proofs.LegalLemmas.{split_on, legal_exactly}
+use Rattle.loft_sense.proofs.LegalEntries.{split_on, legal_exactly}
 use Rattle.loft_stand.specs.WellFormed.{IsWellFormed}
 use Rattle.loft_stand.specs.Alike.{RunsAlike}
 use Rattle.loft_stand.proofs.AlikeLemmas.{instant_same, blocks_same}

@@ -26,7 +26,7 @@ use Rattle.loft_sense.specs.History.{choice_of, log, is_open, orders_to, starts_
 use Rattle.loft_sense.specs.Legal.{AtEach, FitsOne, IsLegal, IsCallersEntry, ComesNext}
 use Rattle.loft_sense.proofs.AroundLemmas.{instant_scheduler}
 use Rattle.loft_sense.proofs.HistoryLemmas.{is_same, on_if, on_first, on_pick, log-append, waiting_after-append, jobs_after-append, left_after-append, unsent_after-append}
-use Rattle.loft_sense.proofs.LegalLemmas.{split_on, legal_exactly}
+use Rattle.loft_sense.proofs.LegalEntries.{split_on, legal_exactly}
 use Rattle.loft_stand.specs.Machines.{ThreadFits, MachFits, FitsAt, SentFits}
 use Rattle.loft_stand.specs.WellFormed.{IsWellFormed}
 use Rattle.loft_stand.proofs.ListLemmas.{each_append, each_drop, each_map, all_of, each_of}

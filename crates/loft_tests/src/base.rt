@@ -12,7 +12,7 @@ use std::alloc::{AllocError, Global};
 use std::test::Fail;
 
 #[test]
-fn ids_compare_by_maker_and_number(rt: HostRuntime) {
+fn ids_differ_by_maker_and_number(rt: HostRuntime) {
     let first = ThreadId {
         maker: Maker::Source,
         seq: 1,

@@ -1,6 +1,7 @@
 //! Programs: what a source text says, and the same with numbers in place of names.
 #![tactic(auto)]
 
+mod copy;
 mod expression;
 mod heads;
 mod ident;

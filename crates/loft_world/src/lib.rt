@@ -2,7 +2,6 @@
 #![tactic(auto)]
 
 mod counts;
-mod duplicate;
 mod orders;
 mod results;
 mod start;

@@ -5,7 +5,7 @@ ghost use Rattle.std.specs.Option.{option_to_list, option_map};
 ghost use Rattle.loft_sense.specs.History.{is_addressed, orders_to, job_before, jobs_sent};
 ghost use Rattle.loft_world.specs.State.{scheduler, each_with};
 
-use loft_base::NoMemory;
+use loft_base::{NoMemory, TryClone};
 use loft_sense::{Order, Orders, Sent, SharedThread, To};
 use std::alloc::Global;
 use std::collections::VecDeque;

@@ -8,10 +8,9 @@ ghost use Rattle.loft_sense.specs.Legal.{IsRouted};
 ghost use Rattle.loft_world.specs.State.{no_entries, with_entry, each_with, sends, IsSending, IsScheduler, IsToOne, IsForClients};
 
 use crate::counts::{Counts, add_one, count_in, make_room};
-use crate::duplicate::{Duplicate, duplicates};
 use crate::orders::add_all;
 use crate::start::starts_of_each;
-use loft_base::{EventId, NoMemory, SchedId, Sequence};
+use loft_base::{EventId, NoMemory, SchedId, Sequence, TryClone, try_clone_all};
 use loft_sense::{Entry, Order, Orders, Sent, Sents, SharedThread, Thread};
 use loft_tree::Heads;
 use std::alloc::Global;
@@ -65,7 +64,7 @@ impl World {
         ensures { IfOk result (λ world. world ≡ no_entries heads.now) }
     {
         Ok(World {
-            heads: heads.duplicate(alloc)?,
+            heads: heads.try_clone(alloc)?,
             entries: Vec::new(alloc),
             waits: starts_of_each(alloc, heads)?,
             jobs: VecDeque::new(alloc),
@@ -83,7 +82,7 @@ impl World {
         ensures err { OnErr result (self.new ≡ self.old) }
     {
         let at = s.0 as usize;
-        let batch = duplicates(alloc, self.waits[at].as_slice())?;
+        let batch = try_clone_all(alloc, self.waits[at].as_slice())?;
         self.entries.push(Entry::Take { s, batch })?;
         Ok(mem::replace(&mut self.waits[at], Sequence::new(alloc)))
     }
@@ -110,7 +109,7 @@ impl World {
         ensures ok { OnOk result (self.new ≡ with_entry self.old (entry.Give s sent.now)) }
         ensures err { OnErr result (self.new ≡ self.old) }
     {
-        let copy = duplicates(alloc, sent.as_slice())?;
+        let copy = try_clone_all(alloc, sent.as_slice())?;
         self.append(alloc, Entry::Give { s, sent: copy }, sent.as_slice())
     }
 

@@ -4,8 +4,8 @@ use Rattle.std.specs.Prelude.{nat_lt, if◌then◌else◌, MatchOption}
 use Rattle.std.specs.List.{Contains, flat_map}
 use Rattle.std.specs.Option.{option_map}
 use Rattle.std.proofs.lemmas.Bool.{ltb-true, ltb-false}
-use Rattle.loft_names.specs.declared.error.NameError.{NameError}
-use Rattle.loft_names.specs.Faults.{place_of, IsFirst}
+use Rattle.loft_scopes.specs.declared.error.NameError.{NameError}
+use Rattle.loft_scopes.specs.Faults.{place_of, IsFirst}
 use Rattle.loft_wrong.specs.Least.{lesser, least_of}
 use Rattle.loft_wrong.specs.Wrong.{IsLeast}
 

@@ -3,8 +3,8 @@ use Rattle.std.proofs.Common.{◌≡◌, ◌&&◌, List, [], ◌∷◌, map, Opt
 use Rattle.std.specs.List.{list_all}
 use Rattle.loft_tree.specs.Source.{EventName, Expression, Number, Variable, Special, Unary, Binary, Creation, Statement, Assign, AssignCreate, Create, PrintText, PrintValue, Cooperate, Generate, Await, Select, Get, Join, ControlThread, Broadcast, Link, Unlink, Run, Halt, If, While, Repeat, PlaceName, InScheduler, Unlinked}
 use Rattle.loft_show.specs.Places.{bare_expression, bare_value, bare_event, bare_creation, bare_statement, bare_place}
-use Rattle.loft_names.specs.declared.scope.Scope.{Scope}
-use Rattle.loft_names.specs.Scopes.{Declared}
+use Rattle.loft_scopes.specs.declared.scope.Scope.{Scope}
+use Rattle.loft_scopes.specs.Scopes.{Declared}
 use Rattle.loft_rows.specs.Instructions as instruction
 use Rattle.loft_rows.specs.Instructions.{Instruction, bare_instruction}
 use Rattle.loft_draft.specs.Drafts.{DraftOperation}

@@ -12,10 +12,10 @@ use Rattle.loft_tree.specs.Source.{Ident, PlaceName, InScheduler, Unlinked, Modu
 use Rattle.loft_tree.specs.Fits.{Each, SourceFits}
 use Rattle.loft_tree.specs.HeadsFit.{TakesIn, HeadsFit}
 use Rattle.loft_tree.specs.NamedFits.{TakesArguments, CallHolds, StartHolds, OrderHolds, ClientHolds}
-use Rattle.loft_names.specs.declared.scope.Scope.TheVariants.{Everywhere, Within}
-use Rattle.loft_names.specs.Scopes.{Sort, AScheduler, AnEvent, AShared, AModule, AStart, AClient, AVariable, Declared, declared, meaning}
-use Rattle.loft_names.specs.Faults.{faults, is_scheduler}
-use Rattle.loft_names.specs.Numbers.{number_or_0, number_of, scheduler_of, module_of, place_of, arguments_of, client_orders, signature_of, signatures_in, starts_in, clients_in, heads_of}
+use Rattle.loft_scopes.specs.declared.scope.Scope.TheVariants.{Everywhere, Within}
+use Rattle.loft_scopes.specs.Scopes.{Sort, AScheduler, AnEvent, AShared, AModule, AStart, AClient, AVariable, Declared, declared, meaning}
+use Rattle.loft_scopes.specs.Faults.{faults, is_scheduler}
+use Rattle.loft_numbers.specs.Numbers.{number_or_0, number_of, scheduler_of, module_of, place_of, arguments_of, client_orders, signature_of, signatures_in, starts_in, clients_in, heads_of}
 use Rattle.loft_names.proofs.HeadsMeaning.{none_left, none_right}
 use Rattle.loft_names.proofs.HeadsHolding.{heads_kept}
 use Rattle.loft_code.specs.Fits.{StartFits, OrderFits, ClientFits}

@@ -3,9 +3,9 @@
 use Rattle.std.specs.Prelude.{Bool, true, false, ◌&&◌, List, Option, Some, None}
 use Rattle.std.specs.List.{list_all}
 use Rattle.loft_tree.specs.Source.{Ident, EventName, Expression, Number, Variable, Special, Unary, Binary, Creation, Statement, Assign, AssignCreate, Create, PrintText, PrintValue, Cooperate, Generate, Await, Select, Get, Join, ControlThread, Broadcast, Link, Unlink, Run, Halt, If, While, Repeat, PlaceName, InScheduler, Unlinked as Nowhere}
-use Rattle.loft_names.specs.Scopes.{Sort, Declared, meaning}
-use Rattle.loft_names.specs.declared.scope.Scope.{Scope}
-use Rattle.loft_names.specs.Faults.{Use, NotDeclared, OtherSort, Means, used, only_if, is_scheduler, is_event, value_use, module_use}
+use Rattle.loft_scopes.specs.Scopes.{Sort, Declared, meaning}
+use Rattle.loft_scopes.specs.declared.scope.Scope.{Scope}
+use Rattle.loft_scopes.specs.Faults.{Use, NotDeclared, OtherSort, Means, used, only_if, is_scheduler, is_event, value_use, module_use}
 use Rattle.loft_rows.specs.Instructions as instruction
 use Rattle.loft_rows.specs.Instructions.{Instruction}
 use Rattle.loft_draft.specs.Drafts.{DraftOperation}

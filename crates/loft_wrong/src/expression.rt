@@ -6,7 +6,7 @@ ghost use Rattle.loft_tree.specs.View.{creation_of, expression_of, value_of};
 ghost use Rattle.loft_wrong.specs.Named.{creation_names, expression_names, value_names};
 
 use crate::name::{names_module, names_scheduler, names_variable};
-use loft_names::{Scope, Table};
+use loft_scopes::{Scope, Table};
 use loft_tree::{Creation, Expr};
 
 /// Whether the names of an expression mean variables.

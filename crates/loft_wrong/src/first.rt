@@ -4,13 +4,14 @@ ghost use Rattle.std.specs.Prelude.{◌≡◌, [], map, IfOk, MatchOption};
 ghost use Rattle.std.specs.List.{flat_map};
 ghost use Rattle.loft_tree.specs.Fits.{SourceFits};
 ghost use Rattle.loft_tree.specs.View.{head_of, source_of};
-ghost use Rattle.loft_names.specs.Faults.{faults, place_of};
-ghost use Rattle.loft_names.specs.Scopes.{declared};
+ghost use Rattle.loft_scopes.specs.Faults.{faults, place_of};
+ghost use Rattle.loft_scopes.specs.Scopes.{declared};
 ghost use Rattle.loft_wrong.specs.Wrong.{IsLeast, declaration_misplaced, heads_in};
 
 use crate::misplaced::note_items;
 use loft_base::NoMemory;
-use loft_names::{Table, declared_names};
+use loft_names::declared_names;
+use loft_scopes::Table;
 use loft_tree::{Item, ModuleHead};
 use std::alloc::Global;
 

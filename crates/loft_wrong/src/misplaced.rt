@@ -7,7 +7,7 @@ ghost use Rattle.loft_wrong.specs.Wrong.{begins_in, can_begin, declaration_mispl
 ghost use Rattle.loft_wrong.specs.Least.{least_of};
 
 use crate::least::note;
-use loft_names::{Scope, Sort, Table};
+use loft_scopes::{Scope, Sort, Table};
 use loft_tree::{Ident, Item, ModuleHead, OutsideOrder, PlaceName};
 
 /// The number of the scheduler that a name means.

@@ -5,7 +5,7 @@ ghost use Rattle.std.specs.List.{list_all};
 ghost use Rattle.loft_tree.specs.View.{event_name_of, place_name_of};
 ghost use Rattle.loft_wrong.specs.Named.{names_event, names_module, names_scheduler, names_variable, place_names};
 
-use loft_names::{Scope, Sort, Table};
+use loft_scopes::{Scope, Sort, Table};
 use loft_tree::{EventName, Ident, PlaceName};
 
 /// Whether a name means a scheduler.

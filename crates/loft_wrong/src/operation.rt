@@ -8,8 +8,8 @@ ghost use Rattle.loft_wrong.specs.DraftOf.{draft_of};
 use crate::expression::expression_names;
 use crate::name::place_names;
 use crate::statement::statement_names;
-use loft_names::{Scope, Table};
 use loft_rows::{Deed, OperationRow};
+use loft_scopes::{Scope, Table};
 
 /// Whether the names in what an operation does are declared, each as what it has to be there.
 fn instruction_names(table: &Table, scope: Scope, deed: &Deed) -> bool

@@ -6,7 +6,7 @@ ghost use Rattle.loft_wrong.specs.Named.{statement_names};
 
 use crate::expression::{all_names, creation_names, expression_names, value_names};
 use crate::name::{name_events, names_event, names_module, names_scheduler, names_variable};
-use loft_names::{Scope, Table};
+use loft_scopes::{Scope, Table};
 use loft_tree::Stmt;
 
 /// Whether the names of a statement are declared, each as what it has to be there. No operation is a

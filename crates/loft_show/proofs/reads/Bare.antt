@@ -6,8 +6,10 @@ use Rattle.loft_tree.specs.declared.kinds.BinaryOperator.{BinaryOperator}
 use Rattle.loft_tree.specs.Source.{Expression, Binary, Creation, Statement, Then, PlaceName, InScheduler, Unlinked, Ident}
 use Rattle.loft_tree.specs.View.{body_of}
 use Rattle.loft_tree.specs.Fits.{same_place}
-use Rattle.loft_parse.specs.Language.{Rule, Meaning, Bracketed, Signed, Conditional, Looped}
-use Rattle.loft_parse.specs.Grammar.{chain, comparison_of, list_of, assignment_of, print_of, else_of, end_of}
+use Rattle.loft_grammar.specs.Language.{Rule, Meaning, Bracketed, Signed, Conditional, Looped}
+use Rattle.loft_grammar.specs.Expressions.{chain, comparison_of, list_of}
+use Rattle.loft_grammar.specs.Statements.{assignment_of, print_of, else_of}
+use Rattle.loft_grammar.specs.Items.{end_of}
 use Rattle.loft_show.specs.Places.{bare_name, bare_expression, bare_value, bare_creation, bare_statement, bare_body, bare_place}
 
 abbrev pub bare_symbol : Symbol → Symbol

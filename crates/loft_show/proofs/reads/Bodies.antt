@@ -8,9 +8,9 @@ use Rattle.loft_tree.specs.View.{body_of}
 use Rattle.loft_tree.specs.Fits.{ExpressionFits, ArgumentsFit, StatementFits, StatementsFit, size_of, size}
 use Rattle.loft_form.specs.Form.{maybe, inside}
 use Rattle.loft_form.specs.Reading.{paid}
-use Rattle.loft_parse.specs.Language.{Rule, Meaning, Conditional, Looped}
-use Rattle.loft_parse.specs.Source.{limits}
-use Rattle.loft_parse.specs.Grammar.{rules, else_of, conditional, while_loop, repeat, moving_statement, statement, body, condition, otherwise, branches, turns}
+use Rattle.loft_grammar.specs.Language.{Rule, Meaning, Conditional, Looped}
+use Rattle.loft_grammar.specs.Limits.{limits}
+use Rattle.loft_grammar.specs.Statements.{rules, else_of, conditional, while_loop, repeat, moving_statement, statement, body, condition, otherwise, branches, turns}
 use Rattle.loft_show.specs.Canon.{Piece, Line, tight, spaced, word, sign, expression_pieces, test_line, end_line, statement_lines, body_lines, else_lines}
 use Rattle.loft_show.specs.Places.{bare_expression, bare_body}
 use Rattle.loft_show.proofs.reads.Spelling as spelling

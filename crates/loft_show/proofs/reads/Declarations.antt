@@ -10,12 +10,13 @@ use Rattle.loft_tree.specs.Source.{Ident, Statements, Named, PlaceName, InSchedu
 use Rattle.loft_tree.specs.Fits.{Each, SignedFits, CallFits, OrderFits, EndFits, ModuleFits, DeclarationFits, SourceFits, size, is_scheduler, is_event, is_shared, is_module, is_start, is_outside}
 use Rattle.loft_form.specs.Form.{many, maybe}
 use Rattle.loft_form.specs.Reading.{paid}
-use Rattle.loft_parse.specs.declared.counts.Counted.{Counted}
-use Rattle.loft_parse.specs.declared.counts.Counted.TheVariants as count
-use Rattle.loft_parse.specs.declared.counts.Counts.{Counts}
-use Rattle.loft_parse.specs.Counts.{most, number, put, none as nothing}
-use Rattle.loft_parse.specs.Grammar.{end_of, head, module_item, scheduler_item, event_item, shared_item, start_item, outside_item, alias, item, program}
-use Rattle.loft_parse.specs.Source.{limits, SpellsProgram}
+use Rattle.loft_grammar.specs.declared.counts.Counted.{Counted}
+use Rattle.loft_grammar.specs.declared.counts.Counted.TheVariants as count
+use Rattle.loft_grammar.specs.declared.counts.Counts.{Counts}
+use Rattle.loft_grammar.specs.Counts.{most, number, put, none as nothing}
+use Rattle.loft_grammar.specs.Items.{end_of, head, module_item, scheduler_item, event_item, shared_item, start_item, outside_item, alias, item, program}
+use Rattle.loft_grammar.specs.Limits.{limits}
+use Rattle.loft_grammar.specs.Texts.{SpellsProgram}
 use Rattle.loft_show.specs.Canon.{Piece, line, word_line, space, tight, spaced, word, sign, name, behind, signed_pieces, name_pieces, call_pieces, head_line, local_lines, body_lines, end_line, order_lines, declaration_lines, source_lines}
 use Rattle.loft_show.specs.Places.{bare_name, bare_named, bare_place, bare_body, bare_head, bare_declaration, without_places}
 use Rattle.loft_show.proofs.reads.Spelling as spelling

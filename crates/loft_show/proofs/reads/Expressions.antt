@@ -17,11 +17,13 @@ use Rattle.loft_tree.specs.Levels.{operator_level, level, left_bracketed, right_
 use Rattle.loft_form.specs.Form.{Limits, ◌▹◌, many, made, State}
 use Rattle.loft_form.specs.Spells.{Adds, SpellsEach, Spelling, Spells, SpellsRule, owing}
 use Rattle.loft_form.specs.Reading.{paid}
-use Rattle.loft_parse.specs.declared.counts.Counted.TheVariants as count
-use Rattle.loft_parse.specs.declared.counts.Counts.{Counts}
-use Rattle.loft_parse.specs.Counts.{put}
-use Rattle.loft_parse.specs.Language.{Language, Bracketed, Signed}
-use Rattle.loft_parse.specs.Grammar.{Form, rules, chain, operator, builtin, bracketed, atom, negated, inverted, unary, factor, term, summand, sum, equality, ordering, compared, comparison, conjunct, conjunction, disjunct, expression}
+use Rattle.loft_grammar.specs.declared.counts.Counted.TheVariants as count
+use Rattle.loft_grammar.specs.declared.counts.Counts.{Counts}
+use Rattle.loft_grammar.specs.Counts.{put}
+use Rattle.loft_grammar.specs.Language.{Language, Bracketed, Signed}
+use Rattle.loft_grammar.specs.Symbols.{Form}
+use Rattle.loft_grammar.specs.Expressions.{chain, operator, builtin, bracketed, atom, negated, inverted, unary, factor, term, summand, sum, equality, ordering, compared, comparison, conjunct, conjunction, disjunct, expression}
+use Rattle.loft_grammar.specs.Statements.{rules}
 use Rattle.loft_show.specs.Canon.{Piece, piece, space, tight, sign, builtin_word, unary_sign, binary_sign, held, expression_pieces}
 use Rattle.loft_show.specs.Places.{bare_expression}
 use Rattle.loft_show.proofs.reads.Spelling.{bare, syms, AtMost, fewer, one_below, Is, ◌then◌, left, right, some, none, nothing_more, counting_it, built, within, spelled_as, symbol, adds_more, sign_is, opening_sign_is}

@@ -18,14 +18,16 @@ use Rattle.loft_tree.specs.Fits.{Each, IfThere, SignedFits, ArgumentFits, CallFi
 use Rattle.loft_form.specs.Form.{◌▹◌, maybe, many, counted, State}
 use Rattle.loft_form.specs.Spells.{Adds, owing}
 use Rattle.loft_form.specs.Reading.{paid}
-use Rattle.loft_parse.specs.declared.counts.Counted.{Counted}
-use Rattle.loft_parse.specs.declared.counts.Counted.TheVariants as count
-use Rattle.loft_parse.specs.declared.counts.Counts.{Counts}
-use Rattle.loft_parse.specs.Counts.{most, number, put}
-use Rattle.loft_parse.specs.Language.{Language}
-use Rattle.loft_parse.specs.Source.{limits}
-use Rattle.loft_parse.specs.Grammar
-use Rattle.loft_parse.specs.Grammar.{Form, negative, signed, kind, parameter, parameters, local, place, ending, outer_argument, outer_arguments, value_behind_comma, order, create_order, control_order, broadcast_order}
+use Rattle.loft_grammar.specs.declared.counts.Counted.{Counted}
+use Rattle.loft_grammar.specs.declared.counts.Counted.TheVariants as count
+use Rattle.loft_grammar.specs.declared.counts.Counts.{Counts}
+use Rattle.loft_grammar.specs.Counts.{most, number, put}
+use Rattle.loft_grammar.specs.Language.{Language}
+use Rattle.loft_grammar.specs.Limits.{limits}
+use Rattle.loft_grammar.specs.Statements
+use Rattle.loft_grammar.specs.Symbols
+use Rattle.loft_grammar.specs.Symbols.{Form}
+use Rattle.loft_grammar.specs.Items.{negative, signed, kind, parameter, parameters, local, place, ending, outer_argument, outer_arguments, value_behind_comma, order, create_order, control_order, broadcast_order}
 use Rattle.loft_show.specs.Canon.{Piece, space, tight, spaced, word, sign, kind_word, signed_pieces, named_pieces, place_pieces, bracketed_pieces, behind, argument_pieces, call_pieces, control_word, local_lines, order_line, order_lines}
 use Rattle.loft_show.specs.Places.{bare_name, bare_named, bare_place, bare_argument, bare_order}
 use Rattle.loft_show.proofs.reads.Spelling as spelling
@@ -56,7 +58,7 @@ signed_is {n} value gap fits = record { at = λ c. (c, after_none c, signed_paid
 -- ---- parameters and local variables
 
 -- a word that counts as one more, and a kind that does
-counted_word_is : {n : ℕ} (c : Counts) (what : Counted) (v : Word) → number what c < most what → Is limits n (counted what (Grammar.word v)) (bare (Keyword v) ∷ []) (paid c) tt (paid (put what (number what c + 1) c))
+counted_word_is : {n : ℕ} (c : Counts) (what : Counted) (v : Word) → number what c < most what → Is limits n (counted what (Symbols.word v)) (bare (Keyword v) ∷ []) (paid c) tt (paid (put what (number what c + 1) c))
 counted_word_is c what v few = spelling.counting_it (spelling.word_paid (owing what (paid c)) (put what (number what c + 1) c) (few, refl) v)
 
 counted_kind_is : {n : ℕ} (c : Counts) (what : Counted) (x : Kind) → number what c < most what → Is limits n (kind (Some what)) (bare (Keyword (kind_word x)) ∷ []) (paid c) x (paid (put what (number what c + 1) c))
@@ -129,14 +131,14 @@ outer_arguments_count n (x ∷ xs) all = (outer_argument_counts n x all.0, outer
 
 -- "S.m(A, B)", and what stands behind it
 pub call_is : {n : ℕ} {B : Type 0} {f : Form B} {ps : List Piece} {y : B} (scheduler called : Ident) (xs : List Argument) → CallFits scheduler called xs → Part limits n f ps y
-    → Part limits n (Grammar.name ▹ Grammar.sign s.Dot ▹ Grammar.name ▹ outer_arguments ▹ f) (call_pieces scheduler called xs ++ ps) (bare_name scheduler, (tt, (bare_name called, (map bare_argument xs, y))))
+    → Part limits n (Symbols.name ▹ Symbols.sign s.Dot ▹ Symbols.name ▹ outer_arguments ▹ f) (call_pieces scheduler called xs ++ ps) (bare_name scheduler, (tt, (bare_name called, (map bare_argument xs, y))))
 unfolding outer_arguments
 call_is {n} scheduler called xs fits p =
     name_is scheduler then sign_is s.Dot then name_is called then in_brackets_are limits count.Argument n outer_argument argument_pieces bare_argument inner_argument xs (outer_arguments_count n xs fits.each) fits.few then p
 
 -- ---- orders
 
-control_word_is : (n : ℕ) (x : Control) (what : Counted) (c : Counts) → number what c < most what → Is limits n (Grammar.control_word what) (bare (Keyword (control_word x)) ∷ []) (paid c) (0, x) (paid (put what (number what c + 1) c))
+control_word_is : (n : ℕ) (x : Control) (what : Counted) (c : Counts) → number what c < most what → Is limits n (Statements.control_word what) (bare (Keyword (control_word x)) ∷ []) (paid c) (0, x) (paid (put what (number what c + 1) c))
 control_word_is n c.Stop what c few = spelling.left (spelling.built (spelling.first_word_is c what w.Stop few))
 control_word_is n c.Suspend what c few = spelling.right (spelling.left (spelling.built (spelling.first_word_is c what w.Suspend few)))
 control_word_is n c.Resume what c few = spelling.right (spelling.right (spelling.built (spelling.first_word_is c what w.Resume few)))

@@ -4,8 +4,9 @@ use Rattle.loft_lex.specs.Symbol.{Symbol, symbols}
 use Rattle.loft_tree.specs.Source.{Source}
 use Rattle.loft_tree.specs.Fits.{SourceFits}
 use Rattle.loft_form.specs.Spells.{SpellsRule}
-use Rattle.loft_parse.specs.Grammar.{rules}
-use Rattle.loft_parse.specs.Source.{limits, nesting, beginning, SpellsProgram, Reads}
+use Rattle.loft_grammar.specs.Statements.{rules}
+use Rattle.loft_grammar.specs.Limits.{limits, nesting, beginning}
+use Rattle.loft_grammar.specs.Texts.{SpellsProgram, Reads}
 use Rattle.loft_show.specs.Canon.{Piece, source_lines, Canon}
 use Rattle.loft_show.specs.Places.{without_places}
 use Rattle.loft_show.proofs.reads.Keeps.{kept_rule}

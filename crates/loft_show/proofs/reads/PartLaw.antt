@@ -8,11 +8,14 @@ use Rattle.loft_tree.specs.Fits.{Each, ExpressionFits, OrderFits, DeclarationFit
 use Rattle.loft_form.specs.Form.{Limits, State}
 use Rattle.loft_form.specs.Spells.{Spelling, Spells, SpellsRule}
 use Rattle.loft_form.specs.Reading.{paid}
-use Rattle.loft_parse.specs.Counts.{none, number, most}
-use Rattle.loft_parse.specs.Language.{Language, Rule, Meaning}
-use Rattle.loft_parse.specs.Grammar.{Form, rules, whole, statement, head, local, order, item}
-use Rattle.loft_parse.specs.Source.{limits, line_limits, nesting, beginning}
-use Rattle.loft_parse.specs.Parts.{NamedFits, HeadFits, LineFits}
+use Rattle.loft_grammar.specs.Counts.{none, number, most}
+use Rattle.loft_grammar.specs.Language.{Language, Rule, Meaning}
+use Rattle.loft_grammar.specs.Symbols.{Form}
+use Rattle.loft_grammar.specs.Expressions.{whole}
+use Rattle.loft_grammar.specs.Statements.{rules, statement}
+use Rattle.loft_grammar.specs.Items.{head, local, order, item}
+use Rattle.loft_grammar.specs.Limits.{limits, line_limits, nesting, beginning}
+use Rattle.loft_grammar.specs.PartsFit.{NamedFits, HeadFits, LineFits}
 use Rattle.loft_show.specs.Canon.{Piece, Line, line, lines_text, expression_pieces, statement_lines, head_line, local_line, order_line, declaration_lines, control_word, space}
 use Rattle.loft_show.specs.Places.{bare_expression, bare_statement, bare_named, bare_head, bare_order, bare_declaration}
 use Rattle.loft_show.specs.PartReads.{ReadsAs, IsOneLine}

@@ -11,12 +11,14 @@ use Rattle.loft_tree.specs.Fits.{Each, ExpressionFits}
 use Rattle.loft_form.specs.Form.{Limits, ◌▹◌, ◌∣◌, maybe, many, made, State}
 use Rattle.loft_form.specs.Spells.{Below, Adds, owing, from_zero}
 use Rattle.loft_form.specs.Reading.{paid}
-use Rattle.loft_parse.specs.declared.counts.Counted.{Counted}
-use Rattle.loft_parse.specs.declared.counts.Counted.TheVariants as count
-use Rattle.loft_parse.specs.declared.counts.Counts.{Counts}
-use Rattle.loft_parse.specs.Counts.{number, put}
-use Rattle.loft_parse.specs.Language.{Language}
-use Rattle.loft_parse.specs.Grammar.{Form, word, sign, word_place, sign_place, name, event_name, text, whole, argument, arguments, further, listed, in_brackets}
+use Rattle.loft_grammar.specs.declared.counts.Counted.{Counted}
+use Rattle.loft_grammar.specs.declared.counts.Counted.TheVariants as count
+use Rattle.loft_grammar.specs.declared.counts.Counts.{Counts}
+use Rattle.loft_grammar.specs.Counts.{number, put}
+use Rattle.loft_grammar.specs.Language.{Language}
+use Rattle.loft_grammar.specs.Symbols.{Form, word, sign, word_place, sign_place, name, text}
+use Rattle.loft_grammar.specs.Expressions.{whole, argument, arguments, further, listed, in_brackets}
+use Rattle.loft_grammar.specs.Statements.{event_name}
 use Rattle.loft_show.specs.Canon.{Piece, piece, space, tight, sign as sign_piece, expression_pieces, further_pieces, list_pieces, bracketed_pieces}
 use Rattle.loft_show.specs.Places.{bare_name, bare_event, bare_expression}
 use Rattle.loft_show.proofs.reads.Spelling as spelling

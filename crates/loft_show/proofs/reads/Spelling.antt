@@ -7,14 +7,15 @@ use Rattle.loft_lex.specs.Symbol.{Symbol, What, Named as NamedWhat, Keyword, Num
 use Rattle.loft_form.specs.Form.{Limits, leaf, ◌▹◌, ◌∣◌, maybe, many, inside, counted, fresh, made, State}
 use Rattle.loft_form.specs.Spells.{Below, Adds, owing, from_zero, Spells, SpellsRule}
 use Rattle.loft_form.specs.Reading.{paid}
-use Rattle.loft_parse.specs.declared.counts.Counted.{Counted}
-use Rattle.loft_parse.specs.declared.counts.Counted.TheVariants.{Scheduler, Event, Shared, Module, Start, Client, Order, Parameter, Local, Statement, Operand, Argument, Choice}
-use Rattle.loft_parse.specs.declared.counts.Counts.{Counts}
-use Rattle.loft_parse.specs.Counts.{most, number, put}
-use Rattle.loft_parse.specs.Language.{Language, Kind, kind_of, word_number, sign_number, Rule, Meaning}
-use Rattle.loft_parse.specs.Grammar.{Form, rules, word, sign, word_place, sign_place, opening_word, opening_sign, name, event_name, text, numeral, first_word}
+use Rattle.loft_grammar.specs.declared.counts.Counted.{Counted}
+use Rattle.loft_grammar.specs.declared.counts.Counted.TheVariants.{Scheduler, Event, Shared, Module, Start, Client, Order, Parameter, Local, Statement, Operand, Argument, Choice}
+use Rattle.loft_grammar.specs.declared.counts.Counts.{Counts}
+use Rattle.loft_grammar.specs.Counts.{most, number, put}
+use Rattle.loft_grammar.specs.Language.{Language, Kind, kind_of, word_number, sign_number, Rule, Meaning}
+use Rattle.loft_grammar.specs.Symbols.{Form, word, sign, word_place, sign_place, opening_word, opening_sign, name, text, numeral, first_word}
+use Rattle.loft_grammar.specs.Statements.{rules, event_name}
 use Rattle.loft_tree.specs.Source.{Ident, EventName}
-use Rattle.loft_parse.specs.Source.{limits, line_limits}
+use Rattle.loft_grammar.specs.Limits.{limits, line_limits}
 use Rattle.loft_show.specs.Canon.{Piece, Line}
 use Rattle.loft_show.specs.Places.{bare_name, bare_event}
 

@@ -11,12 +11,15 @@ use Rattle.loft_tree.specs.Source.{Ident, EventName, Expression, Creation, State
 use Rattle.loft_tree.specs.Fits.{Each, IfThere, ExpressionFits, size_of}
 use Rattle.loft_form.specs.Form.{Limits, ◌▹◌, ◌∣◌, maybe, many, counted, fresh, made}
 use Rattle.loft_form.specs.Reading.{paid}
-use Rattle.loft_parse.specs.Language.{Language}
-use Rattle.loft_parse.specs.declared.counts.Counted.TheVariants as count
-use Rattle.loft_parse.specs.declared.counts.Counts.{Counts}
-use Rattle.loft_parse.specs.Counts.{put}
-use Rattle.loft_parse.specs.Grammar
-use Rattle.loft_parse.specs.Grammar.{Form, further, whole, begins_with, opens_with, creation, behind_comma, time_limit, assigned, assignment, printed, print, create, cooperate, generate, await_event, choice, choices, select, get, join, control, broadcast, link, unlink, run, halt, value_statement, event_statement, thread_statement, moving_statement, statement}
+use Rattle.loft_grammar.specs.Language.{Language}
+use Rattle.loft_grammar.specs.declared.counts.Counted.TheVariants as count
+use Rattle.loft_grammar.specs.declared.counts.Counts.{Counts}
+use Rattle.loft_grammar.specs.Counts.{put}
+use Rattle.loft_grammar.specs.Statements
+use Rattle.loft_grammar.specs.Symbols
+use Rattle.loft_grammar.specs.Symbols.{Form}
+use Rattle.loft_grammar.specs.Expressions.{further, whole}
+use Rattle.loft_grammar.specs.Statements.{begins_with, opens_with, creation, behind_comma, time_limit, assigned, assignment, printed, print, create, cooperate, generate, await_event, choice, choices, select, get, join, control, broadcast, link, unlink, run, halt, value_statement, event_statement, thread_statement, moving_statement, statement}
 use Rattle.loft_show.specs.Canon.{Piece, piece, space, tight, spaced, word, sign, name, expression_pieces, event_pieces, further_pieces, creation_pieces, control_word, comma_part, for_part, behind, statement_lines}
 use Rattle.loft_show.specs.Places.{bare_name, bare_event, bare_value, bare_creation, bare_statement}
 use Rattle.loft_show.proofs.reads.Spelling as spelling
@@ -39,7 +42,7 @@ creation_is : {lim : Limits Language} → Loose lim → {n : ℕ} (x : Creation)
 unfolding creation
 creation_is loose x fits = built (name_is x.scheduler then sign_is s.Dot then name_is x.called then arguments_are loose x.arguments fits)
 
-pub semicolon : {lim : Limits Language} {n : ℕ} → Part lim n (Grammar.sign s.Semicolon) (tight (sign s.Semicolon) ∷ []) tt
+pub semicolon : {lim : Limits Language} {n : ℕ} → Part lim n (Symbols.sign s.Semicolon) (tight (sign s.Semicolon) ∷ []) tt
 semicolon = sign_is s.Semicolon
 
 -- ---- what counts k statements
@@ -83,7 +86,7 @@ pub opened : {lim : Limits Language} → Loose lim → {n : ℕ} {gap : List ℕ
 opened loose v deep = record { at = λ c few. (put count.Statement (c.statements + 1) c, omega arith, spelling.opening_word_is c count.Statement v deep (below_most loose count.Statement c.statements (omega arith))) }
 
 -- the name that begins an assignment
-target_is : {lim : Limits Language} → Loose lim → {n : ℕ} {gap : List ℕ} (x : Ident) → Several lim 1 n (counted count.Statement Grammar.name) (piece gap (NamedWhat x.text) ∷ []) (bare_name x)
+target_is : {lim : Limits Language} → Loose lim → {n : ℕ} {gap : List ℕ} (x : Ident) → Several lim 1 n (counted count.Statement Symbols.name) (piece gap (NamedWhat x.text) ∷ []) (bare_name x)
 target_is loose x = record { at = λ c few. (put count.Statement (c.statements + 1) c, omega arith, spelling.counted_name_is c count.Statement x (below_most loose count.Statement c.statements (omega arith))) }
 
 -- ---- statements without bodies
@@ -178,7 +181,7 @@ unfolding statement thread_statement join
 join_is loose n k at e limit fits limited =
     on_line (second_of (second_of (first_of (second_of (first_of (making (begun loose w.Join before grouped (expression_pieces e space) (for_part limit) (tight (sign s.Semicolon) ∷ []) (whole_is loose e space fits then for_is loose limit limited then semicolon))))))))
 
-controlled : {lim : Limits Language} → Loose lim → {n : ℕ} (x : Control) → Several lim 1 n (Grammar.control_word count.Statement) (tight (word (control_word x)) ∷ []) (0, x)
+controlled : {lim : Limits Language} → Loose lim → {n : ℕ} (x : Control) → Several lim 1 n (Statements.control_word count.Statement) (tight (word (control_word x)) ∷ []) (0, x)
 controlled loose c.Stop = first_of (making (begun loose w.Stop))
 controlled loose c.Suspend = second_of (first_of (making (begun loose w.Suspend)))
 controlled loose c.Resume = second_of (second_of (making (begun loose w.Resume)))

@@ -13,10 +13,13 @@ use Rattle.loft_tree.specs.declared.kinds.BinaryOperator.TheVariants as o
 use Rattle.loft_tree.specs.Source.{Expression, If, While, Repeat, BroadcastThere, Module}
 use Rattle.loft_form.specs.Form.{leaf, ◌▹◌, ◌∣◌, maybe, many, inside, counted, fresh, made, Limits}
 use Rattle.loft_form.specs.Spells.{Spelling}
-use Rattle.loft_parse.specs.declared.counts.Counted.{Counted}
-use Rattle.loft_parse.specs.declared.counts.Counted.TheVariants as count
-use Rattle.loft_parse.specs.Language.{Language, Kind, Rule, Meaning, Bracketed, Signed, Conditional, Looped}
-use Rattle.loft_parse.specs.Grammar.{Form, rules, word, sign, word_place, sign_place, opening_word, opening_sign, name, event_name, text, numeral, first_word, chain, operator, special, further, in_brackets, builtin, bracketed, atom, negated, inverted, unary, factor, term, summand, sum, equality, ordering, compared, comparison, conjunct, conjunction, disjunct, expression, whole, argument, arguments, creation, behind_comma, time_limit, assigned, assignment, printed, print, create, cooperate, generate, await_event, choice, choices, select, get, join, control_word, control, broadcast, link, unlink, run, halt, conditional, while_loop, repeat, value_statement, event_statement, thread_statement, moving_statement, statement, body, condition, otherwise, branches, turns, negative, signed, kind, parameter, parameters, local, place, ending, head, module_item, scheduler_item, event_item, shared_item, outer_argument, outer_arguments, alias, start_item, create_order, control_order, value_behind_comma, broadcast_order, order, outside_item, item, program}
+use Rattle.loft_grammar.specs.declared.counts.Counted.{Counted}
+use Rattle.loft_grammar.specs.declared.counts.Counted.TheVariants as count
+use Rattle.loft_grammar.specs.Language.{Language, Kind, Rule, Meaning, Bracketed, Signed, Conditional, Looped}
+use Rattle.loft_grammar.specs.Symbols.{Form, word, sign, word_place, sign_place, opening_word, opening_sign, name, text, numeral, first_word}
+use Rattle.loft_grammar.specs.Expressions.{chain, operator, special, further, in_brackets, builtin, bracketed, atom, negated, inverted, unary, factor, term, summand, sum, equality, ordering, compared, comparison, conjunct, conjunction, disjunct, expression, whole, argument, arguments}
+use Rattle.loft_grammar.specs.Statements.{rules, event_name, creation, behind_comma, time_limit, assigned, assignment, printed, print, create, cooperate, generate, await_event, choice, choices, select, get, join, control_word, control, broadcast, link, unlink, run, halt, conditional, while_loop, repeat, value_statement, event_statement, thread_statement, moving_statement, statement, body, condition, otherwise, branches, turns}
+use Rattle.loft_grammar.specs.Items.{negative, signed, kind, parameter, parameters, local, place, ending, head, module_item, scheduler_item, event_item, shared_item, outer_argument, outer_arguments, alias, start_item, create_order, control_order, value_behind_comma, broadcast_order, order, outside_item, item, program}
 use Rattle.loft_show.specs.Places.{bare_name, bare_event, bare_expression, bare_creation, bare_statement, bare_named, bare_place, bare_head, bare_argument, bare_order, bare_declaration, without_places}
 use Rattle.loft_show.proofs.reads.Bare.{bare_symbol, bare_rule, bare_operation, bare_chain, bare_comparison, bare_list, bare_body_of, bare_else_of, bare_assignment, bare_print, bare_end, option_map-id}
 use Rattle.loft_show.proofs.reads.Keeps.{Kept, Keeps, keeps_leaf, keeps_then, keeps_or, keeps_maybe, keeps_many, keeps_counted, keeps_fresh, keeps_inside, keeps_made}

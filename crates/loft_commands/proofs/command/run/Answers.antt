@@ -4,7 +4,7 @@ use Rattle.loft_tree.specs.NamedTree.{NamedProgram}
 use Rattle.loft_tree.specs.ProgramView.{program_of}
 use Rattle.loft_tree.specs.Resolved.{resolved_of}
 use Rattle.loft_tree.specs.View.{source_of}
-use Rattle.loft_names.specs.Numbers.{numbered}
+use Rattle.loft_numbers.specs.Numbers.{numbered}
 use Rattle.loft_sense.specs.Machine.{Tree}
 use Rattle.loft_refusal.specs.declared.refusal.Stopped.{Stopped}
 use Rattle.loft_commands.specs.RunStops.{stop_of_run}

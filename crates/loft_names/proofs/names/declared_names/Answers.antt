@@ -1,7 +1,7 @@
 use Rattle.loft_tree.specs.View.{source_of}
-use Rattle.loft_names.specs.Faults.{faults}
+use Rattle.loft_scopes.specs.Faults.{faults}
 use Rattle.loft_names.proofs.FirstOf.{first_or_none, found}
-use Rattle.loft_names.proofs.Numbered.{few_items}
+use Rattle.loft_scopes.proofs.Numbered.{few_items}
 use Rattle.loft_names.proofs.names.declared_names.Goals as goal
 
 pub items-requires : goal.items-requires

@@ -2,8 +2,8 @@ use Rattle.std.proofs.Common.{◌≡◌, [], Option, ◌∙◌, inr, sym, subst,
 use Rattle.std.specs.Prelude.{MatchOption}
 use Rattle.std.specs.List.{list_any}
 use Rattle.loft_tree.specs.View.{source_of}
-use Rattle.loft_names.specs.declared.error.NameError.{NameError}
-use Rattle.loft_names.specs.Faults.{declares_scheduler, faults, has_scheduler, IsFirst}
+use Rattle.loft_scopes.specs.declared.error.NameError.{NameError}
+use Rattle.loft_scopes.specs.Faults.{declares_scheduler, faults, has_scheduler, IsFirst}
 use Rattle.loft_names.proofs.program.checked.Goals as goal
 
 pub returns-in-Some-clause-fault : goal.returns-in-Some-clause-fault

@@ -1,4 +1,4 @@
-use Rattle.loft_names.proofs.Numbered.{few_items}
+use Rattle.loft_scopes.proofs.Numbered.{few_items}
 use Rattle.loft_names.proofs.program.named.Goals as goal
 
 pub links-requires-clause-few : goal.links-requires-clause-few

@@ -2,16 +2,17 @@ use Rattle.std.proofs.Common.{subst}
 use Rattle.loft_lex.specs.TextSymbols.{symbols_seen, SymbolsOf}
 use Rattle.loft_tree.specs.View.{expression_of}
 use Rattle.loft_form.specs.Reading.{Gives, read}
-use Rattle.loft_parse.specs.Grammar.{rules, whole}
-use Rattle.loft_parse.specs.Source.{limits, nesting, beginning}
-use Rattle.loft_parse.specs.View.{viewed}
+use Rattle.loft_grammar.specs.Expressions.{whole}
+use Rattle.loft_grammar.specs.Statements.{rules}
+use Rattle.loft_grammar.specs.Limits.{limits, nesting, beginning}
+use Rattle.loft_grammar.specs.View.{viewed}
 use Rattle.loft_parse.specs.Parts.{IsCut}
 use Rattle.loft_tree.specs.Fits.{ExpressionFits}
-use Rattle.loft_parse.proofs.Checked.{whole_checked}
+use Rattle.loft_parts.proofs.Checked.{whole_checked}
 use Rattle.loft_parse.proofs.PartLaws.{started, part_read, part_only, part_fits}
-use Rattle.loft_parse.proofs.fits.Expressions.{whole_fits}
-use Rattle.loft_parse.proofs.fits.Parts.{limited}
-use Rattle.loft_parse.specs.declared.counts.Counted.TheVariants.{Operand}
+use Rattle.loft_parts.proofs.fits.Expressions.{whole_fits}
+use Rattle.loft_parts.proofs.fits.Parts.{limited}
+use Rattle.loft_grammar.specs.declared.counts.Counted.TheVariants.{Operand}
 use Rattle.loft_parse.proofs.part.read_expression.Goals as goal
 
 pub returns-in-Some-clause-read : goal.returns-in-Some-clause-read

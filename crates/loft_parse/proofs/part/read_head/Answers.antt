@@ -2,14 +2,16 @@ use Rattle.std.proofs.Common.{sym, subst}
 use Rattle.loft_lex.specs.TextSymbols.{symbols_seen, SymbolsOf}
 use Rattle.loft_tree.specs.View.{head_of}
 use Rattle.loft_form.specs.Reading.{Gives, read}
-use Rattle.loft_parse.specs.Grammar.{rules, head}
-use Rattle.loft_parse.specs.Source.{limits, nesting, beginning}
-use Rattle.loft_parse.specs.View.{viewed}
-use Rattle.loft_parse.specs.Parts.{IsCut, HeadFits}
-use Rattle.loft_parse.proofs.Flat.{flat_head}
-use Rattle.loft_parse.proofs.Checked.{head_checked}
+use Rattle.loft_grammar.specs.Statements.{rules}
+use Rattle.loft_grammar.specs.Items.{head}
+use Rattle.loft_grammar.specs.Limits.{limits, nesting, beginning}
+use Rattle.loft_grammar.specs.View.{viewed}
+use Rattle.loft_parse.specs.Parts.{IsCut}
+use Rattle.loft_grammar.specs.PartsFit.{HeadFits}
+use Rattle.loft_parts.proofs.Flat.{flat_head}
+use Rattle.loft_parts.proofs.Checked.{head_checked}
 use Rattle.loft_parse.proofs.PartLaws.{started, part_read, part_only, part_fits}
-use Rattle.loft_parse.proofs.fits.Items.{head_fits}
+use Rattle.loft_parts.proofs.fits.Items.{head_fits}
 use Rattle.loft_parse.proofs.part.read_head.Goals as goal
 
 pub returns-in-Some-clause-read : goal.returns-in-Some-clause-read

@@ -2,14 +2,16 @@ use Rattle.std.proofs.Common.{sym, subst}
 use Rattle.loft_lex.specs.TextSymbols.{symbols_seen, SymbolsOf}
 use Rattle.loft_tree.specs.View.{named_of}
 use Rattle.loft_form.specs.Reading.{Gives, read}
-use Rattle.loft_parse.specs.Grammar.{rules, local}
-use Rattle.loft_parse.specs.Source.{limits, nesting, beginning}
-use Rattle.loft_parse.specs.View.{viewed}
-use Rattle.loft_parse.specs.Parts.{IsCut, NamedFits}
-use Rattle.loft_parse.proofs.Flat.{flat_local}
-use Rattle.loft_parse.proofs.Checked.{local_checked}
+use Rattle.loft_grammar.specs.Statements.{rules}
+use Rattle.loft_grammar.specs.Items.{local}
+use Rattle.loft_grammar.specs.Limits.{limits, nesting, beginning}
+use Rattle.loft_grammar.specs.View.{viewed}
+use Rattle.loft_parse.specs.Parts.{IsCut}
+use Rattle.loft_grammar.specs.PartsFit.{NamedFits}
+use Rattle.loft_parts.proofs.Flat.{flat_local}
+use Rattle.loft_parts.proofs.Checked.{local_checked}
 use Rattle.loft_parse.proofs.PartLaws.{started, part_read, part_only, part_fits}
-use Rattle.loft_parse.proofs.fits.Items.{local_fits}
+use Rattle.loft_parts.proofs.fits.Items.{local_fits}
 use Rattle.loft_parse.proofs.part.read_local.Goals as goal
 
 pub returns-in-Some-clause-read : goal.returns-in-Some-clause-read

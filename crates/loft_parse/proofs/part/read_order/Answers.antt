@@ -2,15 +2,16 @@ use Rattle.std.proofs.Common.{sym, subst}
 use Rattle.loft_lex.specs.TextSymbols.{symbols_seen, SymbolsOf}
 use Rattle.loft_tree.specs.View.{order_of}
 use Rattle.loft_form.specs.Reading.{Gives, read}
-use Rattle.loft_parse.specs.Grammar.{rules, order}
-use Rattle.loft_parse.specs.Source.{limits, nesting, beginning}
-use Rattle.loft_parse.specs.View.{viewed}
+use Rattle.loft_grammar.specs.Statements.{rules}
+use Rattle.loft_grammar.specs.Items.{order}
+use Rattle.loft_grammar.specs.Limits.{limits, nesting, beginning}
+use Rattle.loft_grammar.specs.View.{viewed}
 use Rattle.loft_parse.specs.Parts.{IsCut}
 use Rattle.loft_tree.specs.Fits.{OrderFits}
-use Rattle.loft_parse.proofs.Flat.{flat_order}
-use Rattle.loft_parse.proofs.Checked.{order_checked}
+use Rattle.loft_parts.proofs.Flat.{flat_order}
+use Rattle.loft_parts.proofs.Checked.{order_checked}
 use Rattle.loft_parse.proofs.PartLaws.{started, part_read, part_only, part_fits}
-use Rattle.loft_parse.proofs.fits.Items.{order_fits}
+use Rattle.loft_parts.proofs.fits.Items.{order_fits}
 use Rattle.loft_parse.proofs.part.read_order.Goals as goal
 
 pub returns-in-Some-clause-read : goal.returns-in-Some-clause-read

@@ -2,13 +2,14 @@ use Rattle.std.proofs.Common.{subst}
 use Rattle.loft_lex.specs.TextSymbols.{symbols_seen, SymbolsOf}
 use Rattle.loft_tree.specs.View.{statement_of}
 use Rattle.loft_form.specs.Reading.{Gives, read}
-use Rattle.loft_parse.specs.Grammar.{rules, statement}
-use Rattle.loft_parse.specs.Source.{line_limits, nesting, beginning}
-use Rattle.loft_parse.specs.View.{viewed}
-use Rattle.loft_parse.specs.Parts.{IsCut, LineFits}
-use Rattle.loft_parse.proofs.Checked.{statement_checked}
+use Rattle.loft_grammar.specs.Statements.{rules, statement}
+use Rattle.loft_grammar.specs.Limits.{line_limits, nesting, beginning}
+use Rattle.loft_grammar.specs.View.{viewed}
+use Rattle.loft_parse.specs.Parts.{IsCut}
+use Rattle.loft_grammar.specs.PartsFit.{LineFits}
+use Rattle.loft_parts.proofs.Checked.{statement_checked}
 use Rattle.loft_parse.proofs.PartLaws.{started, part_read, part_only, part_fits}
-use Rattle.loft_parse.proofs.fits.Lines.{line_fits}
+use Rattle.loft_parts.proofs.fits.Lines.{line_fits}
 use Rattle.loft_parse.proofs.part.read_statement.Goals as goal
 
 pub returns-in-Some-clause-read : goal.returns-in-Some-clause-read

@@ -2,9 +2,10 @@ use Rattle.std.proofs.Common.{arith, ◌∙◌, ap, sym, Ok, ◌≡◌}
 use Rattle.std.proofs.lemmas.List.{length-map}
 use Rattle.loft_lex.specs.Symbol.{symbols}
 use Rattle.loft_form.specs.Reading.{read}
-use Rattle.loft_parse.specs.Grammar.{program, rules}
-use Rattle.loft_parse.specs.Source.{limits, nesting, beginning}
-use Rattle.loft_parse.specs.View.{place_of, declarations_of}
+use Rattle.loft_grammar.specs.Statements.{rules}
+use Rattle.loft_grammar.specs.Items.{program}
+use Rattle.loft_grammar.specs.Limits.{limits, nesting, beginning}
+use Rattle.loft_grammar.specs.View.{place_of, declarations_of}
 use Rattle.loft_parse.proofs.Laws.{whole_fits}
 use Rattle.loft_parse.proofs.source.program_of.Goals as goal
 

@@ -1,7 +1,7 @@
 use Rattle.std.proofs.Common.{◌≡◌, ℕ, ◌+◌, ◌<◌, List, [], length, map, drop, get_or, Bor, sym, subst, arith}
 use Rattle.loft_tree.specs.View.{declaration_of, source_of}
-use Rattle.loft_names.specs.Modules.{next_module}
-use Rattle.loft_names.proofs.Uses.{next_module-le}
+use Rattle.loft_scopes.specs.Modules.{next_module}
+use Rattle.loft_uses.proofs.Uses.{next_module-le}
 use Rattle.loft_code.specs.View.{lines_of}
 use Rattle.loft_wrong.specs.Wrong.{modules_wrong}
 use Rattle.loft_reading.specs.Comes.{item_wrong}

@@ -3,7 +3,7 @@ use Rattle.std.proofs.lemmas.List.{length-map}
 use Rattle.loft_tree.specs.Fits.{SourceFits}
 use Rattle.loft_tree.specs.Source.{Source}
 use Rattle.loft_tree.specs.View as view
-use Rattle.loft_names.proofs.Numbered.{few_items}
+use Rattle.loft_scopes.proofs.Numbered.{few_items}
 use Rattle.loft_code.specs.Fits.{RawFits}
 use Rattle.loft_code.specs.Operations.{Automata}
 use Rattle.loft_code.specs.View.{automata_of, code_of}

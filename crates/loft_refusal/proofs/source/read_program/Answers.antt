@@ -1,6 +1,6 @@
 use Rattle.std.proofs.Common.{◌≡◌, ◌∙◌, ap, subst, List, ℕ, length, arith}
 use Rattle.loft_tree.specs.View.{source_of}
-use Rattle.loft_parse.specs.Source.{Reads}
+use Rattle.loft_grammar.specs.Texts.{Reads}
 use Rattle.loft_refusal.proofs.Known.{if_some}
 use Rattle.loft_refusal.proofs.source.read_program.Goals as goal
 

@@ -1,7 +1,7 @@
 use Rattle.std.proofs.Common.{rules, ◌≡◌}
 use Rattle.std.specs.Option.{option_map}
 use Rattle.loft_tree.specs.View.{source_of}
-use Rattle.loft_names.specs.Faults.{faults, place_of}
+use Rattle.loft_scopes.specs.Faults.{faults, place_of}
 use Rattle.loft_wrong.proofs.LeastOf.{first_line}
 use Rattle.loft_wrong.proofs.first.first_wrong_name.Goals as goal
 

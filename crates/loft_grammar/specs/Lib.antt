@@ -1,0 +1,12 @@
+pub mod Counts
+pub mod Language
+pub mod Symbols
+pub mod Expressions
+pub mod Statements
+pub mod Items
+pub mod Levels
+pub mod Alone
+pub mod Limits
+pub mod Texts
+pub mod PartsFit
+pub mod View

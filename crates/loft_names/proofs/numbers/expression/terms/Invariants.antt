@@ -1,9 +1,0 @@
-use Rattle.std.proofs.Common.{◌≡◌, ◌++◌, drop, map}
-use Rattle.loft_tree.specs.View.{expression_of}
-use Rattle.loft_tree.specs.NamedView as view
-use Rattle.loft_names.specs.Numbers.{terms_of}
-use Rattle.loft_names.proofs.numbers.expression.terms.Given as goal
-
--- those that are left come after
-abbrev pub invariant-loop-e : goal.invariant-loop-e
-invariant-loop-e l = map view.term_of l.all.items ++ terms_of l.table l.scope (map expression_of (drop l.e-index l.es)) ≡ terms_of l.table l.scope (map expression_of l.es)

@@ -1,8 +1,0 @@
-use Rattle.std.proofs.Common.{◌≡◌, ◌++◌, drop}
-use Rattle.loft_tree.specs.View.{source_of}
-use Rattle.loft_names.specs.Numbers.{starts_in}
-use Rattle.loft_names.proofs.numbers.head.starts.Given as goal
-
--- those that are left come after
-abbrev pub invariant-loop-item : goal.invariant-loop-item
-invariant-loop-item l = l.all ++ starts_in l.table (source_of (drop l.item-index l.items)) ≡ starts_in l.table (source_of l.items)

@@ -1,8 +1,0 @@
-use Rattle.std.proofs.Common.{◌≡◌, ◌++◌, drop, map}
-use Rattle.loft_tree.specs.View.{order_of}
-use Rattle.loft_names.specs.Numbers.{client_orders}
-use Rattle.loft_names.proofs.numbers.part.orders.Given as goal
-
--- those that are left come after
-abbrev pub invariant-loop-one : goal.invariant-loop-one
-invariant-loop-one l = l.all ++ client_orders l.table l.scope (map order_of (drop l.one-index l.ordered)) ≡ client_orders l.table l.scope (map order_of l.ordered)

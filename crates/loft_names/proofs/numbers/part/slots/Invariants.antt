@@ -1,8 +1,0 @@
-use Rattle.std.proofs.Common.{◌≡◌, ◌++◌, drop, map}
-use Rattle.loft_tree.specs.View.{named_of}
-use Rattle.loft_names.specs.Numbers.{slots_of}
-use Rattle.loft_names.proofs.numbers.part.slots.Given as goal
-
--- those that are left come after
-abbrev pub invariant-loop-variable : goal.invariant-loop-variable
-invariant-loop-variable l = l.all ++ slots_of (map named_of (drop l.variable-index l.variables)) ≡ slots_of (map named_of l.variables)

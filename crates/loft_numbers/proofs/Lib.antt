@@ -1,0 +1,3 @@
+pub mod LinksLeft
+pub mod Stops
+pub mod Sizes

@@ -1,0 +1,6 @@
+pub mod Chains
+pub mod Checked
+pub mod Flat
+pub mod Inside
+pub mod fits
+pub mod Alone

@@ -1,0 +1,5 @@
+pub mod Positions
+pub mod Keys
+pub mod First
+pub mod Declaring
+pub mod Numbered

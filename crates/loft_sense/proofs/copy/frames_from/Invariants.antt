@@ -1,6 +1,0 @@
-use Rattle.std.proofs.Common.{◌≡◌, take}
-use Rattle.loft_sense.proofs.copy.frames_from.Given as goal
-
--- those so far
-abbrev pub invariant-loop-frame : goal.invariant-loop-frame
-invariant-loop-frame l = l.copy.items ≡ take l.frame-index l.frames
