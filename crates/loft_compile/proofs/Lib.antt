@@ -16,3 +16,4 @@ pub mod ValidLemmas
 pub mod ProgramLemmas
 pub mod WriteLemmas
 pub mod SameHistories
+pub mod SimpleStatements

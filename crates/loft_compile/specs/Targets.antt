@@ -1,8 +1,11 @@
 -- Operations as they are written before their targets are known (docs/CODE.md, "The compiler's code").
 use Rattle.std.specs.Prelude.{ℕ, zero, suc, List, [], ◌∷◌}
+use Rattle.loft_tree.specs.declared.heads.Heads.{Heads}
+use Rattle.loft_tree.specs.declared.heads.Place.{Place}
 use Rattle.loft_tree.specs.Resolved.{Step, Do, Hold, Call, Choose, Loop, Times}
 use Rattle.loft_code.specs.Operations.{Operation, Line}
 use Rattle.loft_code.specs.Operations as op
+use Rattle.loft_sense.specs.Stands.{place_after, end_of}
 use Rattle.loft_compile.specs.Compiled.{line}
 
 -- the operation with which a statement begins; the target of a `branch` is 0 so far
@@ -34,3 +37,16 @@ abbrev pub lines_with_target : List Line → (k n : ℕ) → List Line
 lines_with_target [] k n = []
 lines_with_target (l ∷ ls) zero n = line_with_target n l ∷ ls
 lines_with_target (l ∷ ls) (suc k) n = l ∷ lines_with_target ls k n
+
+-- where a thread is linked after an operation before which it was linked here; of one that is the first of several
+-- operations, after that one
+abbrev pub place_past : Heads → Operation → Place → Place
+place_past h (op.Hold k pause) here = place_after pause here
+place_past h (op.Call k m arguments) here = end_of h m
+place_past h (op.Do action) here = here
+place_past h (op.Branch t test) here = here
+place_past h op.Enter here = here
+place_past h (op.Count count) here = here
+place_past h (op.Turn t) here = here
+place_past h (op.Jump t) here = here
+place_past h op.End here = here

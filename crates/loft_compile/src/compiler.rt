@@ -8,13 +8,13 @@ ghost use Rattle.loft_code.specs.Operations.{Jump};
 ghost use Rattle.loft_code.specs.View.{operation_of, line_of, lines_of, automata_of};
 ghost use Rattle.loft_sense.specs.Stands.{begin_of, end_of, leads_step, leads};
 ghost use Rattle.loft_compile.specs.Compiled.{line, step_lines, body_lines, module_lines, modules_from, compiled};
-ghost use Rattle.loft_compile.specs.Targets.{lines_with_target};
+ghost use Rattle.loft_compile.specs.Targets.{lines_with_target, place_past};
 
 use crate::copy;
 use crate::laws::compiled_code_is_valid;
 use crate::operation::{first_operation, set_target};
 use loft_base::{ModuleId, NoMemory, TryClone};
-use loft_code::{Code, CodeLine, CodeProgram, ModuleCode, Op, RawCode};
+use loft_code::{Code, CodeLine, CodeProgram, ModuleCode, Op, Pause, RawCode};
 use loft_place::Placed;
 use loft_tree::{Heads, Module, NamedStmt, Place};
 use std::alloc::Global;
@@ -36,6 +36,31 @@ fn end_of(heads: &Heads, module: ModuleId) -> Place
     match heads.modules.as_slice().get(module.0 as usize) {
         Some(signature) => signature.end,
         None => Place::Unlinked,
+    }
+}
+
+/// Where a thread is linked after an operation that it was linked here before.
+fn place_past(heads: &Heads, op: &Op, here: Place) -> Place
+    ensures { result ≡ place_past heads.now (operation_of op.now) here }
+{
+    match op {
+        Op::Hold { pause, .. } => match pause {
+            Pause::Link(scheduler) => Place::Sched(*scheduler),
+            Pause::Unlink => Place::Unlinked,
+            Pause::Cooperate { .. }
+            | Pause::Await { .. }
+            | Pause::Get { .. }
+            | Pause::Join { .. }
+            | Pause::Halt => here,
+        },
+        Op::Run { module, .. } => end_of(heads, *module),
+        Op::Do(_)
+        | Op::Branch { .. }
+        | Op::Enter
+        | Op::Count(_)
+        | Op::Turn { .. }
+        | Op::Jump { .. }
+        | Op::End => here,
     }
 }
 
@@ -87,7 +112,6 @@ impl Writer {
     /// The code of a statement before which the thread is linked here, inside so many `repeat`s; where it is linked after
     /// the statement.
     #[cycle(write)]
-    #[tactic(auto, using(loft_tree::proofs::NamedTrees::named_statements))]
     fn statement(
         &mut self,
         heads: &Heads,
@@ -102,6 +126,7 @@ impl Writer {
     {
         let begin = self.lines.len();
         let first = first_operation(self.alloc, s)?;
+        let there = place_past(heads, &first, here);
         self.put(here, depth, first)?;
         match s {
             NamedStmt::If { first, second, .. } => {
@@ -132,23 +157,7 @@ impl Writer {
                 self.go_back(turn, there, depth + 1)?;
                 Ok(here)
             }
-            NamedStmt::Link { scheduler, .. } => Ok(Place::Sched(*scheduler)),
-            NamedStmt::Unlink { .. } => Ok(Place::Unlinked),
-            NamedStmt::Run { module, .. } => Ok(end_of(heads, *module)),
-            NamedStmt::Assign { .. }
-            | NamedStmt::AssignCreate { .. }
-            | NamedStmt::Create { .. }
-            | NamedStmt::PrintText { .. }
-            | NamedStmt::PrintValue { .. }
-            | NamedStmt::Cooperate { .. }
-            | NamedStmt::Generate { .. }
-            | NamedStmt::Await { .. }
-            | NamedStmt::Select { .. }
-            | NamedStmt::Get { .. }
-            | NamedStmt::Join { .. }
-            | NamedStmt::Control { .. }
-            | NamedStmt::Broadcast { .. }
-            | NamedStmt::Halt { .. } => Ok(here),
+            _ => Ok(there),
         }
     }
 

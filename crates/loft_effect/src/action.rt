@@ -1,6 +1,6 @@
 //! What an action does that goes on at once, or ends its thread (docs/SEMANTICS.md, "Statements").
 
-ghost use Rattle.std.specs.Prelude.{◌≡◌, ◌++◌, map, IfOk};
+ghost use Rattle.std.specs.Prelude.{◌≡◌, ◌++◌, map, IfOk, Some};
 ghost use Rattle.loft_tree.specs.NamedView.{term_of, value_of};
 ghost use Rattle.loft_tree.specs.Resolved.{exp_of, exp_if, exps_of, target_of, Assign, PrintText, PrintValue, Generate, ControlThread, Broadcast};
 ghost use Rattle.loft_sense.specs.Heads.{home as home_of};
@@ -49,9 +49,21 @@ fn text_line(
 ) -> Result<Line, NoMemory>
     ensures { IfOk result (λ line. line ≡ text.now ++ text_of heads.now value) }
 {
-    let Some(value) = value else {
-        return Ok(Line::from_text(text.share()?));
-    };
+    match value {
+        Some(value) => line_with(alloc, heads, text, value),
+        None => Ok(Line::from_text(text.share()?)),
+    }
+}
+
+/// The line of a text with the text of a value after it.
+fn line_with(
+    alloc: Global,
+    heads: &Heads,
+    text: &SharedText,
+    value: Value,
+) -> Result<Line, NoMemory>
+    ensures { IfOk result (λ line. line ≡ text.now ++ text_of heads.now (Some value)) }
+{
     let mut line = LineBuffer::new(alloc);
     line.bytes(text.bytes())?;
     value.push_to(&mut line, heads)?;

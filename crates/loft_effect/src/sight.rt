@@ -7,7 +7,7 @@ ghost use Rattle.loft_tree.specs.NamedView.{term_of};
 ghost use Rattle.loft_tree.specs.Resolved.{exp_of};
 ghost use Rattle.loft_sense.specs.Heads.{is_at, rank as rank_of};
 ghost use Rattle.loft_sense.specs.Around.{Around};
-ghost use Rattle.loft_sense.specs.Eval.{eval, number_of as number_in, same_value as same_value_as, slot_value, shared_value, special_value};
+ghost use Rattle.loft_sense.specs.Eval.{eval, number_of as number_in, same_value as same_value_as, binary_value as binary_value_of, slot_value, shared_value, special_value};
 ghost use Rattle.loft_effect.specs.View.{answer_of};
 
 use crate::value::{binary_value, number_of, same_value, truth, unary_value};
@@ -114,6 +114,30 @@ impl Sight<'_> {
         same_value(self.with_number(left, m), self.with_number(right, n))
     }
 
+    /// The value of an operator between two expressions with these numbers, as a number. `Div` comes exactly where it
+    /// divides by 0.
+    fn between(
+        &self,
+        operator: BinaryOperator,
+        left: &NamedExpr,
+        m: i64,
+        right: &NamedExpr,
+        n: i64,
+    ) -> Result<i64, Div>
+        ensures { (around : Around)
+            → option_map number_in (value_in self.now around left.now) ≡ Some m
+            → option_map number_in (value_in self.now around right.now) ≡ Some n
+            → answer_of result ≡ option_map number_in (option_and_then
+            (λ a. option_and_then (binary_value_of operator a) (value_in self.now around right.now))
+            (value_in self.now around left.now)) }
+    {
+        match operator {
+            BinaryOperator::Equal => Ok(truth(self.are_same(left, m, right, n))),
+            BinaryOperator::Unequal => Ok(truth(!self.are_same(left, m, right, n))),
+            _ => binary_value(operator, m, n),
+        }
+    }
+
     /// The value of a number or of a variable of the frame, as a number, and none for other expressions.
     fn leaf(&self, e: &NamedExpr) -> Option<i64>
         ensures { IfSome result (λ n. (around : Around)
@@ -165,11 +189,7 @@ impl Sight<'_> {
             } => {
                 let m = self.number(left)?;
                 let n = self.number(right)?;
-                match operator {
-                    BinaryOperator::Equal => Ok(truth(self.are_same(left, m, right, n))),
-                    BinaryOperator::Unequal => Ok(truth(!self.are_same(left, m, right, n))),
-                    _ => binary_value(*operator, m, n),
-                }
+                self.between(*operator, left, m, right, n)
             }
         }
     }

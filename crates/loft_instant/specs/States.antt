@@ -1,14 +1,25 @@
 -- A scheduler in memory between two instants.
-use Rattle.std.specs.Prelude.{◌≡◌, ℕ, ◌≤◌, ◌*◌, [], Option, Some, None}
+use Rattle.std.specs.Prelude.{◌≡◌, ℕ, ℤ, ◌≤◌, ◌*◌, List, [], map, Option, Some, None}
 use Rattle.loft_base.specs.declared.ids.SchedId.{SchedId}
 use Rattle.loft_board.specs.Board.{no_events}
 use Rattle.loft_sense.specs.declared.limits.TheConstants.{MAX_ENTRIES}
-use Rattle.loft_sense.specs.Machine.{Mach}
+use Rattle.loft_sense.specs.Machine.{Prog, Mach}
+use Rattle.loft_sense.specs.Apply.{Applied}
+use Rattle.loft_sense.specs.Passes.{Walk, passes}
+use Rattle.loft_sense.specs.Instant.{runner_of, around_of}
 use Rattle.loft_instant.specs.declared.instant.State.{State}
 use Rattle.loft_instant.specs.View.{standings_of}
 
 abbrev pub machine_with : SchedId → State → Mach
 machine_with s e = record { s = s; linked = standings_of e.linked.items; shared = e.shared; known = e.known; made = e.made; number = e.number }
+
+-- what the passes and the close of an instant read of the machine before it
+abbrev pub machine_before : SchedId → List ℤ → ℕ → ℕ → Mach
+machine_before s shared made number = record { s = s; linked = []; shared = shared; known = []; made = made; number = number }
+
+-- the passes after an applied batch
+abbrev pub walk_from : Prog → ℕ → Mach → Applied → Walk
+walk_from x budget m a = passes x (map (runner_of budget) a.linked) (around_of m a)
 
 -- nothing is said of the machine after an instant that ran out of memory
 abbrev pub machine_or_none : SchedId → Option State → Mach

@@ -9,9 +9,8 @@ ghost use Rattle.loft_instant.specs.States.{machine_of, IsReady};
 use crate::instant::{Setting, State};
 use crate::interpreter::Interpreter;
 use crate::rest::{all_rest, standings};
-use crate::shared::{push_own, shared_values};
+use crate::shared::own_of;
 use loft_base::{NoMemory, SchedId, Sequence};
-use loft_board::Board;
 use loft_sense::{Engine, FinalState, InstantNote, Limits, Orders};
 use std::alloc::Global;
 
@@ -49,25 +48,15 @@ impl<I: Interpreter> InstantEngine<I> {
             ⟦<InstantEngine<I> as Engine>⟧.has_failed e ≡ false) }
     {
         let heads = interpreter.heads();
-        let mut own = Vec::new(alloc);
-        push_own(&mut own, scheduler, 0, heads.shared.as_slice())?;
-        let shared = shared_values(alloc, scheduler, heads.shared.as_slice())?;
         let events = heads.events.len() as u32;
+        let own = own_of(alloc, scheduler, heads.shared.as_slice())?;
+        let state = State::first(alloc, scheduler, heads.shared.as_slice(), events)?;
         let setting = Setting {
             interpreter,
             scheduler,
             limits,
             own,
             events,
-        };
-        let state = State {
-            linked: Vec::new(alloc),
-            shared,
-            before: Sequence::new(alloc),
-            known: Sequence::new(alloc),
-            board: Board::new(alloc, events)?,
-            made: 0,
-            number: 0,
         };
         Ok(InstantEngine {
             setting,

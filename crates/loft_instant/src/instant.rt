@@ -8,7 +8,7 @@ ghost use Rattle.loft_sense.specs.Apply.{apply_orders};
 ghost use Rattle.loft_sense.specs.Passes.{passes as passes_over};
 ghost use Rattle.loft_tree.specs.declared.heads.Place.TheVariants.{Sched as SchedPlace};
 ghost use Rattle.loft_sense.specs.Instant.{runner_of as begin_of, instant as instant_of};
-ghost use Rattle.loft_sense.specs.Instant.{closed, closed_thread, stays, has_run};
+ghost use Rattle.loft_sense.specs.Instant.{closed, closed_thread, stays, has_run, machine_after, note_of};
 ghost use Rattle.loft_sense.specs.Instant.{sent_by, leavers, changes as changes_in};
 
 use crate::batch::Batch;
@@ -16,13 +16,13 @@ use crate::close::close_all;
 use crate::interpreter::Interpreter;
 use crate::pass::{begin_all, passes};
 use crate::runner::Runner;
-use crate::shared::{changes, keep_values};
+use crate::shared::{changes, keep_values, shared_values};
 use crate::told::tell_all;
 use loft_base::{NoMemory, SchedId, Sequence, SharedId, ThreadId};
 use loft_board::Board;
 use loft_effect::Around;
 use loft_sense::{Changes, InstantNote, Limits, Numbers, Order, Sents, Threads};
-use loft_tree::Place;
+use loft_tree::{Place, SharedHead};
 use std::alloc::Global;
 
 /// What stays as it is while a scheduler's instants are made.
@@ -57,11 +57,41 @@ pub struct State {
     pub number: u64,
 }
 
+impl State {
+    ghost use Rattle.loft_sense.specs.Heads.{is_at};
+    ghost use Rattle.loft_instant.specs.States.{machine_with, machine_before};
+
+    /// A scheduler before its first instant, where the program has these shared variables and so
+    /// many events.
+    pub fn first(
+        alloc: Global,
+        scheduler: SchedId,
+        shared: &[SharedHead],
+        events: u32,
+    ) -> Result<State, NoMemory>
+        ensures machine { IfOk result (λ s. machine_with scheduler s ≡ machine_before scheduler
+            (map (λ v. v.value) (filter (is_at scheduler) shared.now)) 0 0) }
+        ensures board { IfOk result (λ s. s.board ≡ no_events events) }
+    {
+        let shared = shared_values(alloc, scheduler, shared)?;
+        let board = Board::new(alloc, events)?;
+        Ok(State {
+            linked: Vec::new(alloc),
+            shared,
+            before: Sequence::new(alloc),
+            known: Sequence::new(alloc),
+            board,
+            made: 0,
+            number: 0,
+        })
+    }
+}
+
 impl<I: Interpreter> Setting<I> {
     ghost use Rattle.loft_effect.specs.View.{around_of};
     ghost use Rattle.loft_instant.specs.View.{standings_of, runners_of, walk_of};
     ghost use Rattle.loft_instant.specs.Batches.{applied_of};
-    ghost use Rattle.loft_instant.specs.States.{machine_with};
+    ghost use Rattle.loft_instant.specs.States.{machine_with, machine_before, walk_from};
 
     /// The batch is applied to these threads.
     fn apply(
@@ -199,6 +229,35 @@ impl<I: Interpreter> Setting<I> {
             number,
         } = state;
         keep_values(&mut before, shared.as_slice())?;
+        let batch = self.apply(alloc, linked, known, board, orders)?;
+        self.after_batch(alloc, batch, shared, before, made, number)
+    }
+
+    /// What is left of an instant once its batch is applied: the passes, and the close. The shared
+    /// values stand twice, as the instant finds them and as it changes them.
+    fn after_batch(
+        &self,
+        alloc: Global,
+        batch: Batch,
+        shared: Numbers,
+        before: Numbers,
+        made: u64,
+        number: u64,
+    ) -> Result<(State, InstantNote), NoMemory>
+        requires board { length batch.board ≡ self.now.events }
+        requires before { before ≡ shared }
+        requires made { made ≤ 2 ^ 63 }
+        requires number { number < 2 ^ 63 }
+        ensures machine { IfOk result (λ did.
+            let m = machine_before self.now.scheduler shared made number in
+            machine_with self.now.scheduler did.0 ≡ machine_after m
+            (walk_from (I.program self.now.interpreter) self.now.limits.budget m (applied_of batch))) }
+        ensures note { IfOk result (λ did.
+            let m = machine_before self.now.scheduler shared made number in
+            did.1 ≡ note_of (I.program self.now.interpreter) m (applied_of batch)
+            (walk_from (I.program self.now.interpreter) self.now.limits.budget m (applied_of batch))) }
+        ensures board { IfOk result (λ did. did.0.board ≡ no_events self.now.events) }
+    {
         let Batch {
             mut linked,
             known,
@@ -207,7 +266,7 @@ impl<I: Interpreter> Setting<I> {
             marks,
             stopped,
             mut sent,
-        } = self.apply(alloc, linked, known, board, orders)?;
+        } = batch;
         let around = self.run(alloc, &mut linked, board, shared, known, made)?;
         let (stands, changed) = self.close(
             alloc,

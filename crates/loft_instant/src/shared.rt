@@ -10,7 +10,7 @@ use loft_tree::SharedHead;
 use std::alloc::Global;
 
 /// The numbers of a scheduler's shared variables, where the first of these has number k.
-pub fn push_own(
+fn push_own(
     own: &mut Vec<SharedId>,
     scheduler: SchedId,
     k: u32,
@@ -29,6 +29,20 @@ pub fn push_own(
         return Ok(());
     }
     push_own(own, scheduler, k + 1, rest)
+}
+
+/// The numbers of a scheduler's shared variables, in the order of their declarations.
+pub fn own_of(
+    alloc: Global,
+    scheduler: SchedId,
+    shared: &[SharedHead],
+) -> Result<Vec<SharedId>, NoMemory>
+    requires { length shared.now ≤ 2 ^ 32 }
+    ensures { IfOk result (λ own. own.items ≡ shared_from 0 scheduler shared.now) }
+{
+    let mut own = Vec::new(alloc);
+    push_own(&mut own, scheduler, 0, shared)?;
+    Ok(own)
 }
 
 /// The values of a scheduler's shared variables before its first instant.

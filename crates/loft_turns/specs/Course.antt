@@ -30,6 +30,10 @@ pub record Stand : Type 0 where
   pub notes : List InstantNote
   pub running : Bool
 
+-- the same scheduler after the instant that it is in, if any
+abbrev pub between : Stand → Stand
+between s = record { scheduler = s.scheduler; failed = s.failed; machine = s.machine; notes = s.notes; running = false }
+
 -- what the history makes of the scheduler of this index
 abbrev pub stand_after : Prog → RunOptions → List Entry → ℕ → Stand
 stand_after x o h k = record {

@@ -150,7 +150,9 @@ impl<X: Setting, E: Engine, B: BlockEngine> Course<X, E, B> {
         let Some(sent) = order_at::<X>(alloc, heads, &self.world, c, given)? else {
             return Ok(false);
         };
-        self.world.client(alloc, c, &sent)?;
+        let gave = self.world.client(alloc, c, &sent);
+        drop(sent);
+        gave?;
         self.given[at] = given + 1;
         Ok(true)
     }
@@ -184,11 +186,16 @@ impl<X: Setting, E: Engine, B: BlockEngine> Course<X, E, B> {
             stations,
             ..
         } = self;
-        let (notes, finals) = finish_all(alloc, stations)?;
-        Ok(Finished {
-            world,
-            notes: Notes { of: notes },
-            finals: Finals { of: finals },
-        })
+        match finish_all(alloc, stations) {
+            Ok((notes, finals)) => Ok(Finished {
+                world,
+                notes: Notes { of: notes },
+                finals: Finals { of: finals },
+            }),
+            Err(error) => {
+                drop(world);
+                Err(error)
+            }
+        }
     }
 }

@@ -221,6 +221,9 @@ pub fn run_in_rounds<X: Setting, R: Threads + Wait + Sync, E: Engine, B: BlockEn
     ensures { IfOk result (λ run. IsWholeRun X.program X.options run) }
 {
     let mut course = Course::new(alloc, heads, stations, workers)?;
-    course.rounds(rt, alloc, heads, gate)?;
+    if let Err(error) = course.rounds(rt, alloc, heads, gate) {
+        drop(course);
+        return Err(error);
+    }
     course.finish(alloc)
 }

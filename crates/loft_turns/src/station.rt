@@ -8,7 +8,7 @@ ghost use Rattle.loft_sense.specs.declared.entry.Entry.TheVariants as entry;
 ghost use Rattle.loft_sense.specs.Rest.{is_spent};
 ghost use Rattle.loft_world.specs.State.{IsScheduler, scheduler, with_entry};
 ghost use Rattle.loft_world.specs.Replay.{stand_of};
-ghost use Rattle.loft_turns.specs.Course.{Moves, stand_after, IsLast};
+ghost use Rattle.loft_turns.specs.Course.{Moves, stand_after, between, IsLast};
 
 use crate::setting::Setting;
 use loft_base::{NoMemory, SchedId, Sequence};
@@ -109,8 +109,8 @@ impl<X: Setting, E: Engine> Station<X, E> {
             (entry.Take s (waiting world.old.heads s world.old.history))) }
     {
         let note = self.engine.take(alloc, world.left(s))?;
-        world.record_take(alloc, s)?;
         self.current = Some(note);
+        world.record_take(alloc, s)?;
         Ok(())
     }
 
@@ -130,12 +130,22 @@ impl<X: Setting, E: Engine> Station<X, E> {
             (GiveBy s) moved world.new.history) }
         ensures heads { OnOk result (world.new.heads ≡ world.old.heads) }
     {
-        let Some(note) = self.current.take() else {
+        let Some(note) = &self.current else {
             return Ok(false);
         };
         world.give(alloc, s, &note.sent)?;
-        self.notes.push(note)?;
+        self.end()?;
         Ok(true)
+    }
+
+    /// Puts the note of the instant that it is in, if any, to those of the instants before.
+    fn end(&mut self) -> Result<(), NoMemory>
+        ensures { OnOk result (self.new ≡ between self.old) }
+    {
+        match self.current.take() {
+            Some(note) => self.notes.push(note),
+            None => Ok(()),
+        }
     }
 
     /// The number of its last instant.

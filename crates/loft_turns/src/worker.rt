@@ -108,8 +108,11 @@ impl<X: Setting, B: BlockEngine> Worker<X, B> {
         let Some(sent) = self.engine.next(alloc)? else {
             return Ok(false);
         };
-        world.post(alloc, w, &sent)?;
-        self.busy = !ends_block(&sent.order);
+        let ends = ends_block(&sent.order);
+        let posted = world.post(alloc, w, &sent);
+        drop(sent);
+        posted?;
+        self.busy = !ends;
         Ok(true)
     }
 }

@@ -8,9 +8,7 @@ ghost use Rattle.loft_scopes.specs.Least.{least_of};
 use crate::call::{call, creation};
 use crate::expression::{expression, wants, wants_if};
 use crate::name::scheduler;
-use crate::simple::{
-    assign, assign_create, control, event_value, get, join, print_text, select,
-};
+use crate::simple::{assign, assign_create, control, event_value, get, join, print_text, select};
 use loft_scopes::{NameError, Scope, Table};
 use loft_tree::{Kind, Stmt};
 

@@ -5,3 +5,4 @@ pub mod Commands
 pub mod InRange
 pub mod Forms
 pub mod Order
+pub mod Gathered

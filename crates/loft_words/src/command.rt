@@ -1,11 +1,11 @@
 //! What the words after the program's name ask for (docs/COMMANDS.md, "Words").
 
 ghost use Rattle.std.specs.Prelude.{◌≡◌, Some};
-ghost use Rattle.std.specs.Option.{option_copied};
+ghost use Rattle.std.specs.Option.{option_copied, option_map};
 ghost use Rattle.loft_sense.specs.declared.limits.RunOptions.{RunOptions};
 ghost use Rattle.loft_words.specs.Words.{words_of, is_file_name};
 ghost use Rattle.loft_words.specs.Ranges.{KeepsRanges};
-ghost use Rattle.loft_words.specs.Command.{Command as PlainCommand, Exec, Run, command, file_of, only_file, number_of};
+ghost use Rattle.loft_words.specs.Command.{Command as PlainCommand, Exec, Run, Show, Check, Compile, command, file_of, only_file, number_of};
 ghost use Rattle.loft_words.specs.CommandView.{meant, command_of};
 ghost use Rattle.loft_words.specs.Parts.{parts_of};
 ghost use Rattle.loft_words.specs.FromParts.{option_list, run_from, run_options_from, file_from, command_from};
@@ -126,6 +126,27 @@ fn exec<'a>(parts: Parts<'a>) -> Option<Command<'a>>
     Some(Command::Exec { file, options })
 }
 
+/// To show a source.
+fn show<'a>(parts: Parts<'a>) -> Option<Command<'a>>
+    ensures { meant result ≡ option_map Show (file_from (parts_of parts.entry)) }
+{
+    Some(Command::Show(file_alone(parts)?))
+}
+
+/// To check a source.
+fn check<'a>(parts: Parts<'a>) -> Option<Command<'a>>
+    ensures { meant result ≡ option_map Check (file_from (parts_of parts.entry)) }
+{
+    Some(Command::Check(file_alone(parts)?))
+}
+
+/// To compile a source.
+fn compile<'a>(parts: Parts<'a>) -> Option<Command<'a>>
+    ensures { meant result ≡ option_map Compile (file_from (parts_of parts.entry)) }
+{
+    Some(Command::Compile(file_alone(parts)?))
+}
+
 /// The command with this name.
 fn command_named<'a>(word: &str, parts: Parts<'a>) -> Option<Command<'a>>
     ensures { meant result ≡ command_from word.now (parts_of parts.entry) }
@@ -135,11 +156,11 @@ fn command_named<'a>(word: &str, parts: Parts<'a>) -> Option<Command<'a>>
     } else if word == "exec" {
         exec(parts)
     } else if word == "show" {
-        Some(Command::Show(file_alone(parts)?))
+        show(parts)
     } else if word == "check" {
-        Some(Command::Check(file_alone(parts)?))
+        check(parts)
     } else if word == "compile" {
-        Some(Command::Compile(file_alone(parts)?))
+        compile(parts)
     } else {
         None
     }

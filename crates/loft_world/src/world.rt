@@ -63,10 +63,11 @@ impl World {
     pub fn make(alloc: Global, heads: &Heads) -> Result<World, NoMemory>
         ensures { IfOk result (λ world. world ≡ no_entries heads.now) }
     {
+        let waits = starts_of_each(alloc, heads)?;
         Ok(World {
             heads: heads.try_clone(alloc)?,
             entries: Vec::new(alloc),
-            waits: starts_of_each(alloc, heads)?,
+            waits,
             jobs: VecDeque::new(alloc),
             creates: BTreeMap::new(alloc),
         })
@@ -125,9 +126,10 @@ impl World {
         let Some(first) = self.jobs.front() else {
             return Ok(None);
         };
-        let thread = first.as_thread().try_clone(alloc)?;
+        self.entries.reserve(1)?;
         let job = first.share()?;
-        self.entries.push(Entry::Pick { w, job })?;
+        let thread = first.as_thread().try_clone(alloc)?;
+        self.entries.push_reserved(Entry::Pick { w, job });
         self.jobs.pop_front();
         Ok(Some(thread))
     }
@@ -152,8 +154,8 @@ impl World {
         ensures ok { OnOk result (self.new ≡ with_entry self.old (entry.Client c sent.now)) }
         ensures err { OnErr result (self.new ≡ self.old) }
     {
-        let copy = sent.try_clone(alloc)?;
         make_room(&mut self.creates, c)?;
+        let copy = sent.try_clone(alloc)?;
         let entry = Entry::Client { c, sent: copy };
         add(
             alloc,
@@ -264,7 +266,7 @@ fn add(
     entries.push(entry)?;
     let added = add_all(alloc, waits, jobs, sents);
     if added.is_err() {
-        entries.pop();
+        drop(entries.pop());
     }
     added
 }

@@ -2,7 +2,7 @@ use Rattle.std.proofs.Common.{ℕ, ◌<◌, map, arith, sym, subst, ◌∙◌}
 use Rattle.std.proofs.lemmas.List.{length-map}
 use Rattle.std.proofs.lemmas.Result.{err_from_is_err_and}
 use Rattle.loft_code.specs.View.{line_of}
-use Rattle.loft_code.proofs.Checked.{line_at, so_far_next, first_here, all_asked, some_from_test}
+use Rattle.loft_code.proofs.Checked.{few_stops, line_at, so_far_next, first_here, all_asked, some_from_test}
 use Rattle.loft_code.proofs.valid.check_lines.Goals as goal
 
 pub returns-in_err-check_line : goal.returns-in_err-check_line
@@ -26,3 +26,13 @@ returns c =
     all_asked c.args.heads.now c.args.module c.args.signature.now (map line_of c.args.lines.now) c.loop-number.number c.loop-number.before
     (subst (λ (n : ℕ). 0 < n) (sym (length-map c.args.lines.now line_of)) (some_from_test _ (sym c.is_empty.ensures ∙ c.if-is_empty.false)))
     (omega (arith, length-map c.args.lines.now line_of, c.loop-number-test.false)) c.loop-number.invariant
+
+pub check_line-requires-clause-op : goal.check_line-requires-clause-op
+check_line-requires-clause-op c = omega (arith, length-map c.args.lines.now line_of, c.loop-number-test.true, c.requires)
+
+pub check_line-requires-clause-before : goal.check_line-requires-clause-before
+check_line-requires-clause-before c = c.loop-number.invariant.stops
+
+pub check_line-requires-clause-few : goal.check_line-requires-clause-few
+check_line-requires-clause-few c =
+    omega (arith, length-map c.args.lines.now line_of, c.loop-number-test.true, c.requires, c.loop-number.invariant.stops, few_stops (map line_of c.args.lines.now) c.loop-number.number)

@@ -1,11 +1,20 @@
 use Rattle.std.proofs.Common.{◌≡◌, ◌==◌, true, false, length, map, sym, ap, ◌∙◌, arith}
+use Rattle.loft_tree.specs.declared.heads.Place.{Place}
+use Rattle.loft_tree.specs.declared.heads.Heads.{Heads}
+use Rattle.loft_tree.specs.NamedTree.{NamedStatement}
 use Rattle.loft_tree.specs.NamedView.{term_of, statement_of, statements_of}
 use Rattle.loft_tree.specs.Resolved.{Choose, Loop, Times, exp_of, step_of, body_of}
 use Rattle.loft_tree.proofs.NamedTrees.{named_if, named_while, named_repeat}
 use Rattle.loft_code.specs.View.{operation_of, line_of}
+use Rattle.loft_sense.specs.Stands.{leads_step, leads}
 use Rattle.loft_compile.specs.Targets.{lines_with_target}
+use Rattle.loft_compile.proofs.SimpleStatements.{simple, simple_written, simple_leads}
 use Rattle.loft_compile.proofs.WriteLemmas.{choose_written, choose_else_written, while_written, repeat_written, empty_body, some_body, long, longer}
 use Rattle.loft_compile.proofs.compiler.Writer.+write.Goals as goal
+
+-- where a statement leads, as its plain value tells
+leads_as : (h : Heads) (here : Place) {s t : NamedStatement} → s ≡ t → leads_step h (step_of t) here ≡ leads_step h (step_of s) here
+leads_as h here is = ap (λ s. leads_step h (step_of s) here) (sym is)
 
 pub statement-returns-in_ok-go_back-in-While-clause-lines : goal.statement-returns-in_ok-go_back-in-While-clause-lines
 statement-returns-in_ok-go_back-in-While-clause-lines t c =
@@ -94,3 +103,33 @@ pub statement-overflow_add-depth-in-Repeat-2 : goal.statement-overflow_add-depth
 statement-overflow_add-depth-in-Repeat-2 t c =
     let added = longer c.args.self.now.lines.items c.put.new.self.lines.items _ c.in_ok-put.ensures in
     omega (arith, c.requires, c.put.new.self.lines.ok.0, added)
+
+pub statement-returns-in_default-clause-lines : goal.statement-returns-in_default-clause-lines
+statement-returns-in_default-clause-lines t c =
+    let alone = simple c.args.s.now c.in_default.not-If c.in_default.not-While c.in_default.not-Repeat in
+    simple_written c.args.heads.now c.args.here (step_of (statement_of c.args.s.now)) _ _ c.args.depth (operation_of c.in_ok-first.first) _ alone c.in_ok-first.ensures c.in_ok-put.ensures
+
+pub statement-returns-in_default-clause-place : goal.statement-returns-in_default-clause-place
+statement-returns-in_default-clause-place t c =
+    let alone = simple c.args.s.now c.in_default.not-If c.in_default.not-While c.in_default.not-Repeat in
+    simple_leads c.args.heads.now c.args.here _ (step_of (statement_of c.args.s.now)) (operation_of c.in_ok-first.first) alone c.in_ok-first.ensures c.place_past-there.ensures
+
+pub statement-returns-in_ok-go_back-in-While-clause-place : goal.statement-returns-in_ok-go_back-in-While-clause-place
+statement-returns-in_ok-go_back-in-While-clause-place t c =
+    let is = ap statement_of c.in-While.is ∙ named_while c.in-While.at c.in-While.test c.in-While.body in
+    leads_as c.args.heads.now c.args.here is
+
+pub statement-returns-in_ok-go_back-in-Repeat-clause-place : goal.statement-returns-in_ok-go_back-in-Repeat-clause-place
+statement-returns-in_ok-go_back-in-Repeat-clause-place t c =
+    let is = ap statement_of c.in-Repeat.is ∙ named_repeat c.in-Repeat.at c.in-Repeat.count c.in-Repeat.body in
+    leads_as c.args.heads.now c.args.here is
+
+pub statement-returns-then-is_empty-clause-place : goal.statement-returns-then-is_empty-clause-place
+statement-returns-then-is_empty-clause-place t c =
+    let is = ap statement_of c.in-If.is ∙ named_if c.in-If.at c.in-If.test c.in-If.first c.in-If.second in
+    c.in_ok-there-in-If.ensures.place ∙ ap (λ b. leads c.args.heads.now (body_of (statements_of b)) c.args.here) c.as_slice.ensures.value ∙ leads_as c.args.heads.now c.args.here is
+
+pub statement-returns-in_ok-body-in-If-clause-place : goal.statement-returns-in_ok-body-in-If-clause-place
+statement-returns-in_ok-body-in-If-clause-place t c =
+    let is = ap statement_of c.in-If.is ∙ named_if c.in-If.at c.in-If.test c.in-If.first c.in-If.second in
+    c.in_ok-there-in-If.ensures.place ∙ ap (λ b. leads c.args.heads.now (body_of (statements_of b)) c.args.here) c.as_slice.ensures.value ∙ leads_as c.args.heads.now c.args.here is

@@ -1,12 +1,33 @@
-use Rattle.std.proofs.Common.{arith}
-use Rattle.loft_instant.specs.States.{IsReady}
+use Rattle.std.proofs.Common.{◌∙◌, arith, ap, List, map, length}
+use Rattle.std.specs.Prelude.{filter}
+use Rattle.loft_tree.specs.declared.heads.Heads.{Heads}
+use Rattle.loft_tree.specs.declared.heads.SharedHead.{SharedHead}
+use Rattle.loft_sense.specs.Heads.{is_at, shared_from}
+use Rattle.loft_sense.specs.Machine.{Mach}
+use Rattle.loft_instant.specs.States.{IsReady, machine_before}
 use Rattle.loft_instant.proofs.EngineLemmas.{some_same}
 use Rattle.loft_instant.proofs.engine.InstantEngine.new.Goals as goal
 
+pub invariant_of-setting : goal.invariant_of-setting
+invariant_of-setting g c =
+    let is = c.heads-heads.ensures.heads in
+    record {
+      own_ones = c.in_ok-own.ensures ∙ ap (shared_from 0 c.args.scheduler) (c.as_slice.ensures ∙ ap (λ (h : Heads). h.shared) is);
+      all_events = c.len-events.ensures ∙ ap (λ (h : Heads). length h.events) is;
+    }
+
 pub invariant_of-result : goal.invariant_of-result
-invariant_of-result g c = record {
-  few_instants = c.requires.range.instants.1;
-  ready = λ new same.
-      some_same (IsReady c.len-events.result c.args.limits.instants) _ new same
-      (record { no_event = c.in_ok-new.ensures; few_made = omega arith; few_instants = omega arith });
-}
+invariant_of-result g c =
+    let made = ap (λ (m : Mach). m.made) c.in_ok-state.ensures.machine in
+    let number = ap (λ (m : Mach). m.number) c.in_ok-state.ensures.machine in
+    record {
+      few_instants = c.requires.range.instants.1;
+      ready = λ new same.
+          some_same (IsReady c.len-events.result c.args.limits.instants) _ new same
+          (record { no_event = c.in_ok-state.ensures.board; few_made = omega (arith, made, number); few_instants = omega (arith, number) });
+    }
+
+pub returns-clause-machine : goal.returns-clause-machine
+returns-clause-machine g c =
+    let shared = c.as_slice-2.ensures ∙ ap (λ (h : Heads). h.shared) c.heads-heads.ensures.heads in
+    c.in_ok-state.ensures.machine ∙ ap (λ (l : List SharedHead). machine_before c.args.scheduler (map (λ (v : SharedHead). v.value) (filter (is_at c.args.scheduler) l)) 0 0) shared

@@ -40,8 +40,8 @@ returns-in_default-clause-moves g c =
     ap (λ (n : ℕ). slice_get (orders_left x c.args.c h n) 0) (sym is) ∙ (sym c.in_ok-sent.ensures.order ∙ c.in_default.is) in
     subst (λ (q : Course). Moves x o q.world.history (ClientBy c.args.c) false q.world.history) c.self.view_is (no_order x o _ c.args.c run first)
 
-pub client-requires-clause-one : goal.client-requires-clause-one
-client-requires-clause-one g c =
+pub client-gave-requires-clause-one : goal.client-gave-requires-clause-one
+client-gave-requires-clause-one g c =
     let x = g.X.Setting.program in
     let o = g.X.Setting.options in
     let h = c.self.inside.world.history in
@@ -52,8 +52,8 @@ client-requires-clause-one g c =
     ap (λ (n : ℕ). slice_get (orders_left x c.args.c h n) 0) (sym is) ∙ (sym c.in_ok-sent.ensures.order ∙ c.in-Some.is) in
     goes_to_one x o _ c.args.c c.in-Some.sent run c.requires.can first
 
-pub client-requires-clause-kind : goal.client-requires-clause-kind
-client-requires-clause-kind g c =
+pub client-gave-requires-clause-kind : goal.client-gave-requires-clause-kind
+client-gave-requires-clause-kind g c =
     let x = g.X.Setting.program in
     let o = g.X.Setting.options in
     let h = c.self.inside.world.history in
@@ -74,7 +74,7 @@ returns-clause-run g c =
     let is : c.index-given.result.now ≡ gave h c.args.c = c.index-given.ensures ∙ gave_there x o _ c.args.c c.index-given.result.now run (subst (λ (n : ℕ). c.args.c < n) (so_many_given x o _ run) there) in
     let first : slice_get (orders_left x c.args.c h (gave h c.args.c)) 0 ≡ Some c.in-Some.sent =
     ap (λ (n : ℕ). slice_get (orders_left x c.args.c h n) 0) (sym is) ∙ (sym c.in_ok-sent.ensures.order ∙ c.in-Some.is) in
-    ordered x o _ c.args.c c.in-Some.sent c.client.new.self (c.index-given.result.now + 1) run first c.in_ok-client.ensures.ok (ap (λ (n : ℕ). n + 1) is)
+    ordered x o _ c.args.c c.in-Some.sent c.client-gave.new.self (c.index-given.result.now + 1) run first c.in_ok-gave.ensures.ok (ap (λ (n : ℕ). n + 1) is)
 
 pub returns-clause-moves : goal.returns-clause-moves
 returns-clause-moves g c =
@@ -86,5 +86,5 @@ returns-clause-moves g c =
     let is : c.index-given.result.now ≡ gave h c.args.c = c.index-given.ensures ∙ gave_there x o _ c.args.c c.index-given.result.now run (subst (λ (n : ℕ). c.args.c < n) (so_many_given x o _ run) there) in
     let first : slice_get (orders_left x c.args.c h (gave h c.args.c)) 0 ≡ Some c.in-Some.sent =
     ap (λ (n : ℕ). slice_get (orders_left x c.args.c h n) 0) (sym is) ∙ (sym c.in_ok-sent.ensures.order ∙ c.in-Some.is) in
-    subst (λ (q : Course). Moves x o q.world.history (ClientBy c.args.c) true c.client.new.self.history) c.self.view_is
-    (given_by x o _ c.args.c c.in-Some.sent c.client.new.self run first c.in_ok-client.ensures.ok)
+    subst (λ (q : Course). Moves x o q.world.history (ClientBy c.args.c) true c.client-gave.new.self.history) c.self.view_is
+    (given_by x o _ c.args.c c.in-Some.sent c.client-gave.new.self run first c.in_ok-gave.ensures.ok)

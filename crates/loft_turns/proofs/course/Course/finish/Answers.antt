@@ -4,9 +4,9 @@ use Rattle.loft_turns.specs.Course.{Course, IsRun}
 use Rattle.loft_turns.proofs.LastLemmas.{lasts}
 use Rattle.loft_turns.proofs.course.Course.finish.Goals as goal
 
-pub returns-clause-replay : goal.returns-clause-replay
-returns-clause-replay g c =
+pub returns-in-Ok-clause-replay : goal.returns-in-Ok-clause-replay
+returns-in-Ok-clause-replay g c =
     let x = g.X.Setting.program in
     let o = g.X.Setting.options in
-    subst (λ (q : Course). IsReplayOf x o.limits q.world.history c.in_ok-notes.notes c.in_ok-notes.finals) c.self.view_is
-    (lasts x o _ c.in_ok-notes.notes c.in_ok-notes.finals (subst (IsRun x o) (sym c.self.view_is) c.requires.run) c.in_ok-notes.ensures.notes c.in_ok-notes.ensures.finals)
+    subst (λ (q : Course). IsReplayOf x o.limits q.world.history c.in-Ok.notes c.in-Ok.finals) c.self.view_is
+    (lasts x o _ c.in-Ok.notes c.in-Ok.finals (subst (IsRun x o) (sym c.self.view_is) c.requires.run) c.in-Ok.ensures.notes c.in-Ok.ensures.finals)

@@ -1,4 +1,4 @@
-use Rattle.std.proofs.Common.{◌≡◌, ◌∙◌, ◌<◌, ◌++◌, sym, ap, subst, refl, true, length, append-nil, Option, Some}
+use Rattle.std.proofs.Common.{◌≡◌, ◌∙◌, ◌<◌, ◌++◌, sym, ap, subst, refl, true, length, Option, Some}
 use Rattle.std.specs.Prelude.{is_some}
 use Rattle.std.specs.Option.{option_to_list}
 use Rattle.loft_tree.specs.declared.heads.Heads.{Heads}
@@ -8,7 +8,7 @@ use Rattle.loft_sense.specs.Machine.{heads}
 use Rattle.loft_sense.specs.History.{GiveBy, is_open, replayed, sent_last}
 use Rattle.loft_sense.proofs.HistoryLemmas.{sent_last-append}
 use Rattle.loft_world.specs.State.{State}
-use Rattle.loft_turns.specs.Course.{Stand}
+use Rattle.loft_turns.specs.Course.{Stand, between}
 use Rattle.loft_turns.proofs.CourseLemmas.{given, give_entry, moved_by}
 use Rattle.loft_turns.proofs.station.Station.give.Goals as goal
 
@@ -18,17 +18,11 @@ returns-clause-stands g c =
     let x = g.X.Setting.program in
     let o = g.X.Setting.options in
     let engine = c.self.inside.engine in
-    let was : c.self.inside.current ≡ Some c.in-Some.note = sym c.take.ensures.value ∙ c.in-Some.is in
-    given x o c.args.s c.args.world.now.history c.give.new.self.history
-    (record { scheduler = e.scheduler engine; failed = e.has_failed engine; machine = e.machine engine; notes = c.self.inside.notes ++ option_to_list c.self.inside.current; running = is_some c.self.inside.current })
-    _ c.in-Some.note.sent
-    (c.self.view_is ∙ c.requires.stands)
+    c.in_ok-end.ensures
+    ∙ given x o c.args.s c.args.world.now.history c.give.new.self.history c.args.self.now (between c.args.self.now) _
+    c.requires.stands
     (ap (λ (w : State). w.history) c.in_ok-give.ensures.ok)
-    refl refl refl
-    (ap (λ (q : Option InstantNote). c.push.new.self ++ option_to_list q) c.take.ensures.after
-    ∙ (append-nil c.push.new.self
-    ∙ (c.in_ok-push.ensures.ok ∙ ap (λ (q : Option InstantNote). c.self.inside.notes ++ option_to_list q) (sym was))))
-    (ap is_some c.take.ensures.after)
+    refl refl refl refl refl
 
 pub returns-clause-moves : goal.returns-clause-moves
 returns-clause-moves g c =
@@ -38,7 +32,7 @@ returns-clause-moves g c =
     let h = c.args.world.now.history in
     let note = c.in-Some.note in
     let stands = c.self.view_is ∙ c.requires.stands in
-    let was : c.self.inside.current ≡ Some note = sym c.take.ensures.value ∙ c.in-Some.is in
+    let was : c.self.inside.current ≡ Some note = c.in-Some.is in
     let declared : s.0 < length (heads x).schedulers = subst (λ (q : Heads). s.0 < length q.schedulers) c.requires.heads c.requires.declared in
     let running : is_open s h ≡ true = sym (ap (λ (q : Stand). q.running) stands) ∙ ap is_some was in
     let due : note.sent ≡ sent_last (replayed x o.limits s h).notes =

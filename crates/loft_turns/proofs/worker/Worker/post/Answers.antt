@@ -19,5 +19,5 @@ returns-clause-hand g c =
     let rest = e.left c.next.new.self in
     let next : e.left c.self.inside.engine ≡ m ∷ rest = subst (λ (q : Option Sent). IsNext q (e.left c.self.inside.engine) rest) c.in-Some.is c.in_ok-sent.ensures.next in
     let is : left_of x o w h ≡ m ∷ rest = sym (ap (λ (q : Hand). q.left) (c.self.view_is ∙ c.requires.hand)) ∙ next in
-    same_hand (record { left = rest; busy = not c.ends_block.result }) (record { left = rest; busy = not (ends_block m.order) }) refl (ap not c.ends_block.ensures)
-    ∙ (sym (posted_hand x o h w m rest is) ∙ ap (λ (s : State). hand_after x o s.history w) (sym c.in_ok-post.ensures.ok))
+    same_hand (record { left = rest; busy = not c.ends_block-ends.result }) (record { left = rest; busy = not (ends_block m.order) }) refl (ap not c.ends_block-ends.ensures)
+    ∙ (sym (posted_hand x o h w m rest is) ∙ ap (λ (s : State). hand_after x o s.history w) (sym c.in_ok-posted.ensures.ok))

@@ -1,8 +1,30 @@
-use Rattle.std.proofs.Common.{rules, List, length, ap, ◌∙◌, sym, arith, length-append}
+use Rattle.std.proofs.Common.{rules, ◌≡◌, ℕ, List, [], ◌∷◌, ◌++◌, length, ap, ◌∙◌, sym, arith, length-append}
+use Rattle.loft_tree.specs.declared.heads.Heads.{Heads}
 use Rattle.loft_sense.specs.declared.entry.Entry.{Entry}
-use Rattle.loft_world.specs.State.{count_in}
+use Rattle.loft_sense.specs.declared.entry.Entry.TheVariants as entry
+use Rattle.loft_sense.specs.declared.order.Sent.{Sent}
+use Rattle.loft_world.specs.State.{State, with_entry, count_in}
 use Rattle.loft_world.proofs.StateLemmas.{client_added, one_create, other_order, creates_within}
 use Rattle.loft_world.proofs.world.World.client.Goals as goal
+
+abbrev state : Heads → List Entry → State
+state h es = record { heads = h; history = es }
+
+-- what is seen after the order of a client
+recorded : (h : Heads) (es fs : List Entry) (seen : State) (c : ℕ) (copy sent : Sent) → fs ≡ es ++ entry.Client c copy ∷ [] → copy ≡ sent → state h es ≡ seen
+    → state h fs ≡ with_entry seen (entry.Client c sent)
+recorded h es fs seen c copy sent added same is =
+    ap (state h) (added ∙ ap (λ (m : Sent). es ++ entry.Client c m ∷ []) same) ∙ ap (λ (v : State). with_entry v (entry.Client c sent)) is
+
+pub returns-then-is_create-clause-ok : goal.returns-then-is_create-clause-ok
+returns-then-is_create-clause-ok c =
+    recorded c.self.inside.heads c.self.inside.entries.items c.add.new.entries.items c.args.self.now c.args.c c.in_ok-copy.copy c.args.sent.now
+    c.in_ok-add.ensures.entries c.in_ok-copy.ensures c.self.view_is
+
+pub returns-else-is_create-clause-ok : goal.returns-else-is_create-clause-ok
+returns-else-is_create-clause-ok c =
+    recorded c.self.inside.heads c.self.inside.entries.items c.add.new.entries.items c.args.self.now c.args.c c.in_ok-copy.copy c.args.sent.now
+    c.in_ok-add.ensures.entries c.in_ok-copy.ensures c.self.view_is
 
 pub add_one-requires-clause-few : goal.add_one-requires-clause-few
 add_one-requires-clause-few c =
