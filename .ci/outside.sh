@@ -39,7 +39,7 @@ answer_of_input() { cat "$source" | answer run /dev/stdin; }
 answer_of_pipe() {
     local ended=0
     timeout 60 cp "$source" "$room/pipe" &
-    answer run "$room/pipe" || ended=$?
+    answer "$1" "$room/pipe" || ended=$?
     wait
     return "$ended"
 }
@@ -64,8 +64,13 @@ wants "no command, the output is full" 6 full
 
 wants "a pipe as standard input" 0 answer_of_input
 wrote "a pipe as standard input" "$report"
-wants "a named pipe" 0 answer_of_pipe
+# A pipe can be read once, and so each command reads its file.
+wants "a named pipe" 0 answer_of_pipe run
 wrote "a named pipe" "$report"
+wants "a named pipe, check" 0 answer_of_pipe check
+wrote "a named pipe, check" "$room/ok"
+wants "a named pipe, show" 0 answer_of_pipe show
+wants "a named pipe, compile" 0 answer_of_pipe compile
 
 # A source of 4 MiB, one that has a byte more, and one of as many bytes that are no tokens.
 { cat "$source"; head -c 4194305 /dev/zero | tr '\0' ' '; } > "$room/blanks"

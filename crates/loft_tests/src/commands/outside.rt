@@ -1,8 +1,8 @@
-//! What the program does with files, with sinks that fail, and with the gate.
+//! What the program does with sinks that fail, and with the gate. `.ci/outside.sh` has what it does with files.
 
-ghost use Rattle.std.specs.Prelude.{◌+◌, ◌≤◌, None, true, length};
+ghost use Rattle.std.specs.Prelude.{None};
 
-use loft_base::{Failed, Files, Gate, MemFiles, MemSink, OpenGate, SchedId, Sink, Turn};
+use loft_base::{Failed, Gate, MemFiles, OpenGate, SchedId, Sink, Turn};
 use loft_commands::loft_main;
 use std::alloc::{AllocError, Global};
 use std::sync::Wait;
@@ -21,46 +21,6 @@ fn words(alloc: Global, words: &[&str]) -> Result<Vec<String>, AllocError> {
 
 /// A program whose text isn't the canonical one.
 const SHOWN: &[u8] = b"scheduler A; module m(int x) in A to A print \"//\"; end";
-
-/// Files of which every part fails.
-#[derive(Drop)]
-struct BrokenFiles {
-    faults: u64,
-}
-
-impl Files for BrokenFiles {
-    ghost contents = { λ _ _. None };
-
-    ghost faults = { λ files. files.faults };
-
-    ghost may_ask = { λ _ _. true };
-
-    ghost place = { λ _. 0 };
-
-    fn part(&mut self, _name: &str, _from: u64, _into: &mut [u8]) -> Result<usize, Failed> {
-        self.faults = self.faults.saturating_add(1);
-        Err(Failed)
-    }
-}
-
-/// A file that can't be read is reported in one line.
-#[test]
-fn reports_a_file_fault(rt: HostRuntime) -> Result<(), Fail> {
-    let asked = words(rt.alloc(), &["run", "a"])?;
-    let mut files = BrokenFiles { faults: 0 };
-    let mut sink = MemSink::new(rt.alloc(), 4096)?;
-    let status = loft_main(
-        &rt,
-        rt.alloc(),
-        asked.as_slice(),
-        &mut files,
-        &mut sink,
-        &OpenGate,
-    );
-    assert_eq!(rt; status.code(), 5);
-    assert_eq!(rt; sink.bytes(), b"files: fault\n".as_slice());
-    Ok(())
-}
 
 /// A sink that takes so many pieces and then fails.
 #[derive(Drop)]
@@ -204,77 +164,5 @@ fn each_turn_passes_the_gate(rt: HostRuntime) -> Result<(), Fail> {
     );
     assert_eq!(rt; status.code(), 0);
     assert_eq!(rt; gate.noted.load(Ordering::SeqCst), 129);
-    Ok(())
-}
-
-/// A file that fails where it is begun a second time, and where another one is asked.
-#[derive(Drop)]
-struct OnceFiles {
-    bytes: Vec<u8>,
-    is_begun: bool,
-    faults: u64,
-    place: u64,
-}
-
-impl Files for OnceFiles {
-    ghost contents = { λ _ _. None };
-
-    ghost faults = { λ files. files.faults };
-
-    ghost may_ask = { λ _ _. true };
-
-    ghost place = { λ files. files.place };
-
-    fn part(&mut self, name: &str, from: u64, into: &mut [u8]) -> Result<usize, Failed> {
-        if name != "a" || from == 0 && self.is_begun {
-            self.faults = self.faults.saturating_add(1);
-            self.place = 0;
-            return Err(Failed);
-        }
-        self.is_begun = true;
-        let count = copy_from(self.bytes.as_slice(), from, into);
-        self.place = from + count as u64;
-        Ok(count)
-    }
-}
-
-/// Copies what fits of a file's bytes from an offset, and gives how many these are.
-fn copy_from(file: &[u8], from: u64, into: &mut [u8]) -> usize
-    ensures { result ≤ length into.old }
-{
-    let Ok(start) = usize::try_from(from) else {
-        return 0;
-    };
-    if file.len() <= start {
-        return 0;
-    }
-    let rest = &file[start..];
-    let count = rest.len().min(into.len());
-    into[..count].copy_from_slice(&rest[..count]);
-    count
-}
-
-/// Each command reads its file once.
-#[test]
-fn a_source_is_read_once(rt: HostRuntime) -> Result<(), Fail> {
-    for command in ["show", "check", "run"] {
-        let asked = words(rt.alloc(), &[command, "a"])?;
-        let mut files = OnceFiles {
-            bytes: Vec::from_slice(rt.alloc(), TWO_PRINTS)?,
-            is_begun: false,
-            faults: 0,
-            place: 0,
-        };
-        let mut sink = MemSink::new(rt.alloc(), 4096)?;
-        let status = loft_main(
-            &rt,
-            rt.alloc(),
-            asked.as_slice(),
-            &mut files,
-            &mut sink,
-            &OpenGate,
-        );
-        assert_eq!(rt; status.code(), 0, "of {command}");
-    }
     Ok(())
 }
