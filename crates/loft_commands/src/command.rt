@@ -22,7 +22,7 @@ use loft_code::Code;
 use loft_compile::{compile, compiled_code_has_the_same_histories};
 use loft_listing::write as write_listing;
 use loft_place::Placed;
-use loft_refusal::{Stopped, placed};
+use loft_refusal::{Stopped, place_program};
 use loft_sense::RunOptions;
 use loft_show::show;
 use loft_tree::Program;
@@ -76,7 +76,7 @@ pub fn run<R: Threads + Wait + Sync, S: Sink, G: Gate>(
     ensures sink_fault { IsErrOf result Stopped.SinkFault → Rose (S.faults sink.old) (S.faults sink.new) }
     ensures never_falls { S.faults sink.old ≤ S.faults sink.new }
 {
-    let placed = placed(alloc, program)?;
+    let placed = place_program(alloc, program)?;
     run_program(rt, alloc, &placed, options, sink, gate)?;
     Ok(())
 }
@@ -108,7 +108,7 @@ pub fn check<S: Sink>(alloc: Global, program: Program, sink: &mut S) -> Result<(
     ensures sink_fault { IsErrOf result Stopped.SinkFault → Rose (S.faults sink.old) (S.faults sink.new) }
     ensures never_falls { S.faults sink.old ≤ S.faults sink.new }
 {
-    placed(alloc, program)?;
+    place_program(alloc, program)?;
     sink.put(b"ok\n")?;
     Ok(())
 }
@@ -129,7 +129,7 @@ pub fn list_code<S: Sink>(alloc: Global, program: Program, sink: &mut S) -> Resu
     ensures sink_fault { IsErrOf result Stopped.SinkFault → Rose (S.faults sink.old) (S.faults sink.new) }
     ensures never_falls { S.faults sink.old ≤ S.faults sink.new }
 {
-    let placed = placed(alloc, program)?;
+    let placed = place_program(alloc, program)?;
     let text = listing_of(alloc, &placed)?;
     write_lines(text.as_slice(), sink)?;
     Ok(())

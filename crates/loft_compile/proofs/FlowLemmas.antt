@@ -70,7 +70,7 @@ module _ (lines : List Line) where
   reached_in : (here there : Place) (p d : ℕ) → here ≡ there → Reached here p d → Reached there p d
   reached_in here there p d e reached = subst (λ q. Reached q p d) e reached
 
-  -- a target is behind the operation, or a `branch` or `turn` to which a `jump` goes back
+  -- a target is after the operation, or a `branch` or `turn` to which a `jump` goes back
   abbrev pub IsForward : ℕ → Operation → Type 0
   IsForward p (op.Do action) = Unit {0}
   IsForward p (op.Hold k pause) = Unit {0}
@@ -129,7 +129,7 @@ module _ (h : Heads) (lines : List Line) where
   body_entry (Then s rest) p d here has exit = step_entry s p d here (body_lines h rest (p + length (step_lines h s p d here)) d (leads_step h s here)) has
 
 module _ (h : Heads) (slots : List Kind) (lines : List Line) where
-  -- ---- all lines of statements and bodies, where there is a line behind them
+  -- ---- all lines of statements and bodies, where there is a line after them
 
   -- a loop's test at q, its body, and the jump back
   loop_flows : (test : Operation) (body : Body) (q d : ℕ) (here : Place) → IsTrue (test_in (Some (line here d test))) → slice_get lines q ≡ Some (line here d test)
@@ -226,7 +226,7 @@ module _ (h : Heads) (slots : List Kind) (lines : List Line) where
 -- ---- the lines of a module
 
 module _ (h : Heads) (b : Body) (begin : Place) where
-  -- a body at operation 0, and the `end` behind it
+  -- a body at operation 0, and the `end` after it
   abbrev pub body_and_end : List Line
   body_and_end = body_lines h b 0 0 begin ++ line (leads h b begin) 0 op.End ∷ []
 

@@ -23,7 +23,7 @@ within_some [] k within = absurd (omega arith)
 within_some (x ∷ xs) zero within = (x, refl)
 within_some (x ∷ xs) (suc k) within = within_some xs k (omega arith)
 
--- operations stand behind others
+-- operations stand after others
 has_all : (ls front : List Line) → HasAt (front ++ ls) (length front) ls
 has_all [] front = tt
 has_all (l ∷ ls) front =

@@ -1,4 +1,4 @@
--- Lines as they are written: a body behind an operation whose target is set once the body stands.
+-- Lines as they are written: a body after an operation whose target is set once the body stands.
 use Rattle.std.proofs.Common.{◌≡◌, ℕ, zero, suc, ◌+◌, ◌==◌, true, false, List, [], ◌∷◌, ◌++◌, length, map, Some, slice_get, refl, sym, ap, ◌∙◌, arith, append_assoc, length-append}
 use Rattle.std.specs.Prelude.{slice_set}
 use Rattle.std.proofs.lemmas.List.{length-map}
@@ -34,15 +34,15 @@ target_set (x ∷ ls) zero n l o at is =
     ap (λ (p : Operation). line l.place l.depth p ∷ map line_of ls) is ∙ ap (λ (y : CodeLine). line_with_target n (line_of y) ∷ map line_of ls) (sym same)
 target_set (x ∷ ls) (suc k) n l o at is = ap (λ (ys : List Line). line_of x ∷ ys) (target_set ls k n l o at is)
 
--- lines behind one more
-behind_one : (base c : List Line) (l : Line) (p q : ℕ) (code : ℕ → List Line) → p ≡ length base → c ≡ base ++ l ∷ [] → q ≡ length c → c ++ code q ≡ base ++ l ∷ code (p + 1)
-behind_one base c l p q code at e m =
+-- lines after one more
+after_one : (base c : List Line) (l : Line) (p q : ℕ) (code : ℕ → List Line) → p ≡ length base → c ≡ base ++ l ∷ [] → q ≡ length c → c ++ code q ≡ base ++ l ∷ code (p + 1)
+after_one base c l p q code at e m =
     let next : q ≡ p + 1 = omega (arith, m, ap length e, length-append base (l ∷ []), at) in
     ap (λ x. x ++ code q) e ∙ append_assoc base (l ∷ []) (code q) ∙ ap (λ n. base ++ l ∷ code n) next
 
--- the line behind the base is set to another target
-target_behind : (base c : List Line) (l : Line) (rest : List Line) (p n m : ℕ) → p ≡ length base → c ≡ base ++ l ∷ rest → n ≡ m → lines_with_target c p n ≡ base ++ line_with_target m l ∷ rest
-target_behind base c l rest p n m at e same =
+-- the line after the base is set to another target
+target_after : (base c : List Line) (l : Line) (rest : List Line) (p n m : ℕ) → p ≡ length base → c ≡ base ++ l ∷ rest → n ≡ m → lines_with_target c p n ≡ base ++ line_with_target m l ∷ rest
+target_after base c l rest p n m at e same =
     ap (λ x. lines_with_target x p n) e ∙ ap (λ k. lines_with_target (base ++ l ∷ rest) k n) at ∙ target_seam base l rest n ∙ ap (λ k. base ++ line_with_target k l ∷ rest) same
 
 pub if_written : (base c1 c2 c3 : List Line) (p n1 n2 d : ℕ) (here : Place) (e : Exp) (code : ℕ → List Line)
@@ -51,8 +51,8 @@ pub if_written : (base c1 c2 c3 : List Line) (p n1 n2 d : ℕ) (here : Place) (e
 if_written base c1 c2 c3 p n1 n2 d here e code at e1 m1 e2 m2 e3 =
     let x = code (p + 1) in
     let b = line here d (Branch 0 e) in
-    let two : c2 ≡ base ++ b ∷ x = e2 ∙ behind_one base c1 b p n1 code at e1 m1 in
-    e3 ∙ target_behind base c2 b x p n2 (p + 1 + length x) at two (omega (arith, m2, ap length two, length-append base (b ∷ x), at))
+    let two : c2 ≡ base ++ b ∷ x = e2 ∙ after_one base c1 b p n1 code at e1 m1 in
+    e3 ∙ target_after base c2 b x p n2 (p + 1 + length x) at two (omega (arith, m2, ap length two, length-append base (b ∷ x), at))
 
 pub else_written : (base c1 c2 c3 c4 c5 c6 : List Line) (p n1 q n3 n4 n5 d : ℕ) (here there : Place) (e : Exp) (code other : ℕ → List Line)
     → p ≡ length base → c1 ≡ base ++ line here d (Branch 0 e) ∷ [] → n1 ≡ length c1 → c2 ≡ c1 ++ code n1 → q ≡ length c2 → c3 ≡ c2 ++ line there d (Jump 0) ∷ []
@@ -66,19 +66,19 @@ else_written base c1 c2 c3 c4 c5 c6 p n1 q n3 n4 n5 d here there e code other at
     let branch = line here d (Branch t e) in
     let j = line there d (Jump 0) in
     let front = base ++ branch ∷ x in
-    let two : c2 ≡ base ++ b ∷ x = e2 ∙ behind_one base c1 b p n1 code at e1 m1 in
+    let two : c2 ≡ base ++ b ∷ x = e2 ∙ after_one base c1 b p n1 code at e1 m1 in
     let q_is : q ≡ p + 1 + length x = omega (arith, m2, ap length two, length-append base (b ∷ x), at) in
     let three : c3 ≡ base ++ b ∷ (x ++ j ∷ []) = e3 ∙ ap (λ c. c ++ j ∷ []) two ∙ append_assoc base (b ∷ x) (j ∷ []) in
     let n3_is : n3 ≡ t = omega (arith, m3, ap length e3, length-append c2 (j ∷ []), m2, q_is) in
-    let four : c4 ≡ front ++ j ∷ [] = e4 ∙ target_behind base c3 b (x ++ j ∷ []) p n3 t at three n3_is ∙ sym (append_assoc base (branch ∷ x) (j ∷ [])) in
+    let four : c4 ≡ front ++ j ∷ [] = e4 ∙ target_after base c3 b (x ++ j ∷ []) p n3 t at three n3_is ∙ sym (append_assoc base (branch ∷ x) (j ∷ [])) in
     let at_front : q ≡ length front = omega (arith, q_is, length-append base (branch ∷ x), at) in
-    let five : c5 ≡ front ++ j ∷ other (q + 1) = e5 ∙ behind_one front c4 j q n4 other at_front four m4 in
+    let five : c5 ≡ front ++ j ∷ other (q + 1) = e5 ∙ after_one front c4 j q n4 other at_front four m4 in
     let next : q + 1 ≡ t = omega (arith, q_is) in
     let five_at : c5 ≡ front ++ j ∷ y = five ∙ ap (λ n. front ++ j ∷ other n) next in
     let n5_is : n5 ≡ t + length y = omega (arith, m5, ap length five_at, length-append front (j ∷ y), at_front, next) in
-    e6 ∙ target_behind front c5 j y q n5 (t + length y) at_front five_at n5_is ∙ append_assoc base (branch ∷ x) (line there d (Jump (t + length y)) ∷ y)
+    e6 ∙ target_after front c5 j y q n5 (t + length y) at_front five_at n5_is ∙ append_assoc base (branch ∷ x) (line there d (Jump (t + length y)) ∷ y)
 
--- a test behind one more operation, a body, and the jump back
+-- a test after one more operation, a body, and the jump back
 loop_written : (base c0 c1 c2 c3 : List Line) (first test : Line) (p q n1 n2 d : ℕ) (there : Place) (code : ℕ → List Line)
     → p ≡ length base → c0 ≡ base ++ first ∷ [] → q ≡ length c0 → c1 ≡ c0 ++ test ∷ [] → n1 ≡ length c1 → c2 ≡ c1 ++ code n1
     → n2 ≡ length c2 → c3 ≡ lines_with_target (c2 ++ line there d (Jump q) ∷ []) q (n2 + 1)
@@ -88,11 +88,11 @@ loop_written base c0 c1 c2 c3 first test p q n1 n2 d there code at e0 m0 e1 m1 e
     let q_is : q ≡ p + 1 = omega (arith, m0, ap length e0, length-append base (first ∷ []), at) in
     let j = line there d (Jump q) in
     let next : q + 1 ≡ p + 1 + 1 = omega (arith, q_is) in
-    let two : c2 ≡ c0 ++ test ∷ x = e2 ∙ behind_one c0 c1 test q n1 code m0 e1 m1 ∙ ap (λ n. c0 ++ test ∷ code n) next in
+    let two : c2 ≡ c0 ++ test ∷ x = e2 ∙ after_one c0 c1 test q n1 code m0 e1 m1 ∙ ap (λ n. c0 ++ test ∷ code n) next in
     let three : c2 ++ j ∷ [] ≡ c0 ++ test ∷ (x ++ j ∷ []) = ap (λ c. c ++ j ∷ []) two ∙ append_assoc c0 (test ∷ x) (j ∷ []) in
     let past = p + 1 + 1 + length x + 1 in
     let n2_is : n2 + 1 ≡ past = omega (arith, m2, ap length two, length-append c0 (test ∷ x), m0, q_is) in
-    e3 ∙ target_behind c0 (c2 ++ j ∷ []) test (x ++ j ∷ []) q (n2 + 1) past m0 three n2_is ∙ ap (λ c. c ++ line_with_target past test ∷ (x ++ j ∷ [])) e0
+    e3 ∙ target_after c0 (c2 ++ j ∷ []) test (x ++ j ∷ []) q (n2 + 1) past m0 three n2_is ∙ ap (λ c. c ++ line_with_target past test ∷ (x ++ j ∷ [])) e0
     ∙ append_assoc base (first ∷ []) (line_with_target past test ∷ (x ++ j ∷ [])) ∙ ap (λ n. base ++ first ∷ (line_with_target past test ∷ (x ++ line there d (Jump n) ∷ []))) q_is
 
 -- ---- the code of statements with bodies, as it is written

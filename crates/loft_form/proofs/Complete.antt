@@ -5,7 +5,7 @@ use Rattle.loft_form.specs.Form.{Language, Form, leaf, ◌▹◌, ◌∣◌, may
 use Rattle.loft_form.specs.Spells.{Below, Adds, Pays, owing, from_zero, Spelling, SpellsEach, Spells, SpellsRule}
 use Rattle.loft_form.specs.Reading.{◌>>=◌, done, with_first, within, tally, allowed, leaf_at, rule_at, read}
 use Rattle.loft_form.proofs.Progress.{least, many_more, many_done}
-use Rattle.loft_form.proofs.Disjoint.{Told, and_true, or_false, or_true_right, nullable, starts, goes_on, apart, agrees, leading, clear, Fair}
+use Rattle.loft_form.proofs.Disjoint.{Known, and_true, or_false, or_true_right, nullable, starts, goes_on, apart, agrees, leading, clear, Fair}
 
 -- ---- truth values
 
@@ -86,7 +86,7 @@ module _ {L : Language} where
 
 -- ---- the first symbol
 
-module _ {L : Language} (R : Told L) where
+module _ {L : Language} (R : Known L) where
   leading_takes : {a : Type 0} (f : Form L a) → leading f ≡ true → nullable R f ≡ false
   leading_takes (leaf test value opens) h = refl
   leading_takes (f ▹ g) h = rw (leading_takes f h) refl
@@ -162,7 +162,7 @@ module _ {L : Language} (R : Told L) where
 
 -- ---- what is spelled is read
 
-module _ {L : Language} (G : Grammar L) (R : Told L) (fair : Fair G R) (lim : Limits L) where
+module _ {L : Language} (G : Grammar L) (R : Known L) (fair : Fair G R) (lim : Limits L) where
   of_agrees : (p q : L.Kind → Bool) → agrees R p q ≡ true → (k : L.Kind) → (not (p k) || q k) ≡ true
   of_agrees p q e k = fair.all_kinds (λ j. not (p j) || q j) e k
 

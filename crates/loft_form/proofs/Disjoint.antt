@@ -4,7 +4,7 @@ use Rattle.loft_form.specs.Form.{Language, Form, leaf, ◌▹◌, ◌∣◌, may
 
 -- What is stated of the rules inside: that they may take nothing, which symbols may be their first, and which may go on with them.
 -- All kinds of symbols stand in a list.
-pub record Told (L : Language) : Type 0 where
+pub record Known (L : Language) : Type 0 where
   pub may_be_empty : L.Rule → Bool
   pub may_start : L.Rule → L.Kind → Bool
   pub may_go_on : L.Rule → L.Kind → Bool
@@ -38,7 +38,7 @@ leading (counted w f) = leading f
 leading (fresh w f) = leading f
 leading (made h f) = leading f
 
-module _ {L : Language} (R : Told L) where
+module _ {L : Language} (R : Known L) where
   -- the form may take no symbol
   abbrev pub nullable : {a : Type 0} → Form L a → Bool
   nullable (leaf test value opens) = false
@@ -96,7 +96,7 @@ module _ {L : Language} (R : Told L) where
   clear (made h f) = clear f
 
 -- what is stated is true of the grammar, whose rules are clear
-pub record Fair {L : Language} (G : Grammar L) (R : Told L) : Type 0 where
+pub record Fair {L : Language} (G : Grammar L) (R : Known L) : Type 0 where
   pub all_kinds : (p : L.Kind → Bool) → every p R.kinds ≡ true → (k : L.Kind) → p k ≡ true
   pub rule_clear : (r : L.Rule) → clear R (G r) ≡ true
   pub rule_empty : (r : L.Rule) → nullable R (G r) ≡ true → R.may_be_empty r ≡ true

@@ -7,22 +7,22 @@ use Rattle.loft_form.specs.declared.fault.Fault.TheVariants.{Expected, TooDeep, 
 use Rattle.loft_form.specs.Form.{Language, Form, Grammar, Limits, State}
 use Rattle.loft_form.specs.Reading.{Read, read, with_rest, all_of}
 use Rattle.loft_form.specs.Faults.{unlimited, SpellsWhole, StopsWhole, HasFault, left_of, rank_of, Precedes, IsFaultOf}
-use Rattle.loft_form.proofs.Disjoint.{Told}
+use Rattle.loft_form.proofs.Disjoint.{Known}
 use Rattle.loft_form.proofs.Checked.{Checked}
-use Rattle.loft_form.proofs.Raised.{freed, Deeper, Later, Keeps, read_keeps, Behind, Moves, Raised, raised_read}
+use Rattle.loft_form.proofs.Raised.{freed, Deeper, Later, Keeps, read_keeps, IsAfter, Moves, Raised, raised_read}
 use Rattle.loft_form.proofs.Whole.{whole_found, spelled_whole, whole_stops, stopped_whole}
 
 -- ---- raised limits, for all of the symbols
 
 -- a fault, if there is one, after the symbol from which on k are left
-abbrev AllBehind : {A : Type 0} → Bool → ℕ → Result A Fault → Type 0
-AllBehind free k (Ok x) = Unit {0}
-AllBehind free k (Err (Expected j)) = j < k
-AllBehind free k (Err (TooDeep j)) = j < k
-AllBehind free k (Err (TooMany j limit)) = Later free k j
+abbrev AllAfter : {A : Type 0} → Bool → ℕ → Result A Fault → Type 0
+AllAfter free k (Ok x) = Unit {0}
+AllAfter free k (Err (Expected j)) = j < k
+AllAfter free k (Err (TooDeep j)) = j < k
+AllAfter free k (Err (TooMany j limit)) = Later free k j
 
 abbrev AllMoves : {A : Type 0} → Bool → Bool → Fault → Result A Fault → Type 0
-AllMoves true free e s = AllBehind free (left_of e) s
+AllMoves true free e s = AllAfter free (left_of e) s
 AllMoves false free e s = s ≡ Err e
 
 abbrev AllRaised : {A : Type 0} → Bool → Bool → Result A Fault → Result A Fault → Type 0
@@ -32,18 +32,18 @@ AllRaised deeper free (Err (TooDeep k)) s = AllMoves deeper free (TooDeep k) s
 AllRaised deeper free (Err (TooMany k limit)) s = AllMoves free free (TooMany k limit) s
 
 module _ (deeper free : Bool) where
-  rest_behind : {A S : Type 0} (x : A) (rest : List S) (k : ℕ) → length rest < k → AllBehind free k (with_rest x rest)
-  rest_behind x [] k h = tt
-  rest_behind x (s ∷ rest) k h = h
+  rest_after : {A S : Type 0} (x : A) (rest : List S) (k : ℕ) → length rest < k → AllAfter free k (with_rest x rest)
+  rest_after x [] k h = tt
+  rest_after x (s ∷ rest) k h = h
 
-  all_behind : {L : Language} {A : Type 0} (k : ℕ) (s : Read L A) → Behind free k s → AllBehind free k (all_of s)
-  all_behind k (Ok x) h = rest_behind x.0 x.1.rest k h
-  all_behind k (Err (Expected j)) h = h
-  all_behind k (Err (TooDeep j)) h = h
-  all_behind k (Err (TooMany j limit)) h = h
+  all_after : {L : Language} {A : Type 0} (k : ℕ) (s : Read L A) → IsAfter free k s → AllAfter free k (all_of s)
+  all_after k (Ok x) h = rest_after x.0 x.1.rest k h
+  all_after k (Err (Expected j)) h = h
+  all_after k (Err (TooDeep j)) h = h
+  all_after k (Err (TooMany j limit)) h = h
 
   all_moves : {L : Language} {A : Type 0} (b : Bool) (e : Fault) (s : Read L A) → Moves b free e s → AllMoves b free e (all_of s)
-  all_moves true e s h = all_behind (left_of e) s h
+  all_moves true e s h = all_after (left_of e) s h
   all_moves false e s h = ap all_of h
 
   same_rest : {A S : Type 0} (x : A) (rest : List S) (s : Result A Fault) → s ≡ with_rest x rest → AllRaised deeper free (with_rest x rest) s
@@ -87,22 +87,22 @@ beside_later false j i limit h = go (eq-or-lt_of_le h)
     go (inl p) = inr (p, omega arith)
     go (inr p) = inl p
 
-behind_deep : {A : Type 0} (free : Bool) (j : ℕ) (s : Result A Fault) (d : Fault) → AllBehind free j s → s ≡ Err d → Precedes (TooDeep j) d
-behind_deep free j s (Expected i) h e = inl (subst (AllBehind free j) e h)
-behind_deep free j s (TooDeep i) h e = inl (subst (AllBehind free j) e h)
-behind_deep free j s (TooMany i limit) h e = beside_later free j i limit (subst (AllBehind free j) e h)
+after_deep : {A : Type 0} (free : Bool) (j : ℕ) (s : Result A Fault) (d : Fault) → AllAfter free j s → s ≡ Err d → Precedes (TooDeep j) d
+after_deep free j s (Expected i) h e = inl (subst (AllAfter free j) e h)
+after_deep free j s (TooDeep i) h e = inl (subst (AllAfter free j) e h)
+after_deep free j s (TooMany i limit) h e = beside_later free j i limit (subst (AllAfter free j) e h)
 
-behind_many : {A : Type 0} (j most : ℕ) (s : Result A Fault) (d : Fault) → AllBehind true j s → s ≡ Err d → Precedes (TooMany j most) d
-behind_many j most s (Expected i) h e = inl (subst (AllBehind true j) e h)
-behind_many j most s (TooDeep i) h e = inl (subst (AllBehind true j) e h)
-behind_many j most s (TooMany i limit) h e = inl (subst (AllBehind true j) e h)
+after_many : {A : Type 0} (j most : ℕ) (s : Result A Fault) (d : Fault) → AllAfter true j s → s ≡ Err d → Precedes (TooMany j most) d
+after_many j most s (Expected i) h e = inl (subst (AllAfter true j) e h)
+after_many j most s (TooDeep i) h e = inl (subst (AllAfter true j) e h)
+after_many j most s (TooMany i limit) h e = inl (subst (AllAfter true j) e h)
 
 beside_raised : {A : Type 0} (deeper free : Bool) (r s : Result A Fault) (d : Fault) → AllRaised deeper free r s → s ≡ Err d → Beside r d
 beside_raised deeper free (Ok x) s d h e = (let k = sym h ∙ e in cc)
 beside_raised deeper free (Err (Expected j)) s d h e = inl (same_fault s d (Expected j) h e)
-beside_raised true free (Err (TooDeep j)) s d h e = inr (behind_deep free j s d h e)
+beside_raised true free (Err (TooDeep j)) s d h e = inr (after_deep free j s d h e)
 beside_raised false free (Err (TooDeep j)) s d h e = inl (same_fault s d (TooDeep j) h e)
-beside_raised deeper true (Err (TooMany j limit)) s d h e = inr (behind_many j limit s d h e)
+beside_raised deeper true (Err (TooMany j limit)) s d h e = inr (after_many j limit s d h e)
 beside_raised deeper false (Err (TooMany j limit)) s d h e = inl (same_fault s d (TooMany j limit) h e)
 
 beside_same : {A : Type 0} (r : Result A Fault) (d : Fault) → r ≡ Err d → Beside r d
@@ -120,7 +120,7 @@ stays (Expected j) t s h = h
 stays (TooDeep j) t s h = absurd t
 stays (TooMany j limit) t s h = h
 
-module _ {L : Language} {a : Type 0} {G : Grammar L} {R : Told L} {f : Form L a} (checked : Checked G R f) (lim : Limits L) (n : ℕ) (ss : List L.Symbol) (c : State L) where
+module _ {L : Language} {a : Type 0} {G : Grammar L} {R : Known L} {f : Form L a} (checked : Checked G R f) (lim : Limits L) (n : ℕ) (ss : List L.Symbol) (c : State L) where
   -- reading all of them
   abbrev Reads : Limits L → ℕ → Result a Fault
   Reads lim' m = all_of (read G lim' m f ss c)
@@ -214,7 +214,7 @@ module _ {L : Language} {a : Type 0} {G : Grammar L} {R : Told L} {f : Form L a}
 
 -- ---- a limit is passed before the symbols stop to be of the form
 
-module _ {L : Language} {a : Type 0} {G : Grammar L} {R : Told L} {f : Form L a} (checked : Checked G R f) (lim : Limits L) (n : ℕ) (ss : List L.Symbol) (c : State L) where
+module _ {L : Language} {a : Type 0} {G : Grammar L} {R : Known L} {f : Form L a} (checked : Checked G R f) (lim : Limits L) (n : ℕ) (ss : List L.Symbol) (c : State L) where
   passed_before : (e : Fault) (k : ℕ) → 0 < rank_of e → (Expected k ≡ e) ⊎ Precedes e (Expected k) → k < left_of e
   passed_before e k r (inl p) = absurd (let h = ap rank_of p in omega arith)
   passed_before e k r (inr (inl p)) = p

@@ -6,7 +6,7 @@ use Rattle.loft_form.specs.Form.{Language, Form, leaf, ◌▹◌, ◌∣◌, may
 use Rattle.loft_form.specs.Spells.{owing, from_zero}
 use Rattle.loft_form.specs.Reading.{Place, Read, ◌>>=◌, with_first, allowed, leaf_at, repeat, rule_at, read, with_rest, all_of}
 use Rattle.loft_form.specs.Faults.{unlimited, SpellsWhole, StopsWhole}
-use Rattle.loft_form.proofs.Disjoint.{Told, and_true}
+use Rattle.loft_form.proofs.Disjoint.{Known, and_true}
 use Rattle.loft_form.proofs.Progress.{least, eaten}
 use Rattle.loft_form.proofs.Guarded.{opens_of, guarded, or_cases}
 use Rattle.loft_form.proofs.Checked.{Checked}
@@ -116,7 +116,7 @@ all_free (Err (TooDeep k)) h = absurd h
 all_free (Err (TooMany k limit)) h = absurd h
 
 -- Where nothing is limited the symbols spell a value, or stop with Expected, with as many nestings as there are symbols.
-pub enough : {L : Language} {a : Type 0} {G : Grammar L} {R : Told L} {f : Form L a} → Checked G R f → (n : ℕ) (ss : List L.Symbol) (c : State L) → length ss ≤ n
+pub enough : {L : Language} {a : Type 0} {G : Grammar L} {R : Known L} {f : Form L a} → Checked G R f → (n : ℕ) (ss : List L.Symbol) (c : State L) → length ss ≤ n
     → ((x : a) × SpellsWhole G unlimited n f ss c x) ⊎ ((k : ℕ) × StopsWhole G unlimited n f ss c (Expected k))
 enough {L} {a} {G} {R} {f} checked n ss c short = go (all_free (read G unlimited n f ss c) (free G checked.rules_guarded n (free_rule G checked.rules_guarded n) f false checked.form_guarded ss c short (λ e. absurd cc)))
   where
@@ -126,7 +126,7 @@ enough {L} {a} {G} {R} {f} checked n ss c short = go (all_free (read G unlimited
 
 -- ---- one answer without limits
 
-module _ {L : Language} {a : Type 0} {G : Grammar L} {R : Told L} {f : Form L a} (checked : Checked G R f) (ss : List L.Symbol) (c : State L) where
+module _ {L : Language} {a : Type 0} {G : Grammar L} {R : Known L} {f : Form L a} (checked : Checked G R f) (ss : List L.Symbol) (c : State L) where
   -- reading all of the symbols, where nothing is limited but nestings
   abbrev Reads : ℕ → Result a Fault
   Reads m = all_of (read G unlimited m f ss c)

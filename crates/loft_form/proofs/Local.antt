@@ -9,7 +9,7 @@ use Rattle.loft_form.specs.Spells.{owing, from_zero}
 use Rattle.loft_form.specs.Reading.{Place, Read, ◌>>=◌, done, with_first, within, tally, paid, allowed, leaf_at, repeat, rule_at, read, with_rest, all_of}
 use Rattle.loft_form.specs.Faults.{IsFaultOf, left_of}
 use Rattle.loft_form.proofs.Progress.{Leaves, weaker, least, read_leaves}
-use Rattle.loft_form.proofs.Disjoint.{Told, Fair, and_true, clear}
+use Rattle.loft_form.proofs.Disjoint.{Known, Fair, and_true, clear}
 use Rattle.loft_form.proofs.Complete.{leading_least}
 use Rattle.loft_form.proofs.Checked.{Checked}
 use Rattle.loft_form.proofs.Raised.{counting, Keeps, keeps_made, keeps_first, keeps_repeat, read_keeps}
@@ -41,22 +41,22 @@ elsewhere lim left left' [] c = refl
 elsewhere {L} lim left left' (w ∷ ws) c = elsewhere_within left left' (L.number w c) (lim.most w) (tally lim left ws (L.more w c)) (tally lim left' ws (L.more w c)) (elsewhere lim left left' ws (L.more w c))
 
 -- two lists that are the same up to and with a symbol, at, and have other symbols after it
-module _ (L : Language) (at : L.Symbol) (behind behind' : List L.Symbol) where
+module _ (L : Language) (at : L.Symbol) (suffix suffix' : List L.Symbol) where
   abbrev one : List L.Symbol → List L.Symbol
-  one front = front ++ at ∷ behind
+  one front = front ++ at ∷ suffix
 
   abbrev two : List L.Symbol → List L.Symbol
-  two front = front ++ at ∷ behind'
+  two front = front ++ at ∷ suffix'
 
   abbrev place : List L.Symbol → State L → Place L
   place ss c = record { rest = ss; state = c }
 
   -- where the first answer is of symbols up to that one, the second is the same
   abbrev Same : {A : Type 0} → Read L A → Read L A → Type 0
-  Same (Ok x) s = length behind < length x.1.rest → (front : List L.Symbol) × (x.1.rest ≡ one front) × (s ≡ Ok (x.0, place (two front) x.1.state))
-  Same (Err e) s = length behind < left_of e → s ≡ Err (moved (length behind) (length behind') e)
+  Same (Ok x) s = length suffix < length x.1.rest → (front : List L.Symbol) × (x.1.rest ≡ one front) × (s ≡ Ok (x.0, place (two front) x.1.state))
+  Same (Err e) s = length suffix < left_of e → s ≡ Err (moved (length suffix) (length suffix') e)
 
-  same_short : {A : Type 0} (r s : Read L A) (len : ℕ) → len ≤ length behind → Keeps len r → Same r s
+  same_short : {A : Type 0} (r s : Read L A) (len : ℕ) → len ≤ length suffix → Keeps len r → Same r s
   same_short (Ok x) s len short h = λ l. absurd (omega arith)
   same_short (Err e) s len short h = λ l. absurd (omega arith)
 
@@ -64,7 +64,7 @@ module _ (L : Language) (at : L.Symbol) (behind behind' : List L.Symbol) where
       → ((x : A) (front : List L.Symbol) (d : State L) → r ≡ Ok (x, place (one front) d) → s ≡ Ok (x, place (two front) d) → Same (f (x, place (one front) d)) (g (x, place (two front) d)))
       → ((x : A × Place L) → Keeps (length x.1.rest) (f x)) → Same (r >>= f) (s >>= g)
   same_bind (Err e) s f g h p q = λ l. ap (λ t. t >>= g) (h l)
-  same_bind (Ok x) s f g h p q = go (cases_lt (length behind) (length x.1.rest))
+  same_bind (Ok x) s f g h p q = go (cases_lt (length suffix) (length x.1.rest))
     where
       long : (front : List L.Symbol) × (x.1.rest ≡ one front) × (s ≡ Ok (x.0, place (two front) x.1.state)) → Same (f x) (s >>= g)
       long (front, e, k) =
@@ -73,7 +73,7 @@ module _ (L : Language) (at : L.Symbol) (behind behind' : List L.Symbol) where
           subst (λ t. Same (f (x.0, place t x.1.state)) (s >>= g)) (sym e)
           (subst (λ t. Same (f (x.0, place (one front) x.1.state)) (t >>= g)) (sym k) at_front)
 
-      go : (length behind < length x.1.rest) ⊎ (length x.1.rest ≤ length behind) → Same (f x) (s >>= g)
+      go : (length suffix < length x.1.rest) ⊎ (length x.1.rest ≤ length suffix) → Same (f x) (s >>= g)
       go (inl l) = long (h l)
       go (inr l) = same_short (f x) (s >>= g) (length x.1.rest) l (q x)
 
@@ -91,30 +91,30 @@ module _ (L : Language) (at : L.Symbol) (behind behind' : List L.Symbol) where
   same_first x (Ok y) s h = λ l. let p = h l in (p.0, p.1, ap (with_first x) p.2)
   same_first x (Err e) s h = λ l. ap (with_first x) (h l)
 
-  long_one : (front : List L.Symbol) → length (one front) ≡ suc (length front + length behind)
-  long_one front = omega (arith, length-append front (at ∷ behind))
+  long_one : (front : List L.Symbol) → length (one front) ≡ suc (length front + length suffix)
+  long_one front = omega (arith, length-append front (at ∷ suffix))
 
-  long_two : (front : List L.Symbol) → length (two front) ≡ suc (length front + length behind')
-  long_two front = omega (arith, length-append front (at ∷ behind'))
+  long_two : (front : List L.Symbol) → length (two front) ≡ suc (length front + length suffix')
+  long_two front = omega (arith, length-append front (at ∷ suffix'))
 
   -- ---- a single symbol
 
-  same_counted : {A : Type 0} (x : A) (rest rest' : List L.Symbol) (left left' : ℕ) (r s : Result L.Counts Fault) → left' ≡ left - length behind + length behind'
+  same_counted : {A : Type 0} (x : A) (rest rest' : List L.Symbol) (left left' : ℕ) (r s : Result L.Counts Fault) → left' ≡ left - length suffix + length suffix'
       → ((d : State L) → Same (done x rest d) (done x rest' d)) → Elsewhere left left' r s → Same (counting L x rest r) (counting L x rest' s)
   same_counted x rest rest' left left' (Ok d) s e p h = subst (λ t. Same (done x rest (paid d)) (counting L x rest' t)) (sym h) (p (paid d))
   same_counted x rest rest' left left' (Err (Expected k)) s e p h = absurd h
   same_counted x rest rest' left left' (Err (TooDeep k)) s e p h = absurd h
   same_counted x rest rest' left left' (Err (TooMany k limit)) s e p h = λ l.
-      let place : left' ≡ k - length behind + length behind' = e ∙ ap (λ j. j - length behind + length behind') (sym h.0) in
+      let place : left' ≡ k - length suffix + length suffix' = e ∙ ap (λ j. j - length suffix + length suffix') (sym h.0) in
       ap (counting L x rest') h.1 ∙ ap (λ j. Err (TooMany j limit)) place
 
-  same_allowed : {A : Type 0} (lim : Limits L) (x : A) (b : Bool) (rest rest' : List L.Symbol) (c : State L) → length rest' + 1 ≡ length rest + 1 - length behind + length behind'
+  same_allowed : {A : Type 0} (lim : Limits L) (x : A) (b : Bool) (rest rest' : List L.Symbol) (c : State L) → length rest' + 1 ≡ length rest + 1 - length suffix + length suffix'
       → ((d : State L) → Same (done x rest d) (done x rest' d)) → Same (allowed lim x b rest c) (allowed lim x b rest' c)
   same_allowed lim x true rest rest' c e p = λ l. ap (λ j. Err (TooDeep j)) e
   same_allowed lim x false rest rest' c e p =
       same_counted x rest rest' (length rest + 1) (length rest' + 1) (tally lim (length rest + 1) c.due c.counts) (tally lim (length rest' + 1) c.due c.counts) e p (elsewhere lim (length rest + 1) (length rest' + 1) c.due c.counts)
 
-  same_symbol : {A : Type 0} (lim : Limits L) (b : Bool) (test : L.Kind → Bool) (value : L.Symbol → A) (t : L.Symbol) (rest rest' : List L.Symbol) (c : State L) → length rest' + 1 ≡ length rest + 1 - length behind + length behind'
+  same_symbol : {A : Type 0} (lim : Limits L) (b : Bool) (test : L.Kind → Bool) (value : L.Symbol → A) (t : L.Symbol) (rest rest' : List L.Symbol) (c : State L) → length rest' + 1 ≡ length rest + 1 - length suffix + length suffix'
       → ((d : State L) → Same (done (value t) rest d) (done (value t) rest' d)) → Same (leaf_at lim b test value (t ∷ rest) c) (leaf_at lim b test value (t ∷ rest') c)
   unfolding leaf_at
   same_symbol lim b test value t rest rest' c e p =
@@ -122,7 +122,7 @@ module _ (L : Language) (at : L.Symbol) (behind behind' : List L.Symbol) where
       (same_allowed lim (value t) b rest rest' c e p) (λ l. ap (λ j. Err (Expected j)) e)
 
   same_leaf : {A : Type 0} (lim : Limits L) (b : Bool) (test : L.Kind → Bool) (value : L.Symbol → A) (front : List L.Symbol) (c : State L) → Same (leaf_at lim b test value (one front) c) (leaf_at lim b test value (two front) c)
-  same_leaf lim b test value [] c = same_symbol lim b test value at behind behind' c (omega arith) (λ d l. absurd (omega arith))
+  same_leaf lim b test value [] c = same_symbol lim b test value at suffix suffix' c (omega arith) (λ d l. absurd (omega arith))
   same_leaf lim b test value (t ∷ front) c = same_symbol lim b test value t (one front) (two front) c (omega (arith, long_one front, long_two front)) (λ d. same_done (value t) front d)
 
   -- ---- a repetition
@@ -153,7 +153,7 @@ module _ (L : Language) (at : L.Symbol) (behind behind' : List L.Symbol) where
 
   -- ---- every form
 
-  module _ (G : Grammar L) (R : Told L) (fair : Fair G R) (lim : Limits L) where
+  module _ (G : Grammar L) (R : Known L) (fair : Fair G R) (lim : Limits L) where
     module _ (n : ℕ) (same_rule : (r : L.Rule) (front : List L.Symbol) (c : State L) → Same (rule_at G lim n r (one front) c) (rule_at G lim n r (two front) c)) where
       same : {a : Type 0} (f : Form L a) → clear R f ≡ true → (front : List L.Symbol) (c : State L) → Same (read G lim n f (one front) c) (read G lim n f (two front) c)
       same (leaf test value opens) cl front c = same_leaf lim (opens && n == 0) test value front c
@@ -187,9 +187,9 @@ module _ (L : Language) (at : L.Symbol) (behind behind' : List L.Symbol) where
   -- where all of them are read
   AllSame : {A : Type 0} → Result A Fault → Result A Fault → Type 0
   AllSame (Ok x) s = Unit {0}
-  AllSame (Err e) s = length behind < left_of e → s ≡ Err (moved (length behind) (length behind') e)
+  AllSame (Err e) s = length suffix < left_of e → s ≡ Err (moved (length suffix) (length suffix') e)
 
-  rest_long : {A : Type 0} (x : A) (front : List L.Symbol) → with_rest x (two front) ≡ Err (Expected (length (one front) - length behind + length behind'))
+  rest_long : {A : Type 0} (x : A) (front : List L.Symbol) → with_rest x (two front) ≡ Err (Expected (length (one front) - length suffix + length suffix'))
   rest_long x [] = ap (λ j. Err (Expected j)) (omega arith)
   rest_long x (t ∷ front) = ap (λ j. Err (Expected j)) (omega (arith, long_one front, long_two front))
 
@@ -200,16 +200,16 @@ module _ (L : Language) (at : L.Symbol) (behind behind' : List L.Symbol) where
       go : (rest : List L.Symbol) → x.1.rest ≡ rest → AllSame (with_rest x.0 rest) (all_of s)
       go [] e = tt
       go (t ∷ rest) e = λ l. let p = h (let k = ap length e in omega arith) in
-          ap all_of p.2 ∙ rest_long x.0 p.0 ∙ ap (λ zs. Err (Expected (length zs - length behind + length behind'))) (sym p.1 ∙ e)
+          ap all_of p.2 ∙ rest_long x.0 p.0 ∙ ap (λ zs. Err (Expected (length zs - length suffix + length suffix'))) (sym p.1 ∙ e)
   all_same (Err e) s h = λ l. ap all_of (h l)
 
-module _ {L : Language} {a : Type 0} {G : Grammar L} {R : Told L} {f : Form L a} (checked : Checked G R f) (lim : Limits L) (n : ℕ) (front : List L.Symbol) (at : L.Symbol) (behind behind' : List L.Symbol) (c : State L) (e : Fault) where
-  read_whatever : all_of (read G lim n f (front ++ at ∷ behind) c) ≡ Err e → length behind < left_of e → all_of (read G lim n f (front ++ at ∷ behind') c) ≡ Err (moved (length behind) (length behind') e)
+module _ {L : Language} {a : Type 0} {G : Grammar L} {R : Known L} {f : Form L a} (checked : Checked G R f) (lim : Limits L) (n : ℕ) (front : List L.Symbol) (at : L.Symbol) (suffix suffix' : List L.Symbol) (c : State L) (e : Fault) where
+  read_whatever : all_of (read G lim n f (front ++ at ∷ suffix) c) ≡ Err e → length suffix < left_of e → all_of (read G lim n f (front ++ at ∷ suffix') c) ≡ Err (moved (length suffix) (length suffix') e)
   unfolding AllSame
   read_whatever h l =
-      let p = all_same L at behind behind' (read G lim n f (front ++ at ∷ behind) c) (read G lim n f (front ++ at ∷ behind') c) (same L at behind behind' G R checked.fair lim n (same_rule L at behind behind' G R checked.fair lim n) f checked.form_clear front c) in
-      (subst (λ r. AllSame L at behind behind' r (all_of (read G lim n f (front ++ at ∷ behind') c))) h p) l
+      let p = all_same L at suffix suffix' (read G lim n f (front ++ at ∷ suffix) c) (read G lim n f (front ++ at ∷ suffix') c) (same L at suffix suffix' G R checked.fair lim n (same_rule L at suffix suffix' G R checked.fair lim n) f checked.form_clear front c) in
+      (subst (λ r. AllSame L at suffix suffix' r (all_of (read G lim n f (front ++ at ∷ suffix') c))) h p) l
 
   -- A fault at a symbol or before it stays, whatever comes after the symbol.
-  pub fault_whatever : IsFaultOf G lim n f (front ++ at ∷ behind) c e → length behind < left_of e → IsFaultOf G lim n f (front ++ at ∷ behind') c (moved (length behind) (length behind') e)
-  fault_whatever h l = fault checked lim n (front ++ at ∷ behind') c (moved (length behind) (length behind') e) (read_whatever (only_fault checked lim n (front ++ at ∷ behind) c e h) l)
+  pub fault_whatever : IsFaultOf G lim n f (front ++ at ∷ suffix) c e → length suffix < left_of e → IsFaultOf G lim n f (front ++ at ∷ suffix') c (moved (length suffix) (length suffix') e)
+  fault_whatever h l = fault checked lim n (front ++ at ∷ suffix') c (moved (length suffix) (length suffix') e) (read_whatever (only_fault checked lim n (front ++ at ∷ suffix) c e h) l)

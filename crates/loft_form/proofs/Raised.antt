@@ -149,15 +149,15 @@ Later true k j = j < k
 Later false k j = j ≤ k
 
 -- an answer after the symbol from which on k are left; one more than a count allows may be that symbol itself, where counts are limited
-abbrev pub Behind : {L : Language} {A : Type 0} → Bool → ℕ → Read L A → Type 0
-Behind free k (Ok x) = length x.1.rest < k
-Behind free k (Err (Expected j)) = j < k
-Behind free k (Err (TooDeep j)) = j < k
-Behind free k (Err (TooMany j limit)) = Later free k j
+abbrev pub IsAfter : {L : Language} {A : Type 0} → Bool → ℕ → Read L A → Type 0
+IsAfter free k (Ok x) = length x.1.rest < k
+IsAfter free k (Err (Expected j)) = j < k
+IsAfter free k (Err (TooDeep j)) = j < k
+IsAfter free k (Err (TooMany j limit)) = Later free k j
 
 -- a fault whose limit is raised moves to a symbol after its own; else it stays
 abbrev pub Moves : {L : Language} {A : Type 0} → Bool → Bool → Fault → Read L A → Type 0
-Moves true free e s = Behind free (left_of e) s
+Moves true free e s = IsAfter free (left_of e) s
 Moves false free e s = s ≡ Err e
 
 -- what an answer becomes where more nestings may be opened, or counts are free of limits
@@ -168,24 +168,24 @@ Raised deeper free (Err (TooDeep k)) s = Moves deeper free (TooDeep k) s
 Raised deeper free (Err (TooMany k limit)) s = Moves free free (TooMany k limit) s
 
 module _ {L : Language} (deeper free : Bool) where
-  behind_of : {A : Type 0} (s : Read L A) (len k : ℕ) → len < k → Keeps len s → Behind free k s
-  behind_of (Ok y) len k l h = omega arith
-  behind_of (Err (Expected j)) len k l h = omega arith
-  behind_of (Err (TooDeep j)) len k l h = omega arith
-  behind_of (Err (TooMany j limit)) len k l h = later free
+  after_of : {A : Type 0} (s : Read L A) (len k : ℕ) → len < k → Keeps len s → IsAfter free k s
+  after_of (Ok y) len k l h = omega arith
+  after_of (Err (Expected j)) len k l h = omega arith
+  after_of (Err (TooDeep j)) len k l h = omega arith
+  after_of (Err (TooMany j limit)) len k l h = later free
     where
       later : (b : Bool) → Later b k j
       later true = omega arith
       later false = omega arith
 
-  behind_bind : {A B : Type 0} (k : ℕ) (r : Read L A) (f : A × Place L → Read L B) → Behind free k r → ((x : A × Place L) → Keeps (length x.1.rest) (f x)) → Behind free k (r >>= f)
-  behind_bind k (Ok x) f p q = behind_of (f x) (length x.1.rest) k p (q x)
-  behind_bind k (Err (Expected j)) f p q = p
-  behind_bind k (Err (TooDeep j)) f p q = p
-  behind_bind k (Err (TooMany j limit)) f p q = p
+  after_bind : {A B : Type 0} (k : ℕ) (r : Read L A) (f : A × Place L → Read L B) → IsAfter free k r → ((x : A × Place L) → Keeps (length x.1.rest) (f x)) → IsAfter free k (r >>= f)
+  after_bind k (Ok x) f p q = after_of (f x) (length x.1.rest) k p (q x)
+  after_bind k (Err (Expected j)) f p q = p
+  after_bind k (Err (TooDeep j)) f p q = p
+  after_bind k (Err (TooMany j limit)) f p q = p
 
   moves_bind : {A B : Type 0} (b : Bool) (e : Fault) (s : Read L A) (g : A × Place L → Read L B) → Moves b free e s → ((x : A × Place L) → Keeps (length x.1.rest) (g x)) → Moves b free e (s >>= g)
-  moves_bind true e s g h q = behind_bind (left_of e) s g h q
+  moves_bind true e s g h q = after_bind (left_of e) s g h q
   moves_bind false e s g h q = ap (λ t. t >>= g) h
 
   raised_bind : {A B : Type 0} (r s : Read L A) (f g : A × Place L → Read L B) → Raised deeper free r s → ((x : A × Place L) → r ≡ Ok x → Raised deeper free (f x) (g x)) → ((x : A × Place L) → Keeps (length x.1.rest) (g x))
@@ -202,14 +202,14 @@ module _ {L : Language} (deeper free : Bool) where
   raised_cond true x y x' y' p q = p
   raised_cond false x y x' y' p q = q
 
-  behind_first : {A : Type 0} (x : A) (k : ℕ) (s : Read L (List A)) → Behind free k s → Behind free k (with_first x s)
-  behind_first x k (Ok y) p = p
-  behind_first x k (Err (Expected j)) p = p
-  behind_first x k (Err (TooDeep j)) p = p
-  behind_first x k (Err (TooMany j limit)) p = p
+  after_first : {A : Type 0} (x : A) (k : ℕ) (s : Read L (List A)) → IsAfter free k s → IsAfter free k (with_first x s)
+  after_first x k (Ok y) p = p
+  after_first x k (Err (Expected j)) p = p
+  after_first x k (Err (TooDeep j)) p = p
+  after_first x k (Err (TooMany j limit)) p = p
 
   moves_first : {A : Type 0} (x : A) (b : Bool) (e : Fault) (s : Read L (List A)) → Moves b free e s → Moves b free e (with_first x s)
-  moves_first x true e s p = behind_first x (left_of e) s p
+  moves_first x true e s p = after_first x (left_of e) s p
   moves_first x false e s p = ap (with_first x) p
 
   raised_first : {A : Type 0} (x : A) (r s : Read L (List A)) → Raised deeper free r s → Raised deeper free (with_first x r) (with_first x s)
@@ -251,12 +251,12 @@ module _ (L : Language) where
   raised_kept deeper x ss left ws c (Err (TooMany k limit)) h = refl
 
   -- what was too deep is after the symbol then
-  behind_freed : {A : Type 0} (x : A) (ss : List L.Symbol) (left : ℕ) (ws : List L.Counted) (c : L.Counts) (r : Result L.Counts Fault) → length ss < left → Tallied L left ws c r
-      → Behind {L = L} false left (counting L x ss r)
-  behind_freed x ss left ws c (Ok d) short h = short
-  behind_freed x ss left ws c (Err (Expected k)) short h = absurd h
-  behind_freed x ss left ws c (Err (TooDeep k)) short h = absurd h
-  behind_freed x ss left ws c (Err (TooMany k limit)) short h = omega arith
+  after_freed : {A : Type 0} (x : A) (ss : List L.Symbol) (left : ℕ) (ws : List L.Counted) (c : L.Counts) (r : Result L.Counts Fault) → length ss < left → Tallied L left ws c r
+      → IsAfter {L = L} false left (counting L x ss r)
+  after_freed x ss left ws c (Ok d) short h = short
+  after_freed x ss left ws c (Err (Expected k)) short h = absurd h
+  after_freed x ss left ws c (Err (TooDeep k)) short h = absurd h
+  after_freed x ss left ws c (Err (TooMany k limit)) short h = omega arith
 
 module _ {L : Language} where
   raised_counted : {A : Type 0} (deeper free : Bool) (lim : Limits L) (x : A) (ss : List L.Symbol) (left : ℕ) (ws : List L.Counted) (c : L.Counts) → length ss < left
@@ -266,13 +266,13 @@ module _ {L : Language} where
       (raised_freed L deeper x ss left ws c (tally lim left ws c) short (tallied L lim left ws c))
   raised_counted deeper false lim x ss left ws c short = raised_kept L deeper x ss left ws c (tally lim left ws c) (tallied L lim left ws c)
 
-  behind_counted : {A : Type 0} (free : Bool) (lim : Limits L) (x : A) (ss : List L.Symbol) (left : ℕ) (ws : List L.Counted) (c : L.Counts) → length ss < left
-      → Behind {L = L} free left (counting L x ss (tally (freed free lim) left ws c))
-  behind_counted true lim x ss left ws c short = subst (λ t. Behind {L = L} true left (counting L x ss t)) (sym (all_tallied L left ws c)) short
-  behind_counted false lim x ss left ws c short = behind_freed L x ss left ws c (tally lim left ws c) short (tallied L lim left ws c)
+  after_counted : {A : Type 0} (free : Bool) (lim : Limits L) (x : A) (ss : List L.Symbol) (left : ℕ) (ws : List L.Counted) (c : L.Counts) → length ss < left
+      → IsAfter {L = L} free left (counting L x ss (tally (freed free lim) left ws c))
+  after_counted true lim x ss left ws c short = subst (λ t. IsAfter {L = L} true left (counting L x ss t)) (sym (all_tallied L left ws c)) short
+  after_counted false lim x ss left ws c short = after_freed L x ss left ws c (tally lim left ws c) short (tallied L lim left ws c)
 
   raised_allowed : {A : Type 0} (deeper free : Bool) (lim : Limits L) (x : A) (b b' : Bool) → Eased deeper b b' → (ss : List L.Symbol) (c : State L) → Raised deeper free (allowed lim x b ss c) (allowed (freed free lim) x b' ss c)
-  raised_allowed true free lim x true b' e ss c = rw e (behind_counted free lim x ss (length ss + 1) c.due c.counts (omega arith))
+  raised_allowed true free lim x true b' e ss c = rw e (after_counted free lim x ss (length ss + 1) c.due c.counts (omega arith))
   raised_allowed true free lim x false b' e ss c = rw e (raised_counted true free lim x ss (length ss + 1) c.due c.counts (omega arith))
   raised_allowed false free lim x true b' e ss c = rw e refl
   raised_allowed false free lim x false b' e ss c = rw e (raised_counted false free lim x ss (length ss + 1) c.due c.counts (omega arith))

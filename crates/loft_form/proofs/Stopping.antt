@@ -8,7 +8,7 @@ use Rattle.loft_form.specs.Spells.{Below, Adds, owing, from_zero}
 use Rattle.loft_form.specs.Reading.{Place, Read, ◌>>=◌, done, with_first, within, tally, paid, allowed, leaf_at, repeat, rule_at, read}
 use Rattle.loft_form.specs.Stops.{Passed, Passes, Taking, Stopping, TakesOne, StopsOne, TakesTimes, StopsAfter, Takes, Stops, TakesRule, StopsRule}
 use Rattle.loft_form.proofs.Progress.{Leaves, weaker, least, many_more, many_done, read_leaves}
-use Rattle.loft_form.proofs.Disjoint.{Told, and_true, or_false, leading, clear, apart, Fair}
+use Rattle.loft_form.proofs.Disjoint.{Known, and_true, or_false, leading, clear, apart, Fair}
 use Rattle.loft_form.proofs.Complete.{leaf_ok, leading_least, of_apart}
 
 -- what is read is taken, and a fault is a stop
@@ -155,7 +155,7 @@ module _ {L : Language} (G : Grammar L) (lim : Limits L) where
 
 -- ---- every form
 
-module _ {L : Language} (G : Grammar L) (R : Told L) (fair : Fair G R) (lim : Limits L) where
+module _ {L : Language} (G : Grammar L) (R : Known L) (fair : Fair G R) (lim : Limits L) where
   module _ (n : ℕ) where
     abbrev T : {a : Type 0} → Form L a → Taking L
     T f = Takes lim n (TakesRule G lim n) f
@@ -168,9 +168,9 @@ module _ {L : Language} (G : Grammar L) (R : Told L) (fair : Fair G R) (lim : Li
     runs_choice f g ld ss c e h true k = runs_weaker (T g) (T (f ∣ g)) (S g) (S (f ∣ g)) ss c c (read G lim n g ss c) (λ rest d t. inr (k, t)) (λ x s. inr (inl (k, s))) h
     runs_choice f g ld ss c e h false k = subst (λ r. Runs (T (f ∣ g)) (S (f ∣ g)) ss c r) (sym (not_begun G lim n g ss c ld k)) (inr (inr (e, k, refl)))
 
-    runs_behind : {a b : Type 0} (f : Form L a) (g : Form L b) (ss : List L.Symbol) (c : State L) (mid : List L.Symbol) (m : State L) (r : Read L b) → T f ss c mid m → Runs (T g) (S g) mid m r → Runs (T (f ▹ g)) (S (f ▹ g)) ss c r
-    runs_behind f g ss c mid m (Ok y) t h = (mid, m, t, h)
-    runs_behind f g ss c mid m (Err e) t h = inr (mid, m, t, h)
+    runs_after : {a b : Type 0} (f : Form L a) (g : Form L b) (ss : List L.Symbol) (c : State L) (mid : List L.Symbol) (m : State L) (r : Read L b) → T f ss c mid m → Runs (T g) (S g) mid m r → Runs (T (f ▹ g)) (S (f ▹ g)) ss c r
+    runs_after f g ss c mid m (Ok y) t h = (mid, m, t, h)
+    runs_after f g ss c mid m (Err e) t h = inr (mid, m, t, h)
 
     leaves_one : {a : Type 0} (f : Form L a) → 0 < least f → (ss : List L.Symbol) (c : State L) → Leaves 1 (length ss) (read G lim n f ss c)
     leaves_one f h ss c = weaker (read G lim n f ss c) 1 (least f) (length ss) (length ss) (omega arith) (read_leaves G lim n f ss c)
@@ -182,7 +182,7 @@ module _ {L : Language} (G : Grammar L) (R : Told L) (fair : Fair G R) (lim : Li
           let l = and_true _ _ cl in
           runs_bind (T f) (T (f ▹ g)) (S f) (S (f ▹ g)) ss c (read G lim n f ss c) _ (runs f l.0 ss c) (λ e s. inl s)
           (λ x t. runs_made (T (f ▹ g)) (S (f ▹ g)) (λ y. (x.0, y)) ss c (read G lim n g x.1.rest x.1.state)
-          (runs_behind f g ss c x.1.rest x.1.state (read G lim n g x.1.rest x.1.state) t (runs g (and_true _ _ l.1).0 x.1.rest x.1.state)))
+          (runs_after f g ss c x.1.rest x.1.state (read G lim n g x.1.rest x.1.state) t (runs g (and_true _ _ l.1).0 x.1.rest x.1.state)))
       runs (f ∣ g) cl ss c =
           let l = and_true _ _ cl in
           let r = and_true _ _ l.1 in

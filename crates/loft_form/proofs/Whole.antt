@@ -11,14 +11,14 @@ use Rattle.loft_form.specs.Faults.{SpellsWhole, StopsWhole}
 use Rattle.loft_form.proofs.Sound.{Found, read_found}
 use Rattle.loft_form.proofs.Complete.{spelled_read}
 use Rattle.loft_form.proofs.Stopping.{Runs, read_runs, taken_read, stopped_read}
-use Rattle.loft_form.proofs.Disjoint.{Told}
+use Rattle.loft_form.proofs.Disjoint.{Known}
 use Rattle.loft_form.proofs.Checked.{Checked}
 
 with_rest_more : {A S : Type 0} (x : A) (rest : List S) → 0 < length rest → with_rest x rest ≡ Err (Expected (length rest))
 with_rest_more x [] h = absurd (omega arith)
 with_rest_more x (s ∷ rest) h = refl
 
-module _ {L : Language} {a : Type 0} {G : Grammar L} {R : Told L} {f : Form L a} (checked : Checked G R f) (lim : Limits L) (n : ℕ) (ss : List L.Symbol) (c : State L) where
+module _ {L : Language} {a : Type 0} {G : Grammar L} {R : Known L} {f : Form L a} (checked : Checked G R f) (lim : Limits L) (n : ℕ) (ss : List L.Symbol) (c : State L) where
   -- what all of the symbols are
   abbrev Whole : Result a Fault → Type 0
   Whole (Ok x) = SpellsWhole G lim n f ss c x

@@ -1,4 +1,4 @@
--- Operands that stand alone: numbers and names with no operator behind them.
+-- Operands that stand alone: numbers and names with no operator after them.
 use Rattle.std.specs.Prelude.{Bool, false, not, ◌&&◌, ◌||◌, List, [], ◌∷◌}
 use Rattle.loft_lex.specs.Symbol.{Symbol}
 use Rattle.loft_lex.specs.declared.sign.Sign.TheVariants as s

@@ -1,5 +1,5 @@
 -- Counting, and the limits (docs/LANGUAGE.md, "Limits").
-use Rattle.std.specs.Prelude.{ℕ}
+use Rattle.std.specs.Prelude.{ℕ, ◌^◌, ◌-◌}
 use Rattle.loft_tree.specs.declared.limits.TheConstants.{MAX_SCHEDULERS, MAX_EVENTS, MAX_SHARED, MAX_MODULES, MAX_STARTS, MAX_CLIENTS, MAX_ORDERS, MAX_PARAMETERS, MAX_LOCALS, MAX_STATEMENTS, MAX_OPERANDS, MAX_ARGUMENTS, MAX_CHOICES}
 use Rattle.loft_grammar.specs.declared.counts.Counted.{Counted}
 use Rattle.loft_grammar.specs.declared.counts.Counted.TheVariants.{Scheduler, Event, Shared, Module, Start, Client, Order, Parameter, Local, Statement, Operand, Argument, Choice}
@@ -20,6 +20,13 @@ most Statement = MAX_STATEMENTS
 most Operand = MAX_OPERANDS
 most Argument = MAX_ARGUMENTS
 most Choice = MAX_CHOICES
+
+-- the largest number of them that can be counted
+abbrev pub largest : Counted → ℕ
+largest Statement = 2 ^ 32 - 1
+largest Argument = 2 ^ 32 - 1
+largest Choice = 2 ^ 32 - 1
+largest _ = 2 ^ 16 - 1
 
 -- how many there were
 abbrev pub number : Counted → Counts → ℕ

@@ -1,9 +1,7 @@
 -- The grammar of declarations and programs (docs/LANGUAGE.md, "Grammar"), one form for each rule.
 use Rattle.std.specs.Prelude.{ℕ, ℤ, pos, ◌-ℤ◌, List, Option, Some, None, if◌then◌else◌}
 use Rattle.loft_base.specs.Arithmetic.{wrapped}
-use Rattle.loft_lex.specs.declared.word.Word.{Word}
 use Rattle.loft_lex.specs.declared.word.Word.TheVariants as w
-use Rattle.loft_lex.specs.declared.sign.Sign.{Sign}
 use Rattle.loft_lex.specs.declared.sign.Sign.TheVariants as s
 use Rattle.loft_tree.specs.declared.kinds.Kind.{Kind}
 use Rattle.loft_tree.specs.declared.kinds.Kind.TheVariants as k
@@ -111,14 +109,14 @@ control_order =
     (control_word count.Order ▹ name ▹ word w.In ▹ name ▹ sign s.Semicolon)
 
 -- "," signed
-unfoldable pub value_behind_comma : Form ℤ
-value_behind_comma = made (λ x. x.1.1) (sign s.Comma ▹ signed)
+unfoldable pub value_after_comma : Form ℤ
+value_after_comma = made (λ x. x.1.1) (sign s.Comma ▹ signed)
 
 -- "broadcast" name [ "," signed ] ";"
 unfoldable pub broadcast_order : Form Order
 broadcast_order =
     made (λ x. BroadcastThere x.1.0 x.1.1.0)
-    (first_word count.Order w.Broadcast ▹ event_name ▹ maybe value_behind_comma ▹ sign s.Semicolon)
+    (first_word count.Order w.Broadcast ▹ event_name ▹ maybe value_after_comma ▹ sign s.Semicolon)
 
 unfoldable pub order : Form Order
 order = create_order ∣ control_order ∣ broadcast_order

@@ -3,7 +3,6 @@ use Rattle.std.specs.Prelude.{ℕ, List, ◌∷◌, Option, Some, None, ◌⊎�
 use Rattle.std.proofs.Common.{inl, inr}
 use Rattle.loft_lex.specs.declared.word.Word.{Word}
 use Rattle.loft_lex.specs.declared.word.Word.TheVariants as w
-use Rattle.loft_lex.specs.declared.sign.Sign.{Sign}
 use Rattle.loft_lex.specs.declared.sign.Sign.TheVariants as s
 use Rattle.loft_tree.specs.declared.kinds.Control.{Control}
 use Rattle.loft_tree.specs.declared.kinds.Control.TheVariants as c
@@ -29,8 +28,8 @@ creation =
     (name ▹ sign s.Dot ▹ name ▹ arguments)
 
 -- "," expression
-unfoldable pub behind_comma : Form Expression
-behind_comma = further whole
+unfoldable pub after_comma : Form Expression
+after_comma = further whole
 
 -- "for" expression
 unfoldable pub time_limit : Form Expression
@@ -52,7 +51,7 @@ assignment =
 
 -- text [ "," expression ] | expression
 unfoldable pub printed : Form ((List ℕ × Option Expression) ⊎ Expression)
-printed = made inl (text ▹ maybe behind_comma) ∣ made inr whole
+printed = made inl (text ▹ maybe after_comma) ∣ made inr whole
 
 abbrev pub print_of : ℕ → (List ℕ × Option Expression) ⊎ Expression → Statement
 print_of at (inl x) = PrintText at x.0 x.1
@@ -76,7 +75,7 @@ event_name = made (λ n. record { name = n }) name
 
 -- "generate" name [ "," expression ] ";"
 unfoldable pub generate : Form Statement
-generate = made (λ x. Generate x.0 x.1.0 x.1.1.0) (begins_with w.Generate ▹ event_name ▹ maybe behind_comma ▹ sign s.Semicolon)
+generate = made (λ x. Generate x.0 x.1.0 x.1.1.0) (begins_with w.Generate ▹ event_name ▹ maybe after_comma ▹ sign s.Semicolon)
 
 -- "await" name [ "for" expression ] ";"
 unfoldable pub await_event : Form Statement
@@ -120,7 +119,7 @@ control =
 
 -- "broadcast" name [ "," expression ] ";"
 unfoldable pub broadcast : Form Statement
-broadcast = made (λ x. Broadcast x.0 x.1.0 x.1.1.0) (begins_with w.Broadcast ▹ event_name ▹ maybe behind_comma ▹ sign s.Semicolon)
+broadcast = made (λ x. Broadcast x.0 x.1.0 x.1.1.0) (begins_with w.Broadcast ▹ event_name ▹ maybe after_comma ▹ sign s.Semicolon)
 
 -- "link" name ";"
 unfoldable pub link : Form Statement

@@ -1,7 +1,7 @@
 //! What a source has only so many of.
 
-ghost use Rattle.std.specs.Prelude.{◌≡◌, ◌+◌, IfSome};
-ghost use Rattle.loft_grammar.specs.Counts.{most, number, put, none};
+ghost use Rattle.std.specs.Prelude.{◌≡◌, ◌+◌, ◌≤◌, IfSome, None};
+ghost use Rattle.loft_grammar.specs.Counts.{most, largest, number, put, none};
 
 use loft_tree::limits::{
     MAX_ARGUMENTS, MAX_CHOICES, MAX_CLIENTS, MAX_EVENTS, MAX_LOCALS, MAX_MODULES, MAX_OPERANDS,
@@ -79,6 +79,16 @@ impl Counted {
             Counted::Choice => MAX_CHOICES as u32,
         }
     }
+
+    /// The largest number of them that can be counted.
+    fn largest(self) -> u32
+        ensures { result ≡ largest self }
+    {
+        match self {
+            Counted::Statement | Counted::Argument | Counted::Choice => u32::MAX,
+            _ => u32::from(u16::MAX),
+        }
+    }
 }
 
 impl Counts {
@@ -149,23 +159,27 @@ impl Counts {
 
     /// The same with one more of these, if so many can be counted.
     pub fn one_more(self, what: Counted) -> Option<Counts>
-        ensures { IfSome result (λ more. more ≡ put what (number what self + 1) self) }
+        ensures more { IfSome result (λ more. more ≡ put what (number what self + 1) self) }
+        ensures full { result ≡ None → largest what ≤ number what self }
     {
+        if self.number(what) >= what.largest() {
+            return None;
+        }
         let mut counts = self;
         match what {
-            Counted::Scheduler => counts.schedulers = self.schedulers.checked_add(1)?,
-            Counted::Event => counts.events = self.events.checked_add(1)?,
-            Counted::Shared => counts.shared = self.shared.checked_add(1)?,
-            Counted::Module => counts.modules = self.modules.checked_add(1)?,
-            Counted::Start => counts.starts = self.starts.checked_add(1)?,
-            Counted::Client => counts.clients = self.clients.checked_add(1)?,
-            Counted::Order => counts.orders = self.orders.checked_add(1)?,
-            Counted::Parameter => counts.parameters = self.parameters.checked_add(1)?,
-            Counted::Local => counts.locals = self.locals.checked_add(1)?,
-            Counted::Statement => counts.statements = self.statements.checked_add(1)?,
-            Counted::Operand => counts.operands = self.operands.checked_add(1)?,
-            Counted::Argument => counts.arguments = self.arguments.checked_add(1)?,
-            Counted::Choice => counts.choices = self.choices.checked_add(1)?,
+            Counted::Scheduler => counts.schedulers += 1,
+            Counted::Event => counts.events += 1,
+            Counted::Shared => counts.shared += 1,
+            Counted::Module => counts.modules += 1,
+            Counted::Start => counts.starts += 1,
+            Counted::Client => counts.clients += 1,
+            Counted::Order => counts.orders += 1,
+            Counted::Parameter => counts.parameters += 1,
+            Counted::Local => counts.locals += 1,
+            Counted::Statement => counts.statements += 1,
+            Counted::Operand => counts.operands += 1,
+            Counted::Argument => counts.arguments += 1,
+            Counted::Choice => counts.choices += 1,
         }
         Some(counts)
     }

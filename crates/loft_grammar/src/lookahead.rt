@@ -133,7 +133,7 @@ pub fn next_operation<'a>(level: Level, at: &Cursor<'a>) -> bool
     }
 }
 
-/// Whether a number or a name comes next, and behind it no operator of the level or of one that binds more.
+/// Whether a number or a name comes next, and after it no operator of the level or of one that binds more.
 pub fn next_stands_alone<'a>(level: Level, at: &Cursor<'a>) -> bool
     ensures { result ≡ stands_alone level (symbols_at at.now) }
 {

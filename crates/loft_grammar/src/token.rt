@@ -45,10 +45,10 @@ fn more<L: Limited>(left: usize, what: Option<Counted>, counts: Counts) -> Resul
     }
 }
 
-/// The counts behind the next token, from which on so many are left. It counts as what is due, and then as `what`.
+/// The counts after the next token, from which on so many are left. It counts as what is due, and then as `what`.
 #[tactic(auto, using(crate::proofs::Leaves::tally_append))]
 #[inline(always)]
-fn counted<'a, L: Limited>(
+fn count_next<'a, L: Limited>(
     left: usize,
     what: Option<Counted>,
     at: Cursor<'a>,
@@ -80,7 +80,7 @@ fn word_at<'a, L: Limited>(
             } else if too_deep {
                 Err(Stop::Fault(Fault::TooDeep(left)))
             } else {
-                let counts = counted::<L>(left, what, at)?;
+                let counts = count_next::<L>(left, what, at)?;
                 Ok((symbol.at, Cursor::after(rest, counts)))
             }
         }
@@ -108,7 +108,7 @@ fn sign_at<'a, L: Limited>(
             } else if too_deep {
                 Err(Stop::Fault(Fault::TooDeep(left)))
             } else {
-                let counts = counted::<L>(left, None, at)?;
+                let counts = count_next::<L>(left, None, at)?;
                 Ok((symbol.at, Cursor::after(rest, counts)))
             }
         }
@@ -211,7 +211,7 @@ pub fn name<'a, L: Limited>(
         [] => Err(Stop::Fault(Fault::Expected(0))),
         [symbol, rest @ ..] => match symbol.what {
             What::Name(bytes) => {
-                let counts = counted::<L>(rest.len() + 1, what, at)?;
+                let counts = count_next::<L>(rest.len() + 1, what, at)?;
                 let ident = Ident::new(Vec::from_slice(alloc, bytes)?, symbol.at);
                 Ok((ident, Cursor::after(rest, counts)))
             }
@@ -233,7 +233,7 @@ pub fn numeral<'a, L: Limited>(
         [] => Err(Stop::Fault(Fault::Expected(0))),
         [symbol, rest @ ..] => match symbol.what {
             What::Number(value) => {
-                let counts = counted::<L>(rest.len() + 1, what, at)?;
+                let counts = count_next::<L>(rest.len() + 1, what, at)?;
                 Ok(((symbol.at, value), Cursor::after(rest, counts)))
             }
             _ => Err(Stop::Fault(Fault::Expected(rest.len() + 1))),
@@ -250,7 +250,7 @@ pub fn text<'a, L: Limited>(alloc: Global, at: Cursor<'a>) -> Result<(Text, Curs
         [] => Err(Stop::Fault(Fault::Expected(0))),
         [symbol, rest @ ..] => match symbol.what {
             What::Text(bytes) => {
-                let counts = counted::<L>(rest.len() + 1, None, at)?;
+                let counts = count_next::<L>(rest.len() + 1, None, at)?;
                 let line = Text::new(Vec::from_slice(alloc, bytes)?);
                 Ok((line, Cursor::after(rest, counts)))
             }

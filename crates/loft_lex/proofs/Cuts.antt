@@ -13,7 +13,7 @@ use Rattle.loft_lex.specs.Word.{is_word}
 use Rattle.loft_lex.specs.Sign.{is_sign}
 use Rattle.loft_lex.specs.Fits.{is_text}
 use Rattle.loft_lex.specs.Front.{Front, front, name_front, number_front, text_end, text_front, sign_of_one, sign_front, Gap, Piece, Fault}
-use Rattle.loft_lex.specs.Tokens.{Found, behind, with_token, then_found, tokens_past, tokens}
+use Rattle.loft_lex.specs.Tokens.{Found, moved, with_token, then_found, tokens_past, tokens}
 use Rattle.loft_lex.specs.Cut.{Cut, IsWhole, lengthens, begins_other}
 use Rattle.loft_lex.specs.Cut as cut
 use Rattle.loft_lex.proofs.Steps.{token, cons_step}
@@ -23,8 +23,8 @@ use Rattle.loft_lex.proofs.Spelled.{no_sign_of_three}
 
 -- A cut of what stands after the front makes one of the text; a fault is one.
 abbrev FrontCut : ℕ → List ℕ → Front → Type 0
-FrontCut b bs (Gap more) = (found : Found) → Cut (drop more bs) found → Cut (b ∷ bs) (behind (more + 1) found)
-FrontCut b bs (Piece kind more) = (found : Found) → Cut (drop more bs) found → Cut (b ∷ bs) (with_token (token kind 0 (more + 1)) (behind (more + 1) found))
+FrontCut b bs (Gap more) = (found : Found) → Cut (drop more bs) found → Cut (b ∷ bs) (moved (more + 1) found)
+FrontCut b bs (Piece kind more) = (found : Found) → Cut (drop more bs) found → Cut (b ∷ bs) (with_token (token kind 0 (more + 1)) (moved (more + 1) found))
 FrontCut b bs (Fault e) = Cut (b ∷ bs) (Err e)
 
 parts : (b : ℕ) (bs : List ℕ) (more : ℕ) → (b ∷ take more bs) ++ drop more bs ≡ b ∷ bs
@@ -34,9 +34,9 @@ piece : (kind : TokenKind) (b : ℕ) (bs : List ℕ) (more : ℕ) → FrontFits 
 piece kind b bs more fits whole found c =
     let bytes = b ∷ take more bs in
     let len : length bytes ≡ more + 1 = omega (arith, length-take more bs, fits.0) in
-    let one : Cut (bytes ++ drop more bs) (with_token (token kind 0 (length bytes)) (behind (length bytes) found)) = cut.token kind bytes (drop more bs) found fits.1 whole c in
-    let two : Cut (b ∷ bs) (with_token (token kind 0 (length bytes)) (behind (length bytes) found)) = subst (λ (xs : List ℕ). Cut xs (with_token (token kind 0 (length bytes)) (behind (length bytes) found))) (parts b bs more) one in
-    subst (λ (n : ℕ). Cut (b ∷ bs) (with_token (token kind 0 n) (behind n found))) len two
+    let one : Cut (bytes ++ drop more bs) (with_token (token kind 0 (length bytes)) (moved (length bytes) found)) = cut.token kind bytes (drop more bs) found fits.1 whole c in
+    let two : Cut (b ∷ bs) (with_token (token kind 0 (length bytes)) (moved (length bytes) found)) = subst (λ (xs : List ℕ). Cut xs (with_token (token kind 0 (length bytes)) (moved (length bytes) found))) (parts b bs more) one in
+    subst (λ (n : ℕ). Cut (b ∷ bs) (with_token (token kind 0 n) (moved n found))) len two
 
 fault : (b : ℕ) (bs : List ℕ) (more : ℕ) (found : Found) → Cut ((b ∷ take more bs) ++ drop more bs) found → Cut (b ∷ bs) found
 fault b bs more found c = subst (λ (xs : List ℕ). Cut xs found) (parts b bs more) c
@@ -48,12 +48,12 @@ slashes b (c ∷ cs) h = λ found rest.
     let second : c ≡ 47 = (let t = right_of (b == 47) (c == 47) h in grind (arith, nat_tests)) in
     let n = prefix_len is_comment_byte cs in
     let more : prefix_len is_comment_byte (c ∷ cs) ≡ suc n = rw second (omega arith) in
-    let behind_slashes : Cut (drop n cs) found = rw more at rest in
+    let after_slashes : Cut (drop n cs) found = rw more at rest in
     let line : length (take n cs) ≡ n = length-prefix_len is_comment_byte cs in
-    let one = cut.comment (take n cs) (drop n cs) found (take_run is_comment_byte cs) (run_stops is_comment_byte cs) behind_slashes in
+    let one = cut.comment (take n cs) (drop n cs) found (take_run is_comment_byte cs) (run_stops is_comment_byte cs) after_slashes in
     let text : 47 ∷ 47 ∷ (take n cs ++ drop n cs) ≡ b ∷ c ∷ cs = rw (take-append-drop n cs, first, second) refl in
     let len : 2 + length (take n cs) ≡ prefix_len is_comment_byte (c ∷ cs) + 1 = omega (arith, line, more) in
-    subst (λ (k : ℕ). Cut (b ∷ c ∷ cs) (behind k found)) len (subst (λ (xs : List ℕ). Cut xs (behind (2 + length (take n cs)) found)) text one)
+    subst (λ (k : ℕ). Cut (b ∷ c ∷ cs) (moved k found)) len (subst (λ (xs : List ℕ). Cut xs (moved (2 + length (take n cs)) found)) text one)
 
 -- what fits at the front makes a cut
 abbrev Leads : ℕ → List ℕ → Front → Type 0
@@ -167,7 +167,7 @@ front_cut b bs =
     (λ quote. let e : b ≡ 34 = grind (arith, nat_tests) in subst (λ (x : ℕ). Leads x bs (text_front bs)) (sym e) (text_cut bs))
     (λ no_quote. sign_cut b bs (none_of _ _ (none_of _ _ (none_of _ _ no_blank no_letter) no_digit) no_quote) no_comment)))))
 
-lead : (b : ℕ) (bs : List ℕ) (f : Front) → FrontCut b bs f → ((more : ℕ) → Cut (drop more bs) (tokens (drop more bs))) → Cut (b ∷ bs) (then_found f (λ more. behind (more + 1) (tokens (drop more bs))))
+lead : (b : ℕ) (bs : List ℕ) (f : Front) → FrontCut b bs f → ((more : ℕ) → Cut (drop more bs) (tokens (drop more bs))) → Cut (b ∷ bs) (then_found f (λ more. moved (more + 1) (tokens (drop more bs))))
 lead b bs (Gap more) c rest = c (tokens (drop more bs)) (rest more)
 lead b bs (Piece kind more) c rest = c (tokens (drop more bs)) (rest more)
 lead b bs (Fault e) c rest = c

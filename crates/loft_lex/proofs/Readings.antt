@@ -15,7 +15,7 @@ use Rattle.loft_lex.specs.Word.{is_word}
 use Rattle.loft_lex.specs.Sign.{is_sign}
 use Rattle.loft_lex.specs.Fits.{is_text, between_quotes, IsOfKind}
 use Rattle.loft_lex.specs.Front.{Front, front, name_front, number_front, text_end, text_front, sign_of_one, sign_front, Gap, Piece, Fault}
-use Rattle.loft_lex.specs.Tokens.{Found, behind, with_token, then_found, tokens_past, tokens}
+use Rattle.loft_lex.specs.Tokens.{Found, moved, with_token, then_found, tokens_past, tokens}
 use Rattle.loft_lex.specs.Cut.{Cut, IsWhole, lengthens, begins_other, nothing, blank, comment, token as one_token, long_name, large_number, number_and_letter, long_text, text_to_end, text_to_line_feed, bad_byte_inside, bad_byte}
 use Rattle.loft_lex.proofs.Cuts.{sound}
 use Rattle.loft_lex.proofs.Steps.{token, cons_step}
@@ -23,8 +23,8 @@ use Rattle.loft_lex.proofs.Runs.{left_of, right_of, neither_left, neither_right,
 use Rattle.loft_lex.proofs.Spelled.{word_like_name, sign_like_sign, sign_parts}
 
 -- what stands at the front says what is found
-found_from : (b : ℕ) (bs : List ℕ) (f : Front) → front b bs ≡ f → tokens (b ∷ bs) ≡ then_found f (λ more. behind (more + 1) (tokens (drop more bs)))
-found_from b bs f e = cons_step b bs ∙ ap (λ g. then_found g (λ more. behind (more + 1) (tokens (drop more bs)))) e
+found_from : (b : ℕ) (bs : List ℕ) (f : Front) → front b bs ≡ f → tokens (b ∷ bs) ≡ then_found f (λ more. moved (more + 1) (tokens (drop more bs)))
+found_from b bs f e = cons_step b bs ∙ ap (λ g. then_found g (λ more. moved (more + 1) (tokens (drop more bs)))) e
 
 front_blank : (b : ℕ) (bs : List ℕ) → is_blank b ≡ true → front b bs ≡ Gap 0
 unfolding front
@@ -160,7 +160,7 @@ not_nothing (Number value) fits = false≢true fits.first
 not_nothing Text fits = let no : [] ≡ 34 ∷ (between_quotes [] ++ 34 ∷ []) = fits.quotes in cc
 not_nothing Sign fits = false≢true (sign_like_sign [] fits)
 
-token_found : (kind : TokenKind) (bytes rest : List ℕ) (found : Found) → IsOfKind kind bytes → IsWhole kind bytes rest → tokens rest ≡ found → tokens (bytes ++ rest) ≡ with_token (token kind 0 (length bytes)) (behind (length bytes) found)
+token_found : (kind : TokenKind) (bytes rest : List ℕ) (found : Found) → IsOfKind kind bytes → IsWhole kind bytes rest → tokens rest ≡ found → tokens (bytes ++ rest) ≡ with_token (token kind 0 (length bytes)) (moved (length bytes) found)
 token_found kind [] rest found fits whole is = absurd (not_nothing kind fits)
 token_found kind (b ∷ w) rest found fits whole is =
     let len : length w + 1 ≡ suc (length w) = omega arith in
@@ -170,7 +170,7 @@ front_slashes : (xs : List ℕ) → front 47 (47 ∷ xs) ≡ Gap (1 + prefix_len
 unfolding front
 front_slashes xs = refl
 
-comment_found : (line rest : List ℕ) (found : Found) → list_all is_comment_byte line ≡ true → begins is_comment_byte rest ≡ false → tokens rest ≡ found → tokens (47 ∷ 47 ∷ (line ++ rest)) ≡ behind (2 + length line) found
+comment_found : (line rest : List ℕ) (found : Found) → list_all is_comment_byte line ≡ true → begins is_comment_byte rest ≡ false → tokens rest ≡ found → tokens (47 ∷ 47 ∷ (line ++ rest)) ≡ moved (2 + length line) found
 comment_found line rest found all stop is =
     let run = run_is is_comment_byte line rest all stop in
     let more : 1 + prefix_len is_comment_byte (line ++ rest) ≡ suc (length line) = omega (arith, run) in
@@ -234,7 +234,7 @@ found_nothing = refl
 
 pub complete : {text : List ℕ} {found : Found} → Cut text found → tokens text ≡ found
 complete nothing = found_nothing
-complete (blank b rest found is c) = found_from b rest (Gap 0) (front_blank b rest is) ∙ ap (behind 1) (complete c)
+complete (blank b rest found is c) = found_from b rest (Gap 0) (front_blank b rest is) ∙ ap (moved 1) (complete c)
 complete (comment line rest found all stop c) = comment_found line rest found all stop (complete c)
 complete (one_token kind bytes rest found fits whole c) = token_found kind bytes rest found fits whole (complete c)
 complete (long_name bytes rest letter all many) = long_name_found bytes rest letter all many

@@ -6,7 +6,7 @@ use Rattle.loft_lex.specs.declared.token.LexError.{LexError}
 use Rattle.loft_lex.specs.declared.token.LexError.TheVariants.{BadByte, OpenText, LongName, LongText, BadNumber, NoMemory}
 use Rattle.loft_lex.specs.Front.{Front, front, Gap, Piece, Fault}
 use Rattle.loft_lex.specs.Fits.{Fits, IsOfKind}
-use Rattle.loft_lex.specs.Tokens.{Found, token_behind, behind, with_token, then_found, tokens_past, tokens, Rising, IsFirstFault}
+use Rattle.loft_lex.specs.Tokens.{Found, token_moved, moved, with_token, then_found, tokens_past, tokens, Rising, IsFirstFault}
 use Rattle.loft_lex.proofs.Steps.{token}
 use Rattle.loft_lex.proofs.Pieces.{FrontFits, front_fits}
 
@@ -23,26 +23,26 @@ abbrev TokensFit : ℕ → List ℕ → Found → Type 0
 TokensFit n text (Ok ts) = All (Fits text) ts × Rising n ts
 TokensFit n text (Err e) = Unit {0}
 
-slice_behind : (b : ℕ) (bs : List ℕ) (from to : ℕ) → slice_range (b ∷ bs) (1 + from) (1 + to) ≡ slice_range bs from to
-slice_behind b bs from to =
+slice_after : (b : ℕ) (bs : List ℕ) (from to : ℕ) → slice_range (b ∷ bs) (1 + from) (1 + to) ≡ slice_range bs from to
+slice_after b bs from to =
     let e : 1 + to - (1 + from) ≡ to - from = omega arith in
     let d : 1 + from ≡ suc from = omega arith in
     rw (e, d) refl
 
-fits_behind : (b : ℕ) (bs : List ℕ) (t : Token) → Fits bs t → Fits (b ∷ bs) (token_behind 1 t)
-fits_behind b bs t h = record {
+fits_moved : (b : ℕ) (bs : List ℕ) (t : Token) → Fits bs t → Fits (b ∷ bs) (token_moved 1 t)
+fits_moved b bs t h = record {
   some = omega (arith, h.some);
   within = omega (arith, h.within);
-  kind = subst (IsOfKind t.kind) (sym (slice_behind b bs t.from t.to)) h.kind;
+  kind = subst (IsOfKind t.kind) (sym (slice_after b bs t.from t.to)) h.kind;
 }
 
-rising_behind : (at : ℕ) (ts : List Token) → Rising at ts → Rising (1 + at) (map (token_behind 1) ts)
-rising_behind at [] h = tt
-rising_behind at (t ∷ ts) h = (omega (arith, h.0), omega (arith, h.1), rising_behind t.to ts h.2)
+rising_moved : (at : ℕ) (ts : List Token) → Rising at ts → Rising (1 + at) (map (token_moved 1) ts)
+rising_moved at [] h = tt
+rising_moved at (t ∷ ts) h = (omega (arith, h.0), omega (arith, h.1), rising_moved t.to ts h.2)
 
-found_behind : (n b : ℕ) (bs : List ℕ) (found : Found) → TokensFit n bs found → TokensFit (1 + n) (b ∷ bs) (behind 1 found)
-found_behind n b bs (Ok ts) h = (All-map (Fits (b ∷ bs)) (token_behind 1) ts (λ k d inside. fits_behind b bs _ (h.0 k d inside)), rising_behind n ts h.1)
-found_behind n b bs (Err e) h = tt
+found_moved : (n b : ℕ) (bs : List ℕ) (found : Found) → TokensFit n bs found → TokensFit (1 + n) (b ∷ bs) (moved 1 found)
+found_moved n b bs (Ok ts) h = (All-map (Fits (b ∷ bs)) (token_moved 1) ts (λ k d inside. fits_moved b bs _ (h.0 k d inside)), rising_moved n ts h.1)
+found_moved n b bs (Err e) h = tt
 
 rises_from_less : (m n : ℕ) (ts : List Token) → m ≤ n → Rising n ts → Rising m ts
 rises_from_less m n [] less h = tt
@@ -69,8 +69,8 @@ past_fits : (n : ℕ) (bs : List ℕ) → TokensFit n bs (tokens_past n bs)
 unfolding tokens_past
 past_fits zero [] = (λ k d h. absurd (omega arith), tt)
 past_fits (suc n) [] = (λ k d h. absurd (omega arith), tt)
-past_fits (suc n) (b ∷ bs) = found_from_less (suc n) (1 + n) (b ∷ bs) _ (omega arith) (found_behind n b bs _ (past_fits n bs))
-past_fits zero (b ∷ bs) = then_fits b bs (front b bs) (λ more. behind 1 (tokens_past more bs)) (front_fits b bs) (λ more. found_behind more b bs _ (past_fits more bs))
+past_fits (suc n) (b ∷ bs) = found_from_less (suc n) (1 + n) (b ∷ bs) _ (omega arith) (found_moved n b bs _ (past_fits n bs))
+past_fits zero (b ∷ bs) = then_fits b bs (front b bs) (λ more. moved 1 (tokens_past more bs)) (front_fits b bs) (λ more. found_moved more b bs _ (past_fits more bs))
 
 found_fits : (text : List ℕ) (ts : List Token) → tokens text ≡ Ok ts → TokensFit 0 text (Ok ts)
 found_fits text ts found = subst (TokensFit 0 text) found (past_fits 0 text)

@@ -6,7 +6,7 @@ use Rattle.std.specs.Str.{bytes_eq}
 use Rattle.loft_lex.specs.Bytes.{is_blank, is_digit, is_letter, is_name_byte, is_comment_byte, is_text_byte, begins, value_of, max_number}
 use Rattle.loft_lex.specs.Sign.{is_sign}
 use Rattle.loft_lex.specs.Fits.{is_text, IsOfKind}
-use Rattle.loft_lex.specs.Tokens.{Found, behind, with_token}
+use Rattle.loft_lex.specs.Tokens.{Found, moved, with_token}
 use Rattle.loft_lex.specs.declared.token.TokenKind.{TokenKind}
 use Rattle.loft_lex.specs.declared.token.TokenKind.TheVariants.{Name, Word, Number, Text, Sign}
 use Rattle.loft_lex.specs.declared.token.LexError.TheVariants.{BadByte, OpenText, LongName, LongText, BadNumber}
@@ -30,9 +30,9 @@ begins_other b = is_blank b || is_letter b || is_digit b || b == 34
 -- a text is cut into tokens up to its end, or up to its first fault
 pub data Cut : List ℕ → Found → Type 0 where
   nothing : Cut [] (Ok [])
-  blank : (b : ℕ) (rest : List ℕ) (found : Found) → IsTrue (is_blank b) → Cut rest found → Cut (b ∷ rest) (behind 1 found)
-  comment : (line rest : List ℕ) (found : Found) → IsTrue (list_all is_comment_byte line) → IsFalse (begins is_comment_byte rest) → Cut rest found → Cut (47 ∷ 47 ∷ (line ++ rest)) (behind (2 + length line) found)
-  token : (kind : TokenKind) (bytes rest : List ℕ) (found : Found) → IsOfKind kind bytes → IsWhole kind bytes rest → Cut rest found → Cut (bytes ++ rest) (with_token (record { kind = kind; from = 0; to = length bytes }) (behind (length bytes) found))
+  blank : (b : ℕ) (rest : List ℕ) (found : Found) → IsTrue (is_blank b) → Cut rest found → Cut (b ∷ rest) (moved 1 found)
+  comment : (line rest : List ℕ) (found : Found) → IsTrue (list_all is_comment_byte line) → IsFalse (begins is_comment_byte rest) → Cut rest found → Cut (47 ∷ 47 ∷ (line ++ rest)) (moved (2 + length line) found)
+  token : (kind : TokenKind) (bytes rest : List ℕ) (found : Found) → IsOfKind kind bytes → IsWhole kind bytes rest → Cut rest found → Cut (bytes ++ rest) (with_token (record { kind = kind; from = 0; to = length bytes }) (moved (length bytes) found))
   long_name : (bytes rest : List ℕ) → IsTrue (begins is_letter bytes) → IsTrue (list_all is_name_byte bytes) → 64 < length bytes → Cut (bytes ++ rest) (Err (LongName 0))
   large_number : (digits rest : List ℕ) → IsTrue (begins is_digit digits) → IsTrue (list_all is_digit digits) → IsFalse (begins is_digit rest) → max_number < value_of digits → Cut (digits ++ rest) (Err (BadNumber 0))
   number_and_letter : (digits rest : List ℕ) → IsTrue (begins is_digit digits) → IsTrue (list_all is_digit digits) → IsTrue (begins is_letter rest) → Cut (digits ++ rest) (Err (BadNumber 0))

@@ -10,22 +10,22 @@ abbrev pub Found : Type 0
 Found = Result (List Token) LexError
 
 -- the token with so many bytes put before the text
-abbrev pub token_behind : ℕ → Token → Token
-token_behind n t = record { kind = t.kind; from = n + t.from; to = n + t.to }
+abbrev pub token_moved : ℕ → Token → Token
+token_moved n t = record { kind = t.kind; from = n + t.from; to = n + t.to }
 
 -- the fault with so many bytes put before the text
-abbrev pub fault_behind : ℕ → LexError → LexError
-fault_behind n (BadByte at) = BadByte (n + at)
-fault_behind n (OpenText at) = OpenText (n + at)
-fault_behind n (LongName at) = LongName (n + at)
-fault_behind n (LongText at) = LongText (n + at)
-fault_behind n (BadNumber at) = BadNumber (n + at)
-fault_behind n NoMemory = NoMemory
+abbrev pub fault_moved : ℕ → LexError → LexError
+fault_moved n (BadByte at) = BadByte (n + at)
+fault_moved n (OpenText at) = OpenText (n + at)
+fault_moved n (LongName at) = LongName (n + at)
+fault_moved n (LongText at) = LongText (n + at)
+fault_moved n (BadNumber at) = BadNumber (n + at)
+fault_moved n NoMemory = NoMemory
 
 -- what was found, with so many bytes put before the text
-abbrev pub behind : ℕ → Found → Found
-behind n (Ok ts) = Ok (map (token_behind n) ts)
-behind n (Err e) = Err (fault_behind n e)
+abbrev pub moved : ℕ → Found → Found
+moved n (Ok ts) = Ok (map (token_moved n) ts)
+moved n (Err e) = Err (fault_moved n e)
 
 -- a token first, unless a fault comes after it
 abbrev pub with_token : Token → Found → Found
@@ -41,8 +41,8 @@ then_found (Fault e) rest = Err e
 -- What is found past the first n bytes of a text, which belong to what stands before; offsets count from its first byte.
 unfoldable pub tokens_past : ℕ → List ℕ → Found
 tokens_past n [] = Ok []
-tokens_past (suc n) (b ∷ bs) = behind 1 (tokens_past n bs)
-tokens_past zero (b ∷ bs) = then_found (front b bs) (λ more. behind 1 (tokens_past more bs))
+tokens_past (suc n) (b ∷ bs) = moved 1 (tokens_past n bs)
+tokens_past zero (b ∷ bs) = then_found (front b bs) (λ more. moved 1 (tokens_past more bs))
 
 -- what is found in a text
 abbrev pub tokens : List ℕ → Found

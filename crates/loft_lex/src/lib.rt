@@ -56,7 +56,7 @@ pub fn lex(alloc: Global, text: &[u8]) -> Result<Tokens, LexError>
                 })?;
                 at = to;
             }
-            Step::Fault(error) => return Err(error.behind(at as u32)),
+            Step::Fault(error) => return Err(error.moved_by(at as u32)),
         }
     }
     Ok(Tokens::new(items))

@@ -35,7 +35,7 @@ pub fn read_symbols<'a>(alloc: Global, text: &'a [u8]) -> Result<Vec<Symbol<'a>>
                 })?;
                 at += more + 1;
             }
-            Step::Fault(error) => return Err(error.behind(at as u32)),
+            Step::Fault(error) => return Err(error.moved_by(at as u32)),
         }
     }
     Ok(found)

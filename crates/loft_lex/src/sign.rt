@@ -83,7 +83,7 @@ fn beginning_with(first: u8) -> &'static [Sign]
 }
 
 /// The first of the signs that the bytes spell.
-fn spelled(signs: &[Sign], bytes: &[u8]) -> Option<Sign>
+fn find_spelled(signs: &[Sign], bytes: &[u8]) -> Option<Sign>
     ensures { result ≡ find (λ sign. bytes_eq (spelling sign) bytes.now) signs.now }
 {
     signs.iter().copied().find(|sign| sign.spelling() == bytes)
@@ -98,7 +98,7 @@ impl Sign {
     {
         match bytes {
             [] => None,
-            [first, ..] => spelled(beginning_with(*first), bytes),
+            [first, ..] => find_spelled(beginning_with(*first), bytes),
         }
     }
 

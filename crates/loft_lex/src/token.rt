@@ -61,13 +61,13 @@ pub enum LexError {
 }
 
 impl LexError {
-    ghost use Rattle.loft_lex.specs.Tokens.{fault_behind};
+    ghost use Rattle.loft_lex.specs.Tokens.{fault_moved};
     ghost use Rattle.loft_lex.specs.Scan.{fault_place};
 
     /// The fault with `n` bytes put before the text.
-    pub(crate) fn behind(self, n: u32) -> LexError
+    pub(crate) fn moved_by(self, n: u32) -> LexError
         requires { n + fault_place self < 2 ^ 32 }
-        ensures { result ≡ fault_behind n self }
+        ensures { result ≡ fault_moved n self }
     {
         match self {
             LexError::BadByte(at) => LexError::BadByte(n + at),

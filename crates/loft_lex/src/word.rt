@@ -90,7 +90,7 @@ fn beginning_with(first: u8) -> &'static [Word]
 }
 
 /// The first of the words that the bytes spell.
-fn spelled(words: &[Word], bytes: &[u8]) -> Option<Word>
+fn find_spelled(words: &[Word], bytes: &[u8]) -> Option<Word>
     ensures { result ≡ find (λ word. bytes_eq (spelling word) bytes.now) words.now }
 {
     words.iter().copied().find(|word| word.spelling() == bytes)
@@ -105,7 +105,7 @@ impl Word {
     {
         match bytes {
             [] => None,
-            [first, ..] => spelled(beginning_with(*first), bytes),
+            [first, ..] => find_spelled(beginning_with(*first), bytes),
         }
     }
 

@@ -15,14 +15,14 @@ use Rattle.loft_grammar.specs.Symbols.{Form}
 use Rattle.loft_grammar.specs.Statements.{rules}
 use Rattle.loft_grammar.specs.Limits.{beginning, nesting}
 use Rattle.loft_grammar.specs.Texts.{SpellsPart}
-use Rattle.loft_parts.proofs.Checked.{told}
+use Rattle.loft_parts.proofs.Checked.{known}
 use Rattle.loft_show.specs.PartReads.{ReadsAs}
 use Rattle.loft_rows.specs.Cuts.{IsCutAt, IsWithout, is_other}
 use Rattle.loft_rows.specs.RowsFit.{IsSmall}
 
 -- ---- parts
 
-one_part : {A : Type 0} {f : Form A} → Checked rules told f → (lim : Limits Language) (text : List ℕ) (x y : A) → SpellsPart lim f text x → SpellsPart lim f text y → x ≡ y
+one_part : {A : Type 0} {f : Form A} → Checked rules known f → (lim : Limits Language) (text : List ℕ) (x y : A) → SpellsPart lim f text x → SpellsPart lim f text y → x ≡ y
 one_part {A} {f} checked lim text x y (ts, cut, whole) (us, other, also) =
     let both = sym ((found_is_cut text (Ok ts)).1 cut) ∙ (found_is_cut text (Ok us)).1 other in
     let same : us ≡ ts = cc in
@@ -31,7 +31,7 @@ one_part {A} {f} checked lim text x y (ts, cut, whole) (us, other, also) =
     cc
 
 -- two parts with one text are the same, but for offsets
-pub one_reading : {A : Type 0} {f : Form A} → Checked rules told f → (lim : Limits Language) (bare : A → A) (text other : List ℕ) (x y : A) → text ≡ other → ReadsAs lim f bare text x → ReadsAs lim f bare other y
+pub one_reading : {A : Type 0} {f : Form A} → Checked rules known f → (lim : Limits Language) (bare : A → A) (text other : List ℕ) (x y : A) → text ≡ other → ReadsAs lim f bare text x → ReadsAs lim f bare other y
     → bare x ≡ bare y
 one_reading {A} {f} checked lim bare text other x y same (p, spells, is) (q, also, are) =
     let moved : SpellsPart lim f text q = subst (λ (t : List ℕ). SpellsPart lim f t q) (sym same) also in

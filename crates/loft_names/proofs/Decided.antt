@@ -5,7 +5,7 @@ use Rattle.loft_tree.specs.Source.{Source}
 use Rattle.loft_scopes.specs.declared.error.NameError.{NameError}
 use Rattle.loft_scopes.specs.declared.error.NameError.TheVariants.{NoScheduler}
 use Rattle.loft_scopes.specs.Faults.{faults, has_scheduler, NameFault, NamesFit}
-use Rattle.loft_scopes.specs.Least.{least_of}
+use Rattle.loft_scopes.specs.FirstFault.{least_of}
 use Rattle.loft_names.proofs.FirstOf.{least_is_first, least_is_none, neither_precedes}
 
 without_or_with : (p : Source) → has_scheduler p ≡ false → has_scheduler p ≡ true → ⊥

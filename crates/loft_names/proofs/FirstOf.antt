@@ -8,7 +8,7 @@ use Rattle.loft_tree.specs.Source.{Source}
 use Rattle.loft_scopes.specs.Scopes.{Declared, declared}
 use Rattle.loft_scopes.specs.Faults.{place_of, rank_of, first_of, Before, Precedes, IsFirst, faults, twice_from, uses_from}
 use Rattle.loft_scopes.proofs.First.{least_of-append}
-use Rattle.loft_scopes.specs.Least.{least_of, before, precedes, sooner}
+use Rattle.loft_scopes.specs.FirstFault.{least_of, before, precedes, sooner}
 
 -- ---- the order
 

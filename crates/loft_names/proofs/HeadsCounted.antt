@@ -5,7 +5,7 @@ use Rattle.std.proofs.lemmas.List.Sums.{sum_by-cons}
 use Rattle.loft_tree.specs.Source.{Named, Scheduler, Event, Shared, Module, Start, Outside, Source}
 use Rattle.loft_tree.specs.Fits.{is_scheduler, is_event, is_shared, is_module, is_start, is_outside}
 use Rattle.loft_tree.specs.NamedFits.{Tally, AreCounted, no_items, tally_of}
-use Rattle.loft_scopes.specs.declared.sofar.Sofar.{Sofar}
+use Rattle.loft_scopes.specs.declared.counts.DeclarationCounts.{DeclarationCounts}
 use Rattle.loft_scopes.specs.Scopes.{Declared, after, none_yet}
 use Rattle.loft_numbers.specs.Numbers.{schedulers_in, events_in, shared_in, slots_of, signatures_in, starts_in, clients_in, items_in, heads_of}
 
@@ -55,11 +55,11 @@ module _ (ds : List Declared) where
 
   -- ---- the order
 
-  tally : Sofar → Tally
+  tally : DeclarationCounts → Tally
   tally n = record { schedulers = n.schedulers; events = n.events; shared = n.shared; modules = n.modules; starts = n.starts; clients = n.clients }
 
   -- these heads follow, and make so many in all
-  record MakesAll (n : Sofar) (rest : Source) (all : Tally) : Type 0 where
+  record MakesAll (n : DeclarationCounts) (rest : Source) (all : Tally) : Type 0 where
     schedulers : n.schedulers + length (schedulers_in rest) ≡ all.schedulers
     events : n.events + length (events_in ds rest) ≡ all.events
     shared : n.shared + length (shared_in ds rest) ≡ all.shared
@@ -67,7 +67,7 @@ module _ (ds : List Declared) where
     starts : n.starts + length (starts_in ds rest) ≡ all.starts
     clients : n.clients + length (clients_in ds rest) ≡ all.clients
 
-  counted : (n : Sofar) (rest : Source) (all : Tally) → MakesAll n rest all → AreCounted (tally n) (items_in n rest) all
+  counted : (n : DeclarationCounts) (rest : Source) (all : Tally) → MakesAll n rest all → AreCounted (tally n) (items_in n rest) all
   unfolding tally
   counted n [] all m = λ i. record {
     schedulers = (let e : n.schedulers ≡ all.schedulers = omega (arith, m.schedulers) in e) i;

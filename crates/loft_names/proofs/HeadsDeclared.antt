@@ -10,7 +10,7 @@ use Rattle.loft_tree.specs.declared.heads.Signature.{Signature}
 use Rattle.loft_tree.specs.HeadsFit.{kinds_of as slot_kinds}
 use Rattle.loft_scopes.specs.declared.scope.Scope.{Scope}
 use Rattle.loft_scopes.specs.declared.scope.Scope.TheVariants.{Everywhere, Within}
-use Rattle.loft_scopes.specs.declared.sofar.Sofar.{Sofar}
+use Rattle.loft_scopes.specs.declared.counts.DeclarationCounts.{DeclarationCounts}
 use Rattle.loft_scopes.specs.Scopes.{Sort, AScheduler, AnEvent, AShared, AModule, AStart, AClient, AVariable, Declared, kinds_of, variables, module_declared, everywhere, start_name, after, none_yet, declared_by, declared_from, declared}
 use Rattle.loft_numbers.specs.Numbers.{schedulers_in, events_in, shared_in, slots_of, signature_of, signatures_in, starts_in, clients_in, name_text, heads_of}
 use Rattle.loft_names.specs.HeadOf.{IsHeadIn, IsModuleHead, IsSlotHead, IsDeclared}
@@ -47,7 +47,7 @@ further : (ds : List Declared) (scope : Scope) (sort : Sort) (n i : ℕ) (name :
 further ds scope sort n i name is = let e : n + 1 + i ≡ n + suc i = omega arith in subst (λ (k : ℕ). IsDeclared ds scope sort k name) e is
 
 module _ (ds : List Declared) where
-  scheduler_is : (n : Sofar) (rest : Source) (i : ℕ) (name : List ℕ) → slice_get (schedulers_in rest) i ≡ Some name
+  scheduler_is : (n : DeclarationCounts) (rest : Source) (i : ℕ) (name : List ℕ) → slice_get (schedulers_in rest) i ≡ Some name
       → IsDeclared (declared_from n rest) Everywhere AScheduler (n.schedulers + i) name
   scheduler_is n [] i name is = absurd cc
   scheduler_is n (Scheduler x ∷ rest) zero name is =
@@ -56,7 +56,7 @@ module _ (ds : List Declared) where
       further _ Everywhere AScheduler n.schedulers i name (later (declared_by n (Scheduler x)) _ Everywhere AScheduler _ name (scheduler_is (after n (Scheduler x)) rest i name is))
   scheduler_is n (d ∷ rest) i name is = later (declared_by n d) _ Everywhere AScheduler _ name (scheduler_is (after n d) rest i name is)
 
-  event_is : (n : Sofar) (rest : Source) (i : ℕ) (name : List ℕ) → option_map (λ x. x.name) (slice_get (events_in ds rest) i) ≡ Some name
+  event_is : (n : DeclarationCounts) (rest : Source) (i : ℕ) (name : List ℕ) → option_map (λ x. x.name) (slice_get (events_in ds rest) i) ≡ Some name
       → IsDeclared (declared_from n rest) Everywhere AnEvent (n.events + i) name
   event_is n [] i name is = absurd cc
   event_is n (Event x scheduler ∷ rest) zero name is =
@@ -65,7 +65,7 @@ module _ (ds : List Declared) where
       further _ Everywhere AnEvent n.events i name (later (declared_by n (Event x scheduler)) _ Everywhere AnEvent _ name (event_is (after n (Event x scheduler)) rest i name is))
   event_is n (d ∷ rest) i name is = later (declared_by n d) _ Everywhere AnEvent _ name (event_is (after n d) rest i name is)
 
-  shared_is : (n : Sofar) (rest : Source) (i : ℕ) (name : List ℕ) → option_map (λ x. x.name) (slice_get (shared_in ds rest) i) ≡ Some name
+  shared_is : (n : DeclarationCounts) (rest : Source) (i : ℕ) (name : List ℕ) → option_map (λ x. x.name) (slice_get (shared_in ds rest) i) ≡ Some name
       → IsDeclared (declared_from n rest) Everywhere AShared (n.shared + i) name
   shared_is n [] i name is = absurd cc
   shared_is n (Shared x scheduler value ∷ rest) zero name is =
@@ -75,7 +75,7 @@ module _ (ds : List Declared) where
       (later (declared_by n (Shared x scheduler value)) _ Everywhere AShared _ name (shared_is (after n (Shared x scheduler value)) rest i name is))
   shared_is n (d ∷ rest) i name is = later (declared_by n d) _ Everywhere AShared _ name (shared_is (after n d) rest i name is)
 
-  client_is : (n : Sofar) (rest : Source) (i : ℕ) (name : List ℕ) → option_map (λ x. x.name) (slice_get (clients_in ds rest) i) ≡ Some name
+  client_is : (n : DeclarationCounts) (rest : Source) (i : ℕ) (name : List ℕ) → option_map (λ x. x.name) (slice_get (clients_in ds rest) i) ≡ Some name
       → IsDeclared (declared_from n rest) Everywhere AClient (n.clients + i) name
   client_is n [] i name is = absurd cc
   client_is n (Outside x orders ∷ rest) zero name is =
@@ -89,7 +89,7 @@ module _ (ds : List Declared) where
   started None more n name is = absurd cc
   started (Some x) more n name is = let e : n ≡ n + 0 = omega arith in first (everywhere x AStart n) more _ name e cc
 
-  start_is : (n : Sofar) (rest : Source) (i : ℕ) (name : List ℕ) → option_map (λ x. x.name) (slice_get (starts_in ds rest) i) ≡ Some (Some name)
+  start_is : (n : DeclarationCounts) (rest : Source) (i : ℕ) (name : List ℕ) → option_map (λ x. x.name) (slice_get (starts_in ds rest) i) ≡ Some (Some name)
       → IsDeclared (declared_from n rest) Everywhere AStart (n.starts + i) name
   start_is n [] i name is = absurd cc
   start_is n (Start s m arguments x ∷ rest) zero name is = started x (declared_from (after n (Start s m arguments x)) rest) n.starts name is
@@ -98,7 +98,7 @@ module _ (ds : List Declared) where
       (later (declared_by n (Start s m arguments x)) _ Everywhere AStart _ name (start_is (after n (Start s m arguments x)) rest i name is))
   start_is n (d ∷ rest) i name is = later (declared_by n d) _ Everywhere AStart _ name (start_is (after n d) rest i name is)
 
-  module_is : (n : Sofar) (rest : Source) (i : ℕ) (signature : Signature) → slice_get (signatures_in ds n.modules rest) i ≡ Some signature
+  module_is : (n : DeclarationCounts) (rest : Source) (i : ℕ) (signature : Signature) → slice_get (signatures_in ds n.modules rest) i ≡ Some signature
       → IsDeclared (declared_from n rest) Everywhere (AModule (slot_kinds signature.parameters)) (n.modules + i) signature.name
   module_is n [] i signature is = absurd cc
   module_is n (Module head locals body ∷ rest) zero signature is =
@@ -144,7 +144,7 @@ module _ (ds : List Declared) where
       let seen = subst (λ (n : ℕ). IsDeclared (variables m 0 head.parameters ++ variables m (length head.parameters) locals) (Within n) (AVariable slot.kind) k slot.name) here numbered in
       later (everywhere head.name (AModule (kinds_of head.parameters)) m ∷ []) _ _ _ _ _ seen
 
-  slot_is : (n : Sofar) (rest : Source) (i : ℕ) (signature : Signature) (k : ℕ) (slot : SlotHead) → slice_get (signatures_in ds n.modules rest) i ≡ Some signature
+  slot_is : (n : DeclarationCounts) (rest : Source) (i : ℕ) (signature : Signature) (k : ℕ) (slot : SlotHead) → slice_get (signatures_in ds n.modules rest) i ≡ Some signature
       → slice_get (signature.parameters ++ signature.locals) k ≡ Some slot → IsDeclared (declared_from n rest) (Within (n.modules + i)) (AVariable slot.kind) k slot.name
   slot_is n [] i signature k slot is there = absurd cc
   slot_is n (Module head locals body ∷ rest) zero signature k slot is there =

@@ -10,14 +10,14 @@ use Rattle.loft_tree.specs.declared.heads.Signature.{Signature}
 use Rattle.loft_tree.specs.declared.heads.Start.{Start as StartHead}
 use Rattle.loft_tree.specs.declared.heads.Heads.{Heads}
 use Rattle.loft_tree.specs.HeadsFit.{kinds_of as slot_kinds}
-use Rattle.loft_scopes.specs.declared.sofar.Sofar.{Sofar}
+use Rattle.loft_scopes.specs.declared.counts.DeclarationCounts.{DeclarationCounts}
 use Rattle.loft_scopes.specs.Scopes.{Declared, kinds_of, variables, start_name, after, none_yet, declared_by, declared_from, declared}
 use Rattle.loft_numbers.specs.Numbers.{schedulers_in, events_in, shared_in, slots_of, signature_of, signatures_in, starts_in, clients_in, name_text, heads_of}
 use Rattle.loft_names.specs.HeadOf.{HasHead}
 use Rattle.loft_names.proofs.HeadsLists.{Follows, follows_all, follows_head, follows_tail, each-append, each_contained}
 
 -- after so many declarations, the heads have those of the rest
-pub record HasRest (h : Heads) (ds : List Declared) (n : Sofar) (rest : Source) : Type 0 where
+pub record HasRest (h : Heads) (ds : List Declared) (n : DeclarationCounts) (rest : Source) : Type 0 where
   pub schedulers : Follows h.schedulers n.schedulers (schedulers_in rest)
   pub events : Follows h.events n.events (events_in ds rest)
   pub shared : Follows h.shared n.shared (shared_in ds rest)
@@ -41,7 +41,7 @@ slot-kinds (v ∷ vs) = ap (λ ks. v.kind ∷ ks) (slot-kinds vs)
 
 module _ (h : Heads) (ds : List Declared) where
   -- one declaration more
-  pub has_later : (n : Sofar) (d : Declaration) (rest : Source) → HasRest h ds n (d ∷ rest) → HasRest h ds (after n d) rest
+  pub has_later : (n : DeclarationCounts) (d : Declaration) (rest : Source) → HasRest h ds n (d ∷ rest) → HasRest h ds (after n d) rest
   has_later n (Scheduler name) rest r =
       record { schedulers = follows_tail _ _ _ _ r.schedulers; events = r.events; shared = r.shared; modules = r.modules; starts = r.starts; clients = r.clients }
   has_later n (Event name scheduler) rest r =
@@ -65,12 +65,12 @@ module _ (h : Heads) (ds : List Declared) where
       let e : k + 1 + length vs ≡ k + suc (length vs) = omega arith in
       ((record { head = head; there = there; slot = follows_head _ _ _ _ f }, rest.0), subst (λ n. Follows (head.parameters ++ head.locals) n more) e rest.1)
 
-  start_has : (n : Sofar) (start : StartHead) (name : Option Ident) → slice_get h.starts n.starts ≡ Some start → start.name ≡ name_text name → Each (HasHead h) (start_name name n.starts)
+  start_has : (n : DeclarationCounts) (start : StartHead) (name : Option Ident) → slice_get h.starts n.starts ≡ Some start → start.name ≡ name_text name → Each (HasHead h) (start_name name n.starts)
   start_has n start None there named = tt
   start_has n start (Some name) there named = (ap (option_map (λ x. x.name)) there ∙ ap Some named, tt)
 
   -- what one declaration declares
-  by_one : (n : Sofar) (d : Declaration) (rest : Source) → HasRest h ds n (d ∷ rest) → Each (HasHead h) (declared_by n d)
+  by_one : (n : DeclarationCounts) (d : Declaration) (rest : Source) → HasRest h ds n (d ∷ rest) → Each (HasHead h) (declared_by n d)
   by_one n (Scheduler name) rest r = (follows_head _ _ _ _ r.schedulers, tt)
   by_one n (Event name scheduler) rest r = (ap (option_map (λ x. x.name)) (follows_head _ _ _ _ r.events), tt)
   by_one n (Shared name scheduler value) rest r = (ap (option_map (λ x. x.name)) (follows_head _ _ _ _ r.shared), tt)
@@ -86,7 +86,7 @@ module _ (h : Heads) (ds : List Declared) where
   by_one n (Start scheduler called arguments name) rest r = start_has n _ name (follows_head _ _ _ _ r.starts) refl
   by_one n (Outside name orders) rest r = (ap (option_map (λ x. x.name)) (follows_head _ _ _ _ r.clients), tt)
 
-  pub each_has : (n : Sofar) (rest : Source) → HasRest h ds n rest → Each (HasHead h) (declared_from n rest)
+  pub each_has : (n : DeclarationCounts) (rest : Source) → HasRest h ds n rest → Each (HasHead h) (declared_from n rest)
   each_has n [] r = tt
   each_has n (d ∷ rest) r = each-append (HasHead h) (declared_by n d) (declared_from (after n d) rest) (by_one n d rest r) (each_has (after n d) rest (has_later n d rest r))
 

@@ -11,13 +11,13 @@ ghost use Rattle.loft_scopes.specs.declared.error.NameError.TheVariants.{NoMemor
 
 use crate::names::declared_names;
 use loft_base::NoMemory;
-use loft_numbers::{heads, links, modules};
+use loft_numbers::{number_heads, number_links, number_modules};
 use loft_scopes::{NameError, Table};
 use loft_tree::{Item, Named, NamedProgram, Program};
 use std::alloc::Global;
 
 /// The table of a program whose names and kinds are correct; the first fault of another.
-fn checked<'a>(alloc: Global, items: &'a [Item]) -> Result<Table<'a>, NameError>
+fn check_names<'a>(alloc: Global, items: &'a [Item]) -> Result<Table<'a>, NameError>
     requires { SourceFits (source_of items.now) }
     ensures table { IfOk result (λ table. table ≡ declared (source_of items.now)) }
     ensures fits { OnOk result (NamesFit (source_of items.now)) }
@@ -34,15 +34,15 @@ fn checked<'a>(alloc: Global, items: &'a [Item]) -> Result<Table<'a>, NameError>
 }
 
 /// The program with numbers in place of names, where the table has its declarations.
-fn named(alloc: Global, table: &Table, items: &[Item]) -> Result<NamedProgram, NoMemory>
+fn number_program(alloc: Global, table: &Table, items: &[Item]) -> Result<NamedProgram, NoMemory>
     requires table { table.now ≡ declared (source_of items.now) }
     requires fits { SourceFits (source_of items.now) }
     ensures { IfOk result (λ n. program_of n ≡ numbered (source_of items.now)) }
 {
     Ok(NamedProgram {
-        links: links(alloc, items)?,
-        modules: modules(alloc, table, items)?,
-        heads: heads(alloc, table, items)?,
+        links: number_links(alloc, items)?,
+        modules: number_modules(alloc, table, items)?,
+        heads: number_heads(alloc, table, items)?,
     })
 }
 
@@ -62,7 +62,7 @@ pub fn resolve(alloc: Global, p: Program) -> Result<Named, NameError>
     ensures memory { NamesFit (source_of p) → IfErr result (λ e. e ≡ no_memory) }
 {
     let items = p.items();
-    let table = checked(alloc, items)?;
-    let program = named(alloc, &table, items)?;
+    let table = check_names(alloc, items)?;
+    let program = number_program(alloc, &table, items)?;
     Ok(Named::new(program))
 }

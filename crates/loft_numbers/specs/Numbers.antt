@@ -31,7 +31,7 @@ use Rattle.loft_tree.specs.declared.named.LinkItem.{LinkItem}
 use Rattle.loft_tree.specs.declared.named.LinkItem.TheVariants as link
 use Rattle.loft_scopes.specs.declared.scope.Scope.{Scope}
 use Rattle.loft_scopes.specs.declared.scope.Scope.TheVariants.{Everywhere, Within}
-use Rattle.loft_scopes.specs.declared.sofar.Sofar.{Sofar}
+use Rattle.loft_scopes.specs.declared.counts.DeclarationCounts.{DeclarationCounts}
 use Rattle.loft_scopes.specs.Scopes.{Sort, AScheduler, AnEvent, AShared, AModule, AStart, AClient, AVariable, Declared, declared, after, none_yet, meaning}
 
 abbrev pub number_or_0 : Option Declared → ℕ
@@ -282,7 +282,7 @@ module _ (ds : List Declared) where
   clients_in (Outside name orders ∷ rest) = record { name = name.text; orders = client_orders ds Everywhere orders } ∷ clients_in rest
 
 -- a declaration by its sort and its number, where there were so many before it
-abbrev pub item_of : Sofar → Declaration → HeadItem
+abbrev pub item_of : DeclarationCounts → Declaration → HeadItem
 item_of k (Scheduler name) = item.Scheduler (record { 0 = k.schedulers })
 item_of k (Event name scheduler) = item.Event (record { 0 = k.events })
 item_of k (Shared name scheduler value) = item.Shared (record { 0 = k.shared })
@@ -291,7 +291,7 @@ item_of k (Start scheduler called arguments name) = item.Start k.starts
 item_of k (Outside name orders) = item.Client k.clients
 
 -- the declarations in text order
-abbrev pub items_in : Sofar → Source → List HeadItem
+abbrev pub items_in : DeclarationCounts → Source → List HeadItem
 items_in k [] = []
 items_in k (d ∷ rest) = item_of k d ∷ items_in (after k d) rest
 
@@ -303,7 +303,7 @@ creates_in client number (ControlThere control thread scheduler ∷ xs) = create
 creates_in client number (BroadcastThere event value ∷ xs) = creates_in client (number + 1) xs
 
 -- what a declaration has to do with links
-abbrev pub links_of : Sofar → Declaration → List LinkItem
+abbrev pub links_of : DeclarationCounts → Declaration → List LinkItem
 links_of k (Scheduler name) = []
 links_of k (Event name scheduler) = []
 links_of k (Shared name scheduler value) = []
@@ -312,7 +312,7 @@ links_of k (Start scheduler called arguments name) = link.Start scheduler.at k.s
 links_of k (Outside name orders) = creates_in k.clients 0 orders
 
 -- what has to do with links, in text order
-abbrev pub links_in : Sofar → Source → List LinkItem
+abbrev pub links_in : DeclarationCounts → Source → List LinkItem
 links_in k [] = []
 links_in k (d ∷ rest) = links_of k d ++ links_in (after k d) rest
 

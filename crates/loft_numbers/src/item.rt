@@ -6,12 +6,12 @@ ghost use Rattle.loft_numbers.specs.Numbers.{item_of, items_in};
 ghost use Rattle.loft_scopes.specs.Scopes.{none_yet};
 
 use loft_base::{EventId, ModuleId, NoMemory, SchedId, Sequence, SharedId};
-use loft_scopes::Sofar;
+use loft_scopes::DeclarationCounts;
 use loft_tree::{HeadItem, Item};
 use std::alloc::Global;
 
 /// A declaration by its sort and its number, where there were so many before it.
-fn head_item(sofar: Sofar, item: &Item) -> HeadItem
+fn head_item(sofar: DeclarationCounts, item: &Item) -> HeadItem
     ensures { result ≡ item_of sofar (declaration_of item.now) }
 {
     match item {
@@ -30,7 +30,7 @@ pub fn head_items(alloc: Global, items: &[Item]) -> Result<Sequence<HeadItem>, N
     ensures { IfOk result (λ all. all ≡ items_in none_yet (source_of items.now)) }
 {
     let mut all = Sequence::new(alloc);
-    let mut sofar = Sofar::none();
+    let mut sofar = DeclarationCounts::none();
     for item in items {
         all.push(head_item(sofar, item))?;
         sofar = sofar.after(item);

@@ -13,8 +13,8 @@ mod simple;
 mod statement;
 
 pub use expression::term as number_expression;
-pub use head::{heads, heads as number_heads};
-pub use link::links;
-pub use module::modules;
+pub use head::heads as number_heads;
+pub use link::links as number_links;
+pub use module::modules as number_modules;
 pub use part::place as number_place;
 pub use statement::number_statement;

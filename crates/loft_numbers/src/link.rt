@@ -7,7 +7,7 @@ ghost use Rattle.loft_scopes.specs.Scopes.{none_yet};
 ghost use Rattle.loft_numbers.specs.Numbers.{creates_in, links_in, links_of};
 
 use loft_base::{ModuleId, NoMemory};
-use loft_scopes::Sofar;
+use loft_scopes::DeclarationCounts;
 use loft_tree::{Item, LinkItem, OutsideOrder};
 use std::alloc::Global;
 
@@ -36,7 +36,7 @@ fn put_creates(
 }
 
 /// Appends what a declaration has to do with links, where there were so many before it.
-fn put_links(all: &mut Vec<LinkItem>, sofar: Sofar, item: &Item) -> Result<(), NoMemory>
+fn put_links(all: &mut Vec<LinkItem>, sofar: DeclarationCounts, item: &Item) -> Result<(), NoMemory>
     requires { DeclarationFits (declaration_of item.now) }
     ensures { OnOk result (all.new.items
         ≡ all.old.items ++ links_of sofar (declaration_of item.now)) }
@@ -60,7 +60,7 @@ pub fn links(alloc: Global, items: &[Item]) -> Result<Vec<LinkItem>, NoMemory>
     ensures { IfOk result (λ all. all.items ≡ links_in none_yet (source_of items.now)) }
 {
     let mut all = Vec::new(alloc);
-    let mut sofar = Sofar::none();
+    let mut sofar = DeclarationCounts::none();
     for item in items {
         put_links(&mut all, sofar, item)?;
         sofar = sofar.after(item);

@@ -30,7 +30,7 @@ use Rattle.loft_grammar.specs.Texts.{SpellsProgram, Reads}
 use Rattle.loft_parse.specs.Parsing.{locate, whole_text, parsed, Answers}
 use Rattle.loft_parts.proofs.fits.SpelledFits.{spelled_fits}
 use Rattle.loft_parse.proofs.SourceFaults.{parsed_fault}
-use Rattle.loft_parts.proofs.Checked.{told, fair, program_clear}
+use Rattle.loft_parts.proofs.Checked.{known, fair, program_clear}
 
 -- what is read with no symbol left is spelled by all of them
 pub whole_spells : (ss : List Symbol) (p : Source) (d : State Language) → read rules limits nesting program ss beginning ≡ done p [] d → SpellsProgram ss p
@@ -47,8 +47,8 @@ spelled_is ss (Ok (q, place)) h p k = go place.rest refl k
     go : (rest : List Symbol) → place.rest ≡ rest → with_rest q rest ≡ Ok p → SpellsProgram ss p
     go [] e l =
         let same : q ≡ p = cc in
-        let behind : read rules limits nesting program ss beginning ≡ done q [] place.state = h ∙ ap (λ (rest : List Symbol). done q rest place.state) e in
-        subst (SpellsProgram ss) same (whole_spells ss q place.state behind)
+        let all_read : read rules limits nesting program ss beginning ≡ done q [] place.state = h ∙ ap (λ (rest : List Symbol). done q rest place.state) e in
+        subst (SpellsProgram ss) same (whole_spells ss q place.state all_read)
     go (s ∷ rest) e l = absurd cc
 
 located_ok : (end : ℕ) (ts : List Token) (r : Result Source Fault) (p : Source) → locate end ts r ≡ Ok p → r ≡ Ok p
@@ -69,7 +69,7 @@ pub reads_parsed : (text : List ℕ) (p : Source) → Reads text p → parsed te
 reads_parsed text p (ts, cut, (d, s)) =
     let e = (found_is_cut text (Ok ts)).1 cut in
     let whole : read rules limits nesting program (symbols text ts) beginning ≡ done p [] d =
-    ap (λ (t : List Symbol). read rules limits nesting program t beginning) (sym (append-nil (symbols text ts))) ∙ spelled_read rules told fair limits nesting program program_clear (symbols text ts) [] beginning p d s tt in
+    ap (λ (t : List Symbol). read rules limits nesting program t beginning) (sym (append-nil (symbols text ts))) ∙ spelled_read rules known fair limits nesting program program_clear (symbols text ts) [] beginning p d s tt in
     ap (whole_text text) e ∙ ap (λ r. locate (length text) ts (all_of r)) whole
 
 -- a program that is read whole keeps the limits

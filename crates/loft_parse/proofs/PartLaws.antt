@@ -28,7 +28,7 @@ use Rattle.loft_grammar.specs.Limits.{nesting, beginning}
 use Rattle.loft_grammar.specs.Texts.{SpellsPart}
 use Rattle.loft_parse.specs.Parts.{IsCut, unless_more, ComesOf}
 use Rattle.loft_grammar.specs.View.{symbols_at, state_at, reads, viewed}
-use Rattle.loft_parts.proofs.Checked.{told}
+use Rattle.loft_parts.proofs.Checked.{known}
 use Rattle.loft_parts.proofs.fits.Counting.{none_within}
 use Rattle.loft_parts.proofs.fits.Parts as fits
 use Rattle.loft_parts.proofs.fits.Symbols.{symbols_fit}
@@ -71,7 +71,7 @@ same_symbols text ss of ts cut =
     let same : of.0 ≡ ts = cc in
     of.2 ∙ ap (symbols text) same
 
-module _ {A : Type 0} {f : Form A} (checked : Checked rules told f) (lim : Limits Language) (text : List ℕ) (ss : List Symbol) (of : SymbolsOf text ss) where
+module _ {A : Type 0} {f : Form A} (checked : Checked rules known f) (lim : Limits Language) (text : List ℕ) (ss : List Symbol) (of : SymbolsOf text ss) where
   spells_good : (x : A) → SpellsPart lim f text x → good (all_of (read rules lim nesting f ss beginning)) ≡ Some x
   spells_good x (ts, cut, whole) =
       let all : SpellsWhole rules lim nesting f ss beginning x = subst (λ us. SpellsWhole rules lim nesting f us beginning x) (sym (same_symbols text ss of ts cut)) whole in

@@ -31,7 +31,7 @@ fn offset_of(end: u32, symbols: &[Symbol], left: usize) -> u32
 }
 
 /// The fault, with its offset in the text.
-fn located(end: u32, symbols: &[Symbol], fault: Fault) -> ParseError
+fn locate(end: u32, symbols: &[Symbol], fault: Fault) -> ParseError
     ensures { result ≡ fault_at end (symbols_seen symbols.now) fault }
 {
     match fault {
@@ -54,16 +54,16 @@ fn program_of(alloc: Global, text: &[u8], found: &[Symbol]) -> Result<Program, P
     let start = Cursor::after(found, Counts::none());
     match items(alloc, start) {
         Err(Stop::NoMemory) => Err(ParseError::NoMemory),
-        Err(Stop::Fault(fault)) => Err(located(end, found, fault)),
+        Err(Stop::Fault(fault)) => Err(locate(end, found, fault)),
         Ok((declarations, at)) => match at.symbols {
             [] => Ok(Program::new(declarations)),
-            rest => Err(located(end, found, Fault::Expected(rest.len()))),
+            rest => Err(locate(end, found, Fault::Expected(rest.len()))),
         },
     }
 }
 
-/// The program that the text is, or its first fault.
-fn parsed(alloc: Global, text: &[u8]) -> Result<Program, ParseError>
+/// The program that a text of at most 4 MiB is, or its first fault.
+fn parse_short(alloc: Global, text: &[u8]) -> Result<Program, ParseError>
     requires { length text.now ≤ MAX_TEXT_LEN }
     ensures { Answers result (parsed text.now) }
 {
@@ -95,5 +95,5 @@ pub fn parse(alloc: Global, text: &[u8]) -> Result<Program, ParseError>
     if text.len() > MAX_TEXT_LEN {
         return Err(ParseError::TooLong);
     }
-    parsed(alloc, text)
+    parse_short(alloc, text)
 }

@@ -74,7 +74,7 @@ operand_is_one lim n at Unreadable rest c is = absurd cc
 chain_is_one : (lim : Limits Language) (n : ℕ) (f : Form Expression) (g : Form (BinaryOperator × Expression)) (ss rest : List Symbol) (c : State Language) (count : Result Counts Fault) (e : Expression)
     → 0 < least g → next_begins g rest ≡ false → read rules lim n f ss c ≡ one_read count e rest
     → read rules lim n (made (λ x. chain x.0 x.1) (f ▹ many g)) ss c ≡ one_read count e rest
-chain_is_one lim n f g ss rest c count e some stops one = ap behind one ∙ nothing count
+chain_is_one lim n f g ss rest c count e some stops one = ap continued one ∙ nothing count
   where
     more : Expression × Place Language → Read Language (Expression × List (BinaryOperator × Expression))
     more x = read rules lim n (many g) x.1.rest x.1.state >>= λ y. Ok ((x.0, y.0), y.1)
@@ -82,13 +82,13 @@ chain_is_one lim n f g ss rest c count e some stops one = ap behind one ∙ noth
     joined : (Expression × List (BinaryOperator × Expression)) × Place Language → Read Language Expression
     joined z = Ok (chain z.0.0 z.0.1, z.1)
 
-    behind : Read Language Expression → Read Language Expression
-    behind r = (r >>= more) >>= joined
+    continued : Read Language Expression → Read Language Expression
+    continued r = (r >>= more) >>= joined
 
     with_e : Read Language (List (BinaryOperator × Expression)) → Read Language (Expression × List (BinaryOperator × Expression))
     with_e r = r >>= λ y. Ok ((e, y.0), y.1)
 
-    nothing : (count : Result Counts Fault) → behind (one_read count e rest) ≡ one_read count e rest
+    nothing : (count : Result Counts Fault) → continued (one_read count e rest) ≡ one_read count e rest
     nothing (Ok after) = ap (λ r. with_e r >>= joined) (many_done rules lim n g rest (paid after) some stops)
     nothing (Err x) = refl
 
@@ -96,7 +96,7 @@ chain_is_one lim n f g ss rest c count e some stops one = ap behind one ∙ noth
 comparison_is_one : (lim : Limits Language) (n : ℕ) (f : Form Expression) (g : Form (BinaryOperator × Expression)) (ss rest : List Symbol) (c : State Language) (count : Result Counts Fault) (e : Expression)
     → next_begins g rest ≡ false → read rules lim n f ss c ≡ one_read count e rest
     → read rules lim n (made (λ x. comparison_of x.0 x.1) (f ▹ maybe g)) ss c ≡ one_read count e rest
-comparison_is_one lim n f g ss rest c count e stops one = ap behind one ∙ nothing count
+comparison_is_one lim n f g ss rest c count e stops one = ap continued one ∙ nothing count
   where
     more : Expression × Place Language → Read Language (Expression × Option (BinaryOperator × Expression))
     more x = read rules lim n (maybe g) x.1.rest x.1.state >>= λ y. Ok ((x.0, y.0), y.1)
@@ -104,10 +104,10 @@ comparison_is_one lim n f g ss rest c count e stops one = ap behind one ∙ noth
     joined : (Expression × Option (BinaryOperator × Expression)) × Place Language → Read Language Expression
     joined z = Ok (comparison_of z.0.0 z.0.1, z.1)
 
-    behind : Read Language Expression → Read Language Expression
-    behind r = (r >>= more) >>= joined
+    continued : Read Language Expression → Read Language Expression
+    continued r = (r >>= more) >>= joined
 
-    nothing : (count : Result Counts Fault) → behind (one_read count e rest) ≡ one_read count e rest
+    nothing : (count : Result Counts Fault) → continued (one_read count e rest) ≡ one_read count e rest
     nothing (Ok after) = rw stops refl
     nothing (Err x) = refl
 

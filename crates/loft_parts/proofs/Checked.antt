@@ -6,12 +6,12 @@ use Rattle.loft_lex.specs.declared.word.Word.TheVariants as word
 use Rattle.loft_lex.specs.declared.sign.Sign.TheVariants as sign
 use Rattle.loft_form.proofs.Guarded.{guarded}
 use Rattle.loft_form.proofs.Checked.{Checked}
-use Rattle.loft_form.proofs.Disjoint.{Told, Fair, every, and_true, clear, nullable, starts, goes_on, agrees}
+use Rattle.loft_form.proofs.Disjoint.{Known, Fair, every, and_true, clear, nullable, starts, goes_on, agrees}
 use Rattle.loft_form.specs.Form.{begins}
 use Rattle.loft_grammar.specs.Language.{Language, Rule, Bracketed, Signed, Conditional, Looped, is_word, is_sign, Kind, AName, AWord, ANumber, AText, ASign, Other, word_number, sign_number}
 use Rattle.loft_grammar.specs.Expressions.{builtin, bracketed, atom, negated, inverted, unary, factor, term, summand, sum, equality, ordering, compared, comparison, conjunct, conjunction, disjunct, expression, whole, argument, arguments}
-use Rattle.loft_grammar.specs.Statements.{rules, creation, behind_comma, time_limit, assigned, assignment, printed, print, create, cooperate, generate, await_event, choice, choices, select, get, join, control, broadcast, link, unlink, run, halt, conditional, while_loop, repeat, value_statement, event_statement, thread_statement, moving_statement, statement, body, condition, otherwise, branches, turns}
-use Rattle.loft_grammar.specs.Items.{negative, signed, parameter, parameters, local, place, ending, head, module_item, scheduler_item, event_item, shared_item, outer_argument, outer_arguments, alias, start_item, create_order, control_order, value_behind_comma, broadcast_order, order, outside_item, item, program}
+use Rattle.loft_grammar.specs.Statements.{rules, creation, after_comma, time_limit, assigned, assignment, printed, print, create, cooperate, generate, await_event, choice, choices, select, get, join, control, broadcast, link, unlink, run, halt, conditional, while_loop, repeat, value_statement, event_statement, thread_statement, moving_statement, statement, body, condition, otherwise, branches, turns}
+use Rattle.loft_grammar.specs.Items.{negative, signed, parameter, parameters, local, place, ending, head, module_item, scheduler_item, event_item, shared_item, outer_argument, outer_arguments, alias, start_item, create_order, control_order, value_after_comma, broadcast_order, order, outside_item, item, program}
 
 unfoldable pub kinds : List Kind
 kinds = Other ∷ AName ∷ ANumber ∷ AText ∷ (map (λ w. AWord w) words ++ map (λ s. ASign s) signs)
@@ -119,81 +119,81 @@ may_go_on Signed k = false
 may_go_on Conditional k = is_word word.Else k || begins statement k
 may_go_on Looped k = begins statement k
 
-abbrev pub told : Told Language
-told = record { may_be_empty = λ r. false; may_start = λ r k. begins (rules r) k; may_go_on = may_go_on; kinds = kinds }
+abbrev pub known : Known Language
+known = record { may_be_empty = λ r. false; may_start = λ r k. begins (rules r) k; may_go_on = may_go_on; kinds = kinds }
 
-rule_clear : (r : Rule) → clear told (rules r) ≡ true
-unfolding kinds every builtin bracketed atom negated inverted unary factor term summand sum equality ordering compared comparison conjunct conjunction disjunct expression whole argument arguments creation behind_comma time_limit assigned assignment printed print create cooperate generate await_event choice choices select get join control broadcast link unlink run halt conditional while_loop repeat value_statement event_statement thread_statement moving_statement statement body condition otherwise branches turns
+rule_clear : (r : Rule) → clear known (rules r) ≡ true
+unfolding kinds every builtin bracketed atom negated inverted unary factor term summand sum equality ordering compared comparison conjunct conjunction disjunct expression whole argument arguments creation after_comma time_limit assigned assignment printed print create cooperate generate await_event choice choices select get join control broadcast link unlink run halt conditional while_loop repeat value_statement event_statement thread_statement moving_statement statement body condition otherwise branches turns
 rule_clear Bracketed = refl
 rule_clear Signed = refl
 rule_clear Conditional = refl
 rule_clear Looped = refl
 
-rule_empty : (r : Rule) → nullable told (rules r) ≡ true → false ≡ true
-unfolding builtin bracketed atom negated inverted unary factor term summand sum equality ordering compared comparison conjunct conjunction disjunct expression whole argument arguments creation behind_comma time_limit assigned assignment printed print create cooperate generate await_event choice choices select get join control broadcast link unlink run halt conditional while_loop repeat value_statement event_statement thread_statement moving_statement statement body condition otherwise branches turns
+rule_empty : (r : Rule) → nullable known (rules r) ≡ true → false ≡ true
+unfolding builtin bracketed atom negated inverted unary factor term summand sum equality ordering compared comparison conjunct conjunction disjunct expression whole argument arguments creation after_comma time_limit assigned assignment printed print create cooperate generate await_event choice choices select get join control broadcast link unlink run halt conditional while_loop repeat value_statement event_statement thread_statement moving_statement statement body condition otherwise branches turns
 rule_empty Bracketed e = e
 rule_empty Signed e = e
 rule_empty Conditional e = e
 rule_empty Looped e = e
 
-rule_starts : (r : Rule) → agrees told (starts told (rules r)) (told.may_start r) ≡ true
-unfolding kinds every builtin bracketed atom negated inverted unary factor term summand sum equality ordering compared comparison conjunct conjunction disjunct expression whole argument arguments creation behind_comma time_limit assigned assignment printed print create cooperate generate await_event choice choices select get join control broadcast link unlink run halt conditional while_loop repeat value_statement event_statement thread_statement moving_statement statement body condition otherwise branches turns
+rule_starts : (r : Rule) → agrees known (starts known (rules r)) (known.may_start r) ≡ true
+unfolding kinds every builtin bracketed atom negated inverted unary factor term summand sum equality ordering compared comparison conjunct conjunction disjunct expression whole argument arguments creation after_comma time_limit assigned assignment printed print create cooperate generate await_event choice choices select get join control broadcast link unlink run halt conditional while_loop repeat value_statement event_statement thread_statement moving_statement statement body condition otherwise branches turns
 rule_starts Bracketed = refl
 rule_starts Signed = refl
 rule_starts Conditional = refl
 rule_starts Looped = refl
 
-rule_goes_on : (r : Rule) → agrees told (goes_on told (rules r)) (told.may_go_on r) ≡ true
-unfolding kinds every builtin bracketed atom negated inverted unary factor term summand sum equality ordering compared comparison conjunct conjunction disjunct expression whole argument arguments creation behind_comma time_limit assigned assignment printed print create cooperate generate await_event choice choices select get join control broadcast link unlink run halt conditional while_loop repeat value_statement event_statement thread_statement moving_statement statement body condition otherwise branches turns
+rule_goes_on : (r : Rule) → agrees known (goes_on known (rules r)) (known.may_go_on r) ≡ true
+unfolding kinds every builtin bracketed atom negated inverted unary factor term summand sum equality ordering compared comparison conjunct conjunction disjunct expression whole argument arguments creation after_comma time_limit assigned assignment printed print create cooperate generate await_event choice choices select get join control broadcast link unlink run halt conditional while_loop repeat value_statement event_statement thread_statement moving_statement statement body condition otherwise branches turns
 rule_goes_on Bracketed = refl
 rule_goes_on Signed = refl
 rule_goes_on Conditional = refl
 rule_goes_on Looped = refl
 
-pub fair : Fair rules told
+pub fair : Fair rules known
 fair = record { all_kinds = all_kinds; rule_clear = rule_clear; rule_empty = rule_empty; rule_starts = rule_starts; rule_goes_on = rule_goes_on }
 
-pub program_clear : clear told program ≡ true
-unfolding kinds every builtin bracketed atom negated inverted unary factor term summand sum equality ordering compared comparison conjunct conjunction disjunct expression whole argument arguments creation behind_comma time_limit assigned assignment printed print create cooperate generate await_event choice choices select get join control broadcast link unlink run halt conditional while_loop repeat value_statement event_statement thread_statement moving_statement statement body condition otherwise branches turns negative signed parameter parameters local place ending head module_item scheduler_item event_item shared_item outer_argument outer_arguments alias start_item create_order control_order value_behind_comma broadcast_order order outside_item item program
+pub program_clear : clear known program ≡ true
+unfolding kinds every builtin bracketed atom negated inverted unary factor term summand sum equality ordering compared comparison conjunct conjunction disjunct expression whole argument arguments creation after_comma time_limit assigned assignment printed print create cooperate generate await_event choice choices select get join control broadcast link unlink run halt conditional while_loop repeat value_statement event_statement thread_statement moving_statement statement body condition otherwise branches turns negative signed parameter parameters local place ending head module_item scheduler_item event_item shared_item outer_argument outer_arguments alias start_item create_order control_order value_after_comma broadcast_order order outside_item item program
 program_clear = refl
 
 rule_guarded : (r : Rule) → guarded false (rules r) ≡ true
-unfolding builtin bracketed atom negated inverted unary factor term summand sum equality ordering compared comparison conjunct conjunction disjunct expression whole argument arguments creation behind_comma time_limit assigned assignment printed print create cooperate generate await_event choice choices select get join control broadcast link unlink run halt conditional while_loop repeat value_statement event_statement thread_statement moving_statement statement body condition otherwise branches turns
+unfolding builtin bracketed atom negated inverted unary factor term summand sum equality ordering compared comparison conjunct conjunction disjunct expression whole argument arguments creation after_comma time_limit assigned assignment printed print create cooperate generate await_event choice choices select get join control broadcast link unlink run halt conditional while_loop repeat value_statement event_statement thread_statement moving_statement statement body condition otherwise branches turns
 rule_guarded Bracketed = refl
 rule_guarded Signed = refl
 rule_guarded Conditional = refl
 rule_guarded Looped = refl
 
 program_guarded : guarded false program ≡ true
-unfolding builtin bracketed atom negated inverted unary factor term summand sum equality ordering compared comparison conjunct conjunction disjunct expression whole argument arguments creation behind_comma time_limit assigned assignment printed print create cooperate generate await_event choice choices select get join control broadcast link unlink run halt conditional while_loop repeat value_statement event_statement thread_statement moving_statement statement body condition otherwise branches turns negative signed parameter parameters local place ending head module_item scheduler_item event_item shared_item outer_argument outer_arguments alias start_item create_order control_order value_behind_comma broadcast_order order outside_item item program
+unfolding builtin bracketed atom negated inverted unary factor term summand sum equality ordering compared comparison conjunct conjunction disjunct expression whole argument arguments creation after_comma time_limit assigned assignment printed print create cooperate generate await_event choice choices select get join control broadcast link unlink run halt conditional while_loop repeat value_statement event_statement thread_statement moving_statement statement body condition otherwise branches turns negative signed parameter parameters local place ending head module_item scheduler_item event_item shared_item outer_argument outer_arguments alias start_item create_order control_order value_after_comma broadcast_order order outside_item item program
 program_guarded = refl
 
 -- all that the general theorems ask of this grammar
-pub checked : Checked rules told program
+pub checked : Checked rules known program
 checked = record { fair = fair; rules_guarded = rule_guarded; form_clear = program_clear; form_guarded = program_guarded }
 
 -- ---- the same of parts of a source
 
-pub statement_checked : Checked rules told statement
-unfolding kinds every builtin bracketed atom negated inverted unary factor term summand sum equality ordering compared comparison conjunct conjunction disjunct expression whole argument arguments creation behind_comma time_limit assigned assignment printed print create cooperate generate await_event choice choices select get join control broadcast link unlink run halt conditional while_loop repeat value_statement event_statement thread_statement moving_statement statement body condition otherwise branches turns negative signed parameter parameters local place ending head module_item scheduler_item event_item shared_item outer_argument outer_arguments alias start_item create_order control_order value_behind_comma broadcast_order order outside_item item program
+pub statement_checked : Checked rules known statement
+unfolding kinds every builtin bracketed atom negated inverted unary factor term summand sum equality ordering compared comparison conjunct conjunction disjunct expression whole argument arguments creation after_comma time_limit assigned assignment printed print create cooperate generate await_event choice choices select get join control broadcast link unlink run halt conditional while_loop repeat value_statement event_statement thread_statement moving_statement statement body condition otherwise branches turns negative signed parameter parameters local place ending head module_item scheduler_item event_item shared_item outer_argument outer_arguments alias start_item create_order control_order value_after_comma broadcast_order order outside_item item program
 statement_checked = record { fair = fair; rules_guarded = rule_guarded; form_clear = refl; form_guarded = refl }
 
-pub whole_checked : Checked rules told whole
-unfolding kinds every builtin bracketed atom negated inverted unary factor term summand sum equality ordering compared comparison conjunct conjunction disjunct expression whole argument arguments creation behind_comma time_limit assigned assignment printed print create cooperate generate await_event choice choices select get join control broadcast link unlink run halt conditional while_loop repeat value_statement event_statement thread_statement moving_statement statement body condition otherwise branches turns negative signed parameter parameters local place ending head module_item scheduler_item event_item shared_item outer_argument outer_arguments alias start_item create_order control_order value_behind_comma broadcast_order order outside_item item program
+pub whole_checked : Checked rules known whole
+unfolding kinds every builtin bracketed atom negated inverted unary factor term summand sum equality ordering compared comparison conjunct conjunction disjunct expression whole argument arguments creation after_comma time_limit assigned assignment printed print create cooperate generate await_event choice choices select get join control broadcast link unlink run halt conditional while_loop repeat value_statement event_statement thread_statement moving_statement statement body condition otherwise branches turns negative signed parameter parameters local place ending head module_item scheduler_item event_item shared_item outer_argument outer_arguments alias start_item create_order control_order value_after_comma broadcast_order order outside_item item program
 whole_checked = record { fair = fair; rules_guarded = rule_guarded; form_clear = refl; form_guarded = refl }
 
-pub item_checked : Checked rules told item
-unfolding kinds every builtin bracketed atom negated inverted unary factor term summand sum equality ordering compared comparison conjunct conjunction disjunct expression whole argument arguments creation behind_comma time_limit assigned assignment printed print create cooperate generate await_event choice choices select get join control broadcast link unlink run halt conditional while_loop repeat value_statement event_statement thread_statement moving_statement statement body condition otherwise branches turns negative signed parameter parameters local place ending head module_item scheduler_item event_item shared_item outer_argument outer_arguments alias start_item create_order control_order value_behind_comma broadcast_order order outside_item item program
+pub item_checked : Checked rules known item
+unfolding kinds every builtin bracketed atom negated inverted unary factor term summand sum equality ordering compared comparison conjunct conjunction disjunct expression whole argument arguments creation after_comma time_limit assigned assignment printed print create cooperate generate await_event choice choices select get join control broadcast link unlink run halt conditional while_loop repeat value_statement event_statement thread_statement moving_statement statement body condition otherwise branches turns negative signed parameter parameters local place ending head module_item scheduler_item event_item shared_item outer_argument outer_arguments alias start_item create_order control_order value_after_comma broadcast_order order outside_item item program
 item_checked = record { fair = fair; rules_guarded = rule_guarded; form_clear = refl; form_guarded = refl }
 
-pub head_checked : Checked rules told head
-unfolding kinds every builtin bracketed atom negated inverted unary factor term summand sum equality ordering compared comparison conjunct conjunction disjunct expression whole argument arguments creation behind_comma time_limit assigned assignment printed print create cooperate generate await_event choice choices select get join control broadcast link unlink run halt conditional while_loop repeat value_statement event_statement thread_statement moving_statement statement body condition otherwise branches turns negative signed parameter parameters local place ending head module_item scheduler_item event_item shared_item outer_argument outer_arguments alias start_item create_order control_order value_behind_comma broadcast_order order outside_item item program
+pub head_checked : Checked rules known head
+unfolding kinds every builtin bracketed atom negated inverted unary factor term summand sum equality ordering compared comparison conjunct conjunction disjunct expression whole argument arguments creation after_comma time_limit assigned assignment printed print create cooperate generate await_event choice choices select get join control broadcast link unlink run halt conditional while_loop repeat value_statement event_statement thread_statement moving_statement statement body condition otherwise branches turns negative signed parameter parameters local place ending head module_item scheduler_item event_item shared_item outer_argument outer_arguments alias start_item create_order control_order value_after_comma broadcast_order order outside_item item program
 head_checked = record { fair = fair; rules_guarded = rule_guarded; form_clear = refl; form_guarded = refl }
 
-pub local_checked : Checked rules told local
-unfolding kinds every builtin bracketed atom negated inverted unary factor term summand sum equality ordering compared comparison conjunct conjunction disjunct expression whole argument arguments creation behind_comma time_limit assigned assignment printed print create cooperate generate await_event choice choices select get join control broadcast link unlink run halt conditional while_loop repeat value_statement event_statement thread_statement moving_statement statement body condition otherwise branches turns negative signed parameter parameters local place ending head module_item scheduler_item event_item shared_item outer_argument outer_arguments alias start_item create_order control_order value_behind_comma broadcast_order order outside_item item program
+pub local_checked : Checked rules known local
+unfolding kinds every builtin bracketed atom negated inverted unary factor term summand sum equality ordering compared comparison conjunct conjunction disjunct expression whole argument arguments creation after_comma time_limit assigned assignment printed print create cooperate generate await_event choice choices select get join control broadcast link unlink run halt conditional while_loop repeat value_statement event_statement thread_statement moving_statement statement body condition otherwise branches turns negative signed parameter parameters local place ending head module_item scheduler_item event_item shared_item outer_argument outer_arguments alias start_item create_order control_order value_after_comma broadcast_order order outside_item item program
 local_checked = record { fair = fair; rules_guarded = rule_guarded; form_clear = refl; form_guarded = refl }
 
-pub order_checked : Checked rules told order
-unfolding kinds every builtin bracketed atom negated inverted unary factor term summand sum equality ordering compared comparison conjunct conjunction disjunct expression whole argument arguments creation behind_comma time_limit assigned assignment printed print create cooperate generate await_event choice choices select get join control broadcast link unlink run halt conditional while_loop repeat value_statement event_statement thread_statement moving_statement statement body condition otherwise branches turns negative signed parameter parameters local place ending head module_item scheduler_item event_item shared_item outer_argument outer_arguments alias start_item create_order control_order value_behind_comma broadcast_order order outside_item item program
+pub order_checked : Checked rules known order
+unfolding kinds every builtin bracketed atom negated inverted unary factor term summand sum equality ordering compared comparison conjunct conjunction disjunct expression whole argument arguments creation after_comma time_limit assigned assignment printed print create cooperate generate await_event choice choices select get join control broadcast link unlink run halt conditional while_loop repeat value_statement event_statement thread_statement moving_statement statement body condition otherwise branches turns negative signed parameter parameters local place ending head module_item scheduler_item event_item shared_item outer_argument outer_arguments alias start_item create_order control_order value_after_comma broadcast_order order outside_item item program
 order_checked = record { fair = fair; rules_guarded = rule_guarded; form_clear = refl; form_guarded = refl }

@@ -8,7 +8,7 @@ use Rattle.loft_grammar.specs.declared.counts.Counted.TheVariants as count
 use Rattle.loft_grammar.specs.Language.{Language}
 use Rattle.loft_grammar.specs.Symbols.{Form}
 use Rattle.loft_grammar.specs.Statements.{rules}
-use Rattle.loft_grammar.specs.Items.{negative, signed, parameter, parameters, local, place, ending, head, outer_argument, outer_arguments, create_order, control_order, value_behind_comma, broadcast_order, order}
+use Rattle.loft_grammar.specs.Items.{negative, signed, parameter, parameters, local, place, ending, head, outer_argument, outer_arguments, create_order, control_order, value_after_comma, broadcast_order, order}
 use Rattle.loft_grammar.specs.Limits.{limits, nesting}
 
 -- where all nestings may still be opened, and where none may
@@ -32,7 +32,7 @@ unfolding outer_arguments outer_argument signed negative
 flat_arguments ss c = read_flat rules limits nesting 0 outer_arguments refl ss c
 
 pub flat_orders : IsFlat (fresh count.Order (many order))
-unfolding order create_order control_order broadcast_order value_behind_comma outer_arguments outer_argument signed negative
+unfolding order create_order control_order broadcast_order value_after_comma outer_arguments outer_argument signed negative
 flat_orders ss c = read_flat rules limits nesting 0 (fresh count.Order (many order)) refl ss c
 
 pub flat_local : IsFlat local
@@ -40,5 +40,5 @@ unfolding local
 flat_local ss c = read_flat rules limits nesting 0 local refl ss c
 
 pub flat_order : IsFlat order
-unfolding order create_order control_order broadcast_order value_behind_comma outer_arguments outer_argument signed negative
+unfolding order create_order control_order broadcast_order value_after_comma outer_arguments outer_argument signed negative
 flat_order ss c = read_flat rules limits nesting 0 order refl ss c

@@ -21,12 +21,12 @@ use Rattle.loft_grammar.specs.Language.{Looped, Signed}
 use Rattle.loft_grammar.specs.View.{arguments_of, statement_list_of}
 use Rattle.loft_grammar.specs.Symbols.{Form, name, text, word, word_place, sign, opening_sign}
 use Rattle.loft_grammar.specs.Expressions.{whole}
-use Rattle.loft_grammar.specs.Statements.{opens_with, creation, behind_comma, time_limit, body}
+use Rattle.loft_grammar.specs.Statements.{opens_with, creation, after_comma, time_limit, body}
 use Rattle.loft_grammar.specs.Items.{place, ending, signed, outer_arguments, alias}
 
 -- [ "," expression ] ";"
 abbrev pub value_end : Form (Option Expression × Unit {0})
-value_end = maybe behind_comma ▹ sign s.Semicolon
+value_end = maybe after_comma ▹ sign s.Semicolon
 
 -- [ "for" expression ] ";"
 abbrev pub limit_end : Form (Option Expression × Unit {0})
@@ -46,7 +46,7 @@ assigned_end = made inr whole ▹ sign s.Semicolon
 
 -- text [ "," expression ] ";"
 abbrev pub text_end : Form (((List ℕ × Option Expression) ⊎ Expression) × Unit {0})
-text_end = made inl (text ▹ maybe behind_comma) ▹ sign s.Semicolon
+text_end = made inl (text ▹ maybe after_comma) ▹ sign s.Semicolon
 
 -- "at" expression "into" name ";"
 abbrev pub get_end : Form (Unit {0} × (Expression × (Unit {0} × (Ident × Unit {0}))))

@@ -40,7 +40,7 @@ fn further_argument<'a, L: Limited>(
     argument::<L>(alloc, deeper, at)
 }
 
-/// Reads further arguments behind these.
+/// Reads further arguments after these.
 fn further_arguments<'a, L: Limited>(
     alloc: Global,
     deeper: u32,

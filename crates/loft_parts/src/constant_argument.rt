@@ -61,7 +61,7 @@ fn further_argument<'a>(alloc: Global, at: Cursor<'a>) -> Result<(Argument, Curs
     outer_argument(alloc, at)
 }
 
-/// Reads further arguments behind these.
+/// Reads further arguments after these.
 fn further_arguments<'a>(
     alloc: Global,
     arguments: Vec<Argument>,

@@ -92,7 +92,7 @@ fn further_choice<'a, L: Limited>(
     choice::<L>(alloc, at)
 }
 
-/// Reads further events behind these.
+/// Reads further events after these.
 fn further_choices<'a, L: Limited>(
     alloc: Global,
     events: Vec<EventName>,

@@ -53,7 +53,7 @@ fn further_parameter<'a>(alloc: Global, at: Cursor<'a>) -> Result<(Variable, Cur
     parameter(alloc, at)
 }
 
-/// Reads further parameters behind these.
+/// Reads further parameters after these.
 fn further_parameters<'a>(
     alloc: Global,
     parameters: Vec<Variable>,

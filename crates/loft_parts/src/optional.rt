@@ -5,7 +5,7 @@ ghost use Rattle.loft_form.specs.Form.{maybe};
 ghost use Rattle.loft_form.specs.Reading.{Gives};
 ghost use Rattle.loft_parts.specs.Ends.{name_end, value_end, limit_end, name_end_of, value_end_of};
 ghost use Rattle.loft_grammar.specs.Expressions.{whole};
-ghost use Rattle.loft_grammar.specs.Statements.{behind_comma, time_limit};
+ghost use Rattle.loft_grammar.specs.Statements.{after_comma, time_limit};
 ghost use Rattle.loft_grammar.specs.View.{reads, reads_flat, viewed};
 
 use crate::expression::whole;
@@ -34,13 +34,13 @@ pub fn optional_whole<'a, L: Limited>(
 }
 
 /// Reads a comma and an expression, if a comma stands here.
-#[tactic(auto, unfolding(loft_grammar::specs::Statements::behind_comma))]
+#[tactic(auto, unfolding(loft_grammar::specs::Statements::after_comma))]
 pub fn optional_value<'a, L: Limited>(
     alloc: Global,
     deeper: u32,
     at: Cursor<'a>,
 ) -> Result<(Option<Expr>, Cursor<'a>), Stop>
-    ensures { Gives (viewed value_of) result (reads L.limits deeper (maybe behind_comma) at.entry) }
+    ensures { Gives (viewed value_of) result (reads L.limits deeper (maybe after_comma) at.entry) }
 {
     if next_is_sign(Sign::Comma, &at) {
         let at = sign::<L>(Sign::Comma, at)?;
@@ -70,7 +70,7 @@ fn optional_limit<'a, L: Limited>(
 }
 
 /// Reads a comma and an expression, if a comma stands here, and the end of the statement.
-#[tactic(auto, unfolding(loft_grammar::specs::Statements::behind_comma))]
+#[tactic(auto, unfolding(loft_grammar::specs::Statements::after_comma))]
 pub fn value_end<'a, L: Limited>(
     alloc: Global,
     deeper: u32,

@@ -6,7 +6,7 @@ ghost use Rattle.loft_form.specs.Form.{maybe, many, fresh, next_begins};
 ghost use Rattle.loft_form.specs.Reading.{Gives};
 ghost use Rattle.loft_grammar.specs.Limits.{limits};
 ghost use Rattle.loft_parts.specs.Ends.{create_end, create_end_of};
-ghost use Rattle.loft_grammar.specs.Items.{create_order, control_order, value_behind_comma, broadcast_order, order};
+ghost use Rattle.loft_grammar.specs.Items.{create_order, control_order, value_after_comma, broadcast_order, order};
 ghost use Rattle.loft_grammar.specs.View.{symbols_at, reads_flat, viewed, itself, orders_of};
 
 use crate::constant_argument::{outer_arguments, signed};
@@ -70,9 +70,9 @@ fn control_order<'a>(alloc: Global, at: Cursor<'a>) -> Result<(OutsideOrder, Cur
 }
 
 /// Reads a comma and a number, if a comma stands here.
-#[tactic(auto, unfolding(loft_grammar::specs::Items::value_behind_comma))]
+#[tactic(auto, unfolding(loft_grammar::specs::Items::value_after_comma))]
 fn optional_value<'a>(at: Cursor<'a>) -> Result<(Option<i64>, Cursor<'a>), Stop>
-    ensures { Gives itself result (reads_flat limits (maybe value_behind_comma) at.entry) }
+    ensures { Gives itself result (reads_flat limits (maybe value_after_comma) at.entry) }
 {
     if next_is_sign(Sign::Comma, &at) {
         let at = sign::<SourceLimits>(Sign::Comma, at)?;

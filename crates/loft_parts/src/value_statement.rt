@@ -71,7 +71,7 @@ fn assignment<'a, L: Limited>(
 }
 
 /// Reads a text, a comma and an expression, if a comma stands there, and the end of the statement.
-#[tactic(auto, unfolding(loft_grammar::specs::Statements::behind_comma))]
+#[tactic(auto, unfolding(loft_grammar::specs::Statements::after_comma))]
 fn text_end<'a, L: Limited>(
     alloc: Global,
     deeper: u32,

@@ -30,7 +30,7 @@ joined (b ∷ bs) = b ++ joined bs
 abbrev pub InBatches : Heads → List Entry → Type 0
 InBatches h es = (s : SchedId) → joined (log s es) ++ waiting h s es ≡ starts_of h s ++ orders_to s (sent_in es)
 
--- What an entry sends to s stands in the first batch that s takes after it, behind what waited before it.
+-- What an entry sends to s stands in the first batch that s takes after it, following what waited before it.
 pub record InBatch (h : Heads) (before : List Entry) (e : Entry) (after : List Entry) (s : SchedId) : Type 0 where
   pub until : List Entry
   pub batch : List Order

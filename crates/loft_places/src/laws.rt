@@ -13,7 +13,7 @@ ghost use Rattle.loft_places.specs.Places.{OnePlace, InOne, Nowhere, LinkedOnce,
 /// Each order stands once at each scheduler to which it is addressed: in a batch or left over. The
 /// batches that a scheduler took, one after the other, and then what waits for it, are the creates of
 /// its starts and then all that was sent to it, in the order of the history (`batches`). What an
-/// entry sends stands in the first batch that the scheduler takes after it, behind what waited
+/// entry sends stands in the first batch that the scheduler takes after it, following what waited
 /// before, or it is left over where the scheduler takes none (`first`). This needs no more than that
 /// each batch is what waited. The rules stand in `docs/SEMANTICS.md`, "One batch".
 pub fn orders_stand_in_one_batch()

@@ -87,7 +87,7 @@ module _ (ds : List Declared) (p : Source) (d : Draft) (table : ds ≡ declared 
 
 -- ---- answers
 
--- where a line is wrong, it is the answer, but for want of memory
+-- where a line is wrong, it is the answer, unless it is out of memory
 pub line_answer : {A B : Type 0} (of : A → B) (wrong : List ℕ) (value : B) (n : ℕ) (result : Result A ListError) → Comes of wrong value result → IsLeast n wrong
     → IfOk result (λ x. ⊥) × IfErr result (λ e. (e ≡ error.NoMemory) ⊎ (e ≡ error.Line n))
 line_answer of wrong value n (Ok x) comes least = (none_least n wrong comes.0 least, tt)

@@ -56,7 +56,7 @@ IsNext (Some found) number (o ∷ os) = (bare_operation (draft_of found.0) ≡ o
 
 -- ---- answers
 
--- The first wrong line. Want of memory is free.
+-- The first wrong line. Out of memory may be the answer at any time.
 abbrev pub Blames : List ℕ → ListError → Type 0
 Blames wrong (error.Line n) = IsLeast n wrong
 Blames wrong error.TooLong = ⊥

@@ -21,7 +21,7 @@ pub fn earlier(one: Option<u32>, other: Option<u32>) -> Option<u32>
 
 /// The answer where this is the first line that is known to be wrong, and the operations gave this
 /// error.
-pub fn blamed(wrong: Option<u32>, error: ListError) -> ListError
+pub fn blame(wrong: Option<u32>, error: ListError) -> ListError
     ensures { (ms ns : List ℕ) → IsLeastOf wrong ms → Blames ns error → Blames (ms ++ ns) result }
 {
     match error {

@@ -17,7 +17,7 @@ use loft_scopes::{Scope, Table};
 use loft_tree::Item;
 use std::alloc::Global;
 
-/// One more declaration: the code of a module is put behind that of those before it. The text has
+/// One more declaration: the code of a module is put after that of those before it. The text has
 /// the lines of its operations.
 fn put_item(
     alloc: Global,

@@ -10,7 +10,7 @@ ghost use Rattle.loft_reading.specs.Lists.{LineFault, Lists};
 ghost use Rattle.loft_reading.specs.Numbered.{numbered};
 ghost use Rattle.loft_reading.specs.declared.error.ListError.TheVariants.{Line, NoMemory as no_memory, TooLong};
 
-use crate::earlier::{blamed, earlier};
+use crate::earlier::{blame, earlier};
 use crate::error::ListError;
 use crate::modules::modules_code;
 use loft_code::{CodeProgram, RawCode};
@@ -39,7 +39,7 @@ fn code_of(alloc: Global, drafted: &Drafted) -> Result<RawCode, ListError>
             }
             Some(line) => Err(ListError::Line(line)),
         },
-        Err(error) => Err(blamed(wrong, error)),
+        Err(error) => Err(blame(wrong, error)),
     }
 }
 

@@ -9,4 +9,4 @@ mod source;
 
 pub use listing::read_code;
 pub use refusal::{Refusal, Stopped};
-pub use source::{placed, read_program};
+pub use source::{place_program, read_program};

@@ -34,7 +34,7 @@ pub fn read_program<F: Files>(alloc: Global, files: &mut F, name: &str) -> Resul
 
 /// The program with numbers in place of names, its threads linked wherever its statements need it; else why not, names
 /// before links.
-pub fn placed(alloc: Global, program: Program) -> Result<Placed, Stopped>
+pub fn place_program(alloc: Global, program: Program) -> Result<Placed, Stopped>
     ensures program { IfOk result (λ p. program_of p ≡ numbered (source_of program)) }
     ensures well { OnOk result (Well (source_of program)) }
     ensures refused { IfErr result (IsUnfit (source_of program)) }

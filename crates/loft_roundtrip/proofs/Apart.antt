@@ -9,7 +9,7 @@ use Rattle.loft_tree.specs.Source.{Named, Declaration, Scheduler, Event, Shared,
 use Rattle.loft_scopes.specs.Scopes.{Sort, AScheduler, AnEvent, AShared, AModule, AStart, AClient, AVariable, Declared, variables, after, declared_by, declared_from, seen_together, is_seen}
 use Rattle.loft_scopes.specs.declared.scope.Scope.{Scope}
 use Rattle.loft_scopes.specs.declared.scope.Scope.TheVariants.{Everywhere, Within}
-use Rattle.loft_scopes.specs.declared.sofar.Sofar.{Sofar}
+use Rattle.loft_scopes.specs.declared.counts.DeclarationCounts.{DeclarationCounts}
 use Rattle.loft_names.specs.HeadOf.{HasHead, IsHeadIn}
 use Rattle.loft_names.specs.NamesHold.{NamesApart}
 use Rattle.loft_names.proofs.HeadsLists.{each-append, each_get, each_map}
@@ -18,7 +18,7 @@ use Rattle.loft_roundtrip.proofs.OneMeaning.{AreOne, are_one}
 -- ---- numbers of declarations
 
 -- the declaration comes after so many
-comes_after : Sofar → Scope → Sort → ℕ → Type 0
+comes_after : DeclarationCounts → Scope → Sort → ℕ → Type 0
 comes_after n Everywhere AScheduler k = n.schedulers ≤ k
 comes_after n Everywhere AnEvent k = n.events ≤ k
 comes_after n Everywhere AShared k = n.shared ≤ k
@@ -29,7 +29,7 @@ comes_after n Everywhere (AVariable kind) k = ⊥
 comes_after n (Within m) sort k = n.modules ≤ m
 
 -- it is one of so many
-is_among : Sofar → Scope → Sort → ℕ → Type 0
+is_among : DeclarationCounts → Scope → Sort → ℕ → Type 0
 is_among n Everywhere AScheduler k = k < n.schedulers
 is_among n Everywhere AnEvent k = k < n.events
 is_among n Everywhere AShared k = k < n.shared
@@ -39,13 +39,13 @@ is_among n Everywhere AClient k = k < n.clients
 is_among n Everywhere (AVariable kind) k = ⊥
 is_among n (Within m) sort k = m < n.modules
 
-ComesAfter : Sofar → Declared → Type 0
+ComesAfter : DeclarationCounts → Declared → Type 0
 ComesAfter n d = comes_after n d.scope d.sort d.number
 
-IsAmong : Sofar → Declared → Type 0
+IsAmong : DeclarationCounts → Declared → Type 0
 IsAmong n d = is_among n d.scope d.sort d.number
 
-not_both : (n : Sofar) (scope : Scope) (sort : Sort) (k : ℕ) → is_among n scope sort k → comes_after n scope sort k → ⊥
+not_both : (n : DeclarationCounts) (scope : Scope) (sort : Sort) (k : ℕ) → is_among n scope sort k → comes_after n scope sort k → ⊥
 unfolding comes_after is_among
 not_both n Everywhere AScheduler k among later = omega arith
 not_both n Everywhere AnEvent k among later = omega arith
@@ -57,7 +57,7 @@ not_both n Everywhere (AVariable kind) k among later = among
 not_both n (Within m) sort k among later = omega arith
 
 -- as many or more of each sort
-record IsNoLess (n m : Sofar) : Type 0 where
+record IsNoLess (n m : DeclarationCounts) : Type 0 where
   schedulers : n.schedulers ≤ m.schedulers
   events : n.events ≤ m.events
   shared : n.shared ≤ m.shared
@@ -65,7 +65,7 @@ record IsNoLess (n m : Sofar) : Type 0 where
   starts : n.starts ≤ m.starts
   clients : n.clients ≤ m.clients
 
-one_more : (n : Sofar) (d : Declaration) → IsNoLess n (after n d)
+one_more : (n : DeclarationCounts) (d : Declaration) → IsNoLess n (after n d)
 one_more n (Scheduler name) = record { schedulers = omega arith; events = omega arith; shared = omega arith; modules = omega arith; starts = omega arith; clients = omega arith }
 one_more n (Event name scheduler) = record { schedulers = omega arith; events = omega arith; shared = omega arith; modules = omega arith; starts = omega arith; clients = omega arith }
 one_more n (Shared name scheduler value) = record { schedulers = omega arith; events = omega arith; shared = omega arith; modules = omega arith; starts = omega arith; clients = omega arith }
@@ -73,7 +73,7 @@ one_more n (Module head locals body) = record { schedulers = omega arith; events
 one_more n (Start scheduler called arguments name) = record { schedulers = omega arith; events = omega arith; shared = omega arith; modules = omega arith; starts = omega arith; clients = omega arith }
 one_more n (Outside name orders) = record { schedulers = omega arith; events = omega arith; shared = omega arith; modules = omega arith; starts = omega arith; clients = omega arith }
 
-after_fewer : (n m : Sofar) → IsNoLess n m → (scope : Scope) (sort : Sort) (k : ℕ) → comes_after m scope sort k → comes_after n scope sort k
+after_fewer : (n m : DeclarationCounts) → IsNoLess n m → (scope : Scope) (sort : Sort) (k : ℕ) → comes_after m scope sort k → comes_after n scope sort k
 unfolding comes_after
 after_fewer n m less Everywhere AScheduler k later = omega (arith, less.schedulers)
 after_fewer n m less Everywhere AnEvent k later = omega (arith, less.events)
@@ -86,17 +86,17 @@ after_fewer n m less (Within x) sort k later = omega (arith, less.modules)
 
 -- ---- what one declaration declares
 
-variables_after : (n : Sofar) (k : ℕ) (vs : List Named) → Each (ComesAfter n) (variables n.modules k vs)
+variables_after : (n : DeclarationCounts) (k : ℕ) (vs : List Named) → Each (ComesAfter n) (variables n.modules k vs)
 unfolding ComesAfter comes_after
 variables_after n k [] = tt
 variables_after n k (v ∷ vs) = (omega arith, variables_after n (k + 1) vs)
 
-variables_among : (n m : Sofar) → n.modules < m.modules → (k : ℕ) (vs : List Named) → Each (IsAmong m) (variables n.modules k vs)
+variables_among : (n m : DeclarationCounts) → n.modules < m.modules → (k : ℕ) (vs : List Named) → Each (IsAmong m) (variables n.modules k vs)
 unfolding IsAmong is_among
 variables_among n m less k [] = tt
 variables_among n m less k (v ∷ vs) = (less, variables_among n m less (k + 1) vs)
 
-by_after : (n : Sofar) (d : Declaration) → Each (ComesAfter n) (declared_by n d)
+by_after : (n : DeclarationCounts) (d : Declaration) → Each (ComesAfter n) (declared_by n d)
 unfolding ComesAfter comes_after
 by_after n (Scheduler name) = (omega arith, tt)
 by_after n (Event name scheduler) = (omega arith, tt)
@@ -107,7 +107,7 @@ by_after n (Start scheduler called arguments None) = tt
 by_after n (Start scheduler called arguments (Some name)) = (omega arith, tt)
 by_after n (Outside name orders) = (omega arith, tt)
 
-by_among : (n : Sofar) (d : Declaration) → Each (IsAmong (after n d)) (declared_by n d)
+by_among : (n : DeclarationCounts) (d : Declaration) → Each (IsAmong (after n d)) (declared_by n d)
 unfolding IsAmong is_among
 by_among n (Scheduler name) = (omega arith, tt)
 by_among n (Event name scheduler) = (omega arith, tt)
@@ -120,7 +120,7 @@ by_among n (Start scheduler called arguments None) = tt
 by_among n (Start scheduler called arguments (Some name)) = (omega arith, tt)
 by_among n (Outside name orders) = (omega arith, tt)
 
-all_after : (n : Sofar) (p : Source) → Each (ComesAfter n) (declared_from n p)
+all_after : (n : DeclarationCounts) (p : Source) → Each (ComesAfter n) (declared_from n p)
 unfolding ComesAfter
 all_after n [] = tt
 all_after n (d ∷ p) =
@@ -143,7 +143,7 @@ which (y ∷ xs) ys (suc i) x is = elim (which xs ys i x is) [
 ]
 
 -- what comes later is none of those before
-differ : (n : Sofar) (d e : Declared) → IsAmong n d → ComesAfter n e → AreOne d.scope e.scope d.sort e.sort d.number e.number → ⊥
+differ : (n : DeclarationCounts) (d e : Declared) → IsAmong n d → ComesAfter n e → AreOne d.scope e.scope d.sort e.sort d.number e.number → ⊥
 unfolding IsAmong ComesAfter
 differ n d e among later one =
     not_both n e.scope e.sort e.number
@@ -154,7 +154,7 @@ other_way : (d e : Declared) → AreOne d.scope e.scope d.sort e.sort d.number e
 other_way d e one = record { scopes = sym one.scopes; sorts = sym one.sorts; numbers = sym one.numbers }
 
 -- both stand in the first list, or both in the second one
-both_parts : (n : Sofar) (xs ys : List Declared) → AreNumbered xs → AreNumbered ys → Each (IsAmong n) xs → Each (ComesAfter n) ys → AreNumbered (xs ++ ys)
+both_parts : (n : DeclarationCounts) (xs ys : List Declared) → AreNumbered xs → AreNumbered ys → Each (IsAmong n) xs → Each (ComesAfter n) ys → AreNumbered (xs ++ ys)
 both_parts n xs ys left right among later = λ i j d e is also one.
     elim (which xs ys i d is) [
       | inl here ↦ elim (which xs ys j e also) [
@@ -208,7 +208,7 @@ in_module x m vs ws everywhere = λ i j d e is also one. one_place i j d e is al
       absurd cc
   one_place (suc i) (suc j) d e is also one = ap suc (sym (slot_at m vs ws i d is).0 ∙ one.numbers ∙ (slot_at m vs ws j e also).0)
 
-by_numbered : (n : Sofar) (d : Declaration) → AreNumbered (declared_by n d)
+by_numbered : (n : DeclarationCounts) (d : Declaration) → AreNumbered (declared_by n d)
 by_numbered n (Scheduler name) = alone _
 by_numbered n (Event name scheduler) = alone _
 by_numbered n (Shared name scheduler value) = alone _
@@ -217,7 +217,7 @@ by_numbered n (Start scheduler called arguments None) = λ i j d e is also one. 
 by_numbered n (Start scheduler called arguments (Some name)) = alone _
 by_numbered n (Outside name orders) = alone _
 
-all_numbered : (n : Sofar) (p : Source) → AreNumbered (declared_from n p)
+all_numbered : (n : DeclarationCounts) (p : Source) → AreNumbered (declared_from n p)
 all_numbered n [] = λ i j d e is also one. absurd cc
 all_numbered n (d ∷ p) = both_parts (after n d) (declared_by n d) (declared_from (after n d) p) (by_numbered n d) (all_numbered (after n d) p) (by_among n d) (all_after (after n d) p)
 
@@ -230,7 +230,7 @@ from_both Everywhere (Within n) seen = (Within n, refl, eq-eqb n n refl)
 from_both (Within m) Everywhere seen = (Within m, eq-eqb m m refl, refl)
 from_both (Within m) (Within n) seen = (Within n, seen, eq-eqb n n refl)
 
-pub names_apart : (h : Heads) → NamesDiffer h → (n : Sofar) (p : Source) → Each (HasHead h) (declared_from n p) → NamesApart (declared_from n p)
+pub names_apart : (h : Heads) → NamesDiffer h → (n : DeclarationCounts) (p : Source) → Each (HasHead h) (declared_from n p) → NamesApart (declared_from n p)
 names_apart h apart n p each = λ i j d e is also seen named.
     let from = from_both d.scope e.scope seen in
     let here = each_get (HasHead h) (declared_from n p) i d each is in

@@ -10,7 +10,7 @@ use Rattle.loft_tree.specs.declared.heads.HeadItem.{HeadItem}
 use Rattle.loft_tree.specs.declared.heads.HeadItem.TheVariants as item
 use Rattle.loft_tree.specs.declared.heads.Heads.{Heads}
 use Rattle.loft_tree.specs.NamedFits.{Tally, AreCounted, no_items, tally_of}
-use Rattle.loft_scopes.specs.declared.sofar.Sofar.{Sofar}
+use Rattle.loft_scopes.specs.declared.counts.DeclarationCounts.{DeclarationCounts}
 use Rattle.loft_code.specs.Fits.{RawFits}
 use Rattle.loft_code.specs.Operations.{Line, Automata}
 use Rattle.loft_listing.specs.Listing.{operations_of}
@@ -72,7 +72,7 @@ are_within n (item.Client c ∷ is) all counted =
 
 -- ---- what the parts are after so many
 
-abbrev sofar_of : Tally → Sofar
+abbrev sofar_of : Tally → DeclarationCounts
 sofar_of n = record { schedulers = n.schedulers; events = n.events; shared = n.shared; modules = n.modules; starts = n.starts; clients = n.clients }
 
 -- the parts are what is left of the code after so many, and these items

@@ -16,7 +16,7 @@ use Rattle.loft_tree.specs.Source.{AName, ANumber, Argument, Assign, AssignCreat
 use Rattle.loft_tree.specs.Fits.{ArgumentFits, CallFits, DeclarationFits, Each, EndFits, EventNameFits, ExpressionFits, IfThere, NameFits, OrderFits, PlaceFits, SignedFits}
 use Rattle.loft_grammar.specs.PartsFit.{HeadFits, LineCreationFits, LineFits, NamedFits}
 use Rattle.loft_grammar.specs.Limits.{nesting}
-use Rattle.loft_show.specs.Canon.{Piece, argument_pieces, behind, call_pieces, bracketed_pieces, comma_part, control_word, creation_pieces, declaration_lines, ended, event_pieces, expression_pieces, for_part, further_pieces, head_line, kind_word, line, lines_text, name, name_pieces, named_pieces, order_line, pieces_text, place_pieces, sign, signed_pieces, space, spaced, spelled, tight, word}
+use Rattle.loft_show.specs.Canon.{Piece, argument_pieces, led_by, call_pieces, bracketed_pieces, comma_part, control_word, creation_pieces, declaration_lines, ended, event_pieces, expression_pieces, for_part, further_pieces, head_line, kind_word, line, lines_text, name, name_pieces, named_pieces, order_line, pieces_text, place_pieces, sign, signed_pieces, space, spaced, spelled, tight, word}
 use Rattle.loft_show.specs.PartReads.{IsOneLine}
 use Rattle.loft_rows.specs.Instructions as instruction
 use Rattle.loft_rows.specs.Instructions.{Instruction, feed, instruction_text, statement_text, value_text}
@@ -24,7 +24,7 @@ use Rattle.loft_rows.specs.Rows as rows
 use Rattle.loft_rows.specs.Rows.{ListingLine, line_text}
 use Rattle.loft_rows.specs.RowsFit.{InstructionFits, IsOneLineItem, ListingLineFits}
 use Rattle.loft_rows.proofs.Bare.{action_line, stop_line}
-use Rattle.loft_roundtrip.proofs.Sizes.{EachSmall, behind_size, bracketed_size, decimal_few, events_size, name_few, size, size_both, size_is, text_few, value_size}
+use Rattle.loft_roundtrip.proofs.Sizes.{EachSmall, led_size, bracketed_size, decimal_few, events_size, name_few, size, size_both, size_is, text_few, value_size}
 
 -- ---- statements
 
@@ -71,10 +71,10 @@ events_small [] fit = tt
 events_small (e ∷ es) fit = ((λ gap short. let few = name_few e.name fit.0 in omega (arith, few, short)), events_small es fit.1)
 
 comma_size : (e : Option Expression) → IfThere (ExpressionFits nesting) e → size (comma_part e) ≤ 17089
-comma_size e fit = let most = behind_size expression_pieces 17088 (tight (sign s.Comma) ∷ []) e (value_small e fit) in omega (arith, most)
+comma_size e fit = let most = led_size expression_pieces 17088 (tight (sign s.Comma) ∷ []) e (value_small e fit) in omega (arith, most)
 
 for_size : (e : Option Expression) → IfThere (ExpressionFits nesting) e → size (for_part e) ≤ 17092
-for_size e fit = let most = behind_size expression_pieces 17088 (spaced (word w.For) ∷ []) e (value_small e fit) in omega (arith, most)
+for_size e fit = let most = led_size expression_pieces 17088 (spaced (word w.For) ∷ []) e (value_small e fit) in omega (arith, most)
 
 creation_size : (x : Creation) → LineCreationFits x → length x.arguments ≤ MAX_ARGUMENTS → size (creation_pieces x) ≤ 136900
 creation_size x fits few =
@@ -122,8 +122,8 @@ statement_length (PrintValue at value) one fits few =
     let all = ended_length (tight (word w.Print) ∷ []) (expression_pieces value space) 17088 (lit≤ tt) v in
     omega (arith, all)
 statement_length (Cooperate at instants) one fits few =
-    let v = behind_size expression_pieces 17088 [] instants (value_small instants fits) in
-    let all = ended_length (tight (word w.Cooperate) ∷ []) (behind expression_pieces [] instants) 17088 (lit≤ tt) (omega (arith, v)) in
+    let v = led_size expression_pieces 17088 [] instants (value_small instants fits) in
+    let all = ended_length (tight (word w.Cooperate) ∷ []) (led_by expression_pieces [] instants) 17088 (lit≤ tt) (omega (arith, v)) in
     omega (arith, all)
 statement_length (Generate at event value) one fits few =
     let e = name_few event.name fits.0 in
@@ -294,9 +294,9 @@ head_length h fits =
     let named = name_few h.name fits.name in
     let parameters = bracketed_size named_pieces 80 h.parameters (parameters_small h.parameters fits.parameters) in
     let begin = place_few h.begin fits.begin space (lit≤ tt) in
-    let end = behind_size place_pieces 65 (spaced (word w.To) ∷ []) h.end (end_small h.begin h.end fits.end) in
-    let places : List Piece = place_pieces h.begin space ++ behind place_pieces (spaced (word w.To) ∷ []) h.end in
-    let both = size_both (place_pieces h.begin space) (behind place_pieces (spaced (word w.To) ∷ []) h.end) in
+    let end = led_size place_pieces 65 (spaced (word w.To) ∷ []) h.end (end_small h.begin h.end fits.end) in
+    let places : List Piece = place_pieces h.begin space ++ led_by place_pieces (spaced (word w.To) ∷ []) h.end in
+    let both = size_both (place_pieces h.begin space) (led_by place_pieces (spaced (word w.To) ∷ []) h.end) in
     let rest = size_both (bracketed_pieces named_pieces h.parameters) (spaced (word w.In) ∷ places) in
     let all = line_length (tight (word w.Module) ∷ spaced (name h.name) ∷ (bracketed_pieces named_pieces h.parameters ++ spaced (word w.In) ∷ places)) in
     let few = fits.few_parameters in
@@ -321,9 +321,9 @@ item_length (Shared n scheduler value) one fits =
 item_length (Module head locals body) one fits = absurd one
 item_length (Start scheduler called arguments n) one fits =
     let call = call_size scheduler called arguments fits.0 in
-    let end = behind_size name_pieces 65 (spaced (word w.As) ∷ []) n (thread_small n fits.1) in
-    let both = size_both (call_pieces scheduler called arguments) (behind name_pieces (spaced (word w.As) ∷ []) n) in
-    let all = ended_length (tight (word w.Start) ∷ []) (call_pieces scheduler called arguments ++ behind name_pieces (spaced (word w.As) ∷ []) n) 900 (lit≤ tt) (omega (arith, call, end, both)) in
+    let end = led_size name_pieces 65 (spaced (word w.As) ∷ []) n (thread_small n fits.1) in
+    let both = size_both (call_pieces scheduler called arguments) (led_by name_pieces (spaced (word w.As) ∷ []) n) in
+    let all = ended_length (tight (word w.Start) ∷ []) (call_pieces scheduler called arguments ++ led_by name_pieces (spaced (word w.As) ∷ []) n) 900 (lit≤ tt) (omega (arith, call, end, both)) in
     omega (arith, all)
 item_length (Outside n orders) one fits = absurd one
 
@@ -340,8 +340,8 @@ order_length (ControlThere control thread scheduler) fits =
     omega (arith, all)
 order_length (BroadcastThere event value) fits =
     let a = name_few event.name fits.0 in
-    let v = behind_size signed_pieces 21 (tight (sign s.Comma) ∷ []) value (number_small value fits.1) in
-    let all = ended_length (tight (word w.Broadcast) ∷ []) (spaced (name event.name) ∷ behind signed_pieces (tight (sign s.Comma) ∷ []) value) 200 (lit≤ tt) (omega (arith, a, v)) in
+    let v = led_size signed_pieces 21 (tight (sign s.Comma) ∷ []) value (number_small value fits.1) in
+    let all = ended_length (tight (word w.Broadcast) ∷ []) (spaced (name event.name) ∷ led_by signed_pieces (tight (sign s.Comma) ∷ []) value) 200 (lit≤ tt) (omega (arith, a, v)) in
     omega (arith, all)
 
 -- a line with few arguments and events is short

@@ -11,7 +11,7 @@ use Rattle.loft_tree.specs.Fits.{DeclarationFits, Each}
 use Rattle.loft_show.specs.Places.{bare_name, bare_order}
 use Rattle.loft_scopes.specs.Scopes.{Declared, after}
 use Rattle.loft_scopes.specs.declared.scope.Scope.TheVariants.{Everywhere, Within}
-use Rattle.loft_scopes.specs.declared.sofar.Sofar.{Sofar}
+use Rattle.loft_scopes.specs.declared.counts.DeclarationCounts.{DeclarationCounts}
 use Rattle.loft_names.specs.HeadOf.{HasHead}
 use Rattle.loft_scopes.specs.Modules.{next_module}
 use Rattle.loft_names.specs.NamesHold.{DeclarationAgrees, UsesAgree}
@@ -43,7 +43,7 @@ orders_lines [] = refl
 orders_lines (x ∷ xs) = ap (λ ls. rows.Order (bare_order x) ∷ ls) (orders_lines xs)
 
 -- what is declared, and the operations of each module, begin after so many with those of this draft
-pub record AreLeft (h : Heads) (modules : List (List Line)) (ds : List Declared) (k : Sofar) (d : Draft) : Type 0 where
+pub record AreLeft (h : Heads) (modules : List (List Line)) (ds : List Declared) (k : DeclarationCounts) (d : Draft) : Type 0 where
   pub schedulers : Follows h.schedulers k.schedulers (schedulers_in (source_of d))
   pub events : Follows h.events k.events (events_in ds (source_of d))
   pub shared : Follows h.shared k.shared (shared_in ds (source_of d))
@@ -52,7 +52,7 @@ pub record AreLeft (h : Heads) (modules : List (List Line)) (ds : List Declared)
   pub clients : Follows h.clients k.clients (clients_in ds (source_of d))
   pub lines : Follows modules k.modules (modules_from ds k.modules d)
 
-same_next : (k : Sofar) (x : Declaration) → next_module k.modules x ≡ (after k x).modules
+same_next : (k : DeclarationCounts) (x : Declaration) → next_module k.modules x ≡ (after k x).modules
 same_next k (Scheduler name) = refl
 same_next k (Event name scheduler) = refl
 same_next k (Shared name scheduler value) = refl
@@ -64,7 +64,7 @@ abbrev item : Declaration → List DraftOperation → DraftItem
 item x os = record { declaration = x; operations = os }
 
 module _ (h : Heads) (modules : List (List Line)) (ds : List Declared) where
-  are_left : (k : Sofar) (x : Declaration) (os : List DraftOperation) (is : Draft) → AreLeft h modules ds k (item x os ∷ is) → AreLeft h modules ds (after k x) is
+  are_left : (k : DeclarationCounts) (x : Declaration) (os : List DraftOperation) (is : Draft) → AreLeft h modules ds k (item x os ∷ is) → AreLeft h modules ds (after k x) is
   are_left k (Scheduler name) os is l =
       record { schedulers = follows_tail _ _ _ _ l.schedulers; events = l.events; shared = l.shared; heads = l.heads; starts = l.starts; clients = l.clients; lines = l.lines }
   are_left k (Event name scheduler) os is l =
@@ -79,7 +79,7 @@ module _ (h : Heads) (modules : List (List Line)) (ds : List Declared) where
       record { schedulers = l.schedulers; events = l.events; shared = l.shared; heads = l.heads; starts = l.starts; clients = follows_tail _ _ _ _ l.clients; lines = l.lines }
 
   module _ (each : Each (HasHead h) ds) where
-    module_read : (k : Sofar) (head : src.ModuleHead) (locals : List Named) (body : src.Statements) (os : List DraftOperation) (is : Draft) → AreLeft h modules ds k (item (Module head locals body) os ∷ is)
+    module_read : (k : DeclarationCounts) (head : src.ModuleHead) (locals : List Named) (body : src.Statements) (os : List DraftOperation) (is : Draft) → AreLeft h modules ds k (item (Module head locals body) os ∷ is)
         → DeclarationAgrees ds k.modules (Module head locals body) → DeclarationFits (Module head locals body) → Each ShortLineFits (drafts.declaration_lines (Module head locals body) os)
         → operations_wrong ds (Within k.modules) (first_operation (Module head locals body)) os ≡ []
         → item_lines h modules (item_of k (Module head locals body)) ≡ map bare_line (drafts.declaration_lines (Module head locals body) os)
@@ -97,7 +97,7 @@ module _ (h : Heads) (modules : List (List Line)) (ds : List Declared) where
         ∙ (λ i. rows.Head (head_back ds h each k.modules head locals agrees.0 agrees.1 fits.end i)
         ∷ locals_lines locals (operation_lines h signature 0 lines ++ rows.End ∷ []) (drafts.operation_lines 0 os ++ rows.End ∷ []) rest i)
 
-    item_read : (k : Sofar) (x : Declaration) (os : List DraftOperation) (is : Draft) → AreLeft h modules ds k (item x os ∷ is) → DeclarationAgrees ds k.modules x → DeclarationFits x
+    item_read : (k : DeclarationCounts) (x : Declaration) (os : List DraftOperation) (is : Draft) → AreLeft h modules ds k (item x os ∷ is) → DeclarationAgrees ds k.modules x → DeclarationFits x
         → Each ShortLineFits (drafts.declaration_lines x os) → operations_wrong ds (Within k.modules) (first_operation x) os ≡ []
         → item_lines h modules (item_of k x) ≡ map bare_line (drafts.declaration_lines x os)
     item_read k (Scheduler name) os is l agrees fits fit none = ap (lines_if (λ x. declaration_lines (scheduler_declaration x))) (follows_head _ _ _ _ l.schedulers)
@@ -117,7 +117,7 @@ module _ (h : Heads) (modules : List (List Line)) (ds : List Declared) where
         ∙ ap (λ ls. rows.Client (bare_name name) ∷ ls) (orders_lines orders)
 
     -- the lines of the code of a draft are those of the draft, without offsets
-    pub lines_read : (k : Sofar) (d : Draft) → AreLeft h modules ds k d → UsesAgree ds k.modules (source_of d) → Each DeclarationFits (source_of d) → Each ShortLineFits (flat_map drafts.item_lines d)
+    pub lines_read : (k : DeclarationCounts) (d : Draft) → AreLeft h modules ds k d → UsesAgree ds k.modules (source_of d) → Each DeclarationFits (source_of d) → Each ShortLineFits (flat_map drafts.item_lines d)
         → modules_wrong ds k.modules d ≡ [] → flat_map (item_lines h modules) (items_in k (source_of d)) ≡ map bare_line (flat_map drafts.item_lines d)
     lines_read k [] l agree fits fit none = refl
     lines_read k (i ∷ is) l agree fits fit none =

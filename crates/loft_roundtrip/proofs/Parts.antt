@@ -9,7 +9,7 @@ use Rattle.loft_tree.specs.declared.heads.Client.{Client}
 use Rattle.loft_tree.specs.declared.heads.HeadItem.{HeadItem}
 use Rattle.loft_tree.specs.declared.heads.HeadItem.TheVariants as item
 use Rattle.loft_tree.specs.declared.heads.Heads.{Heads}
-use Rattle.loft_scopes.specs.declared.sofar.Sofar.{Sofar}
+use Rattle.loft_scopes.specs.declared.counts.DeclarationCounts.{DeclarationCounts}
 use Rattle.loft_scopes.specs.Scopes.{none_yet}
 use Rattle.loft_code.specs.Operations.{Line, Automata}
 use Rattle.loft_listing.specs.Listing.{operations_of}
@@ -88,7 +88,7 @@ clients_in (StartPart x ∷ ps) = clients_in ps
 clients_in (ClientPart x ∷ ps) = x ∷ clients_in ps
 
 -- the parts by their sorts and numbers, after so many
-abbrev pub items_from : Sofar → List Part → List HeadItem
+abbrev pub items_from : DeclarationCounts → List Part → List HeadItem
 items_from k [] = []
 items_from k (SchedulerPart name ∷ ps) = item.Scheduler (record { 0 = k.schedulers }) ∷ items_from (record k { schedulers = k.schedulers + 1 }) ps
 items_from k (EventPart x ∷ ps) = item.Event (record { 0 = k.events }) ∷ items_from (record k { events = k.events + 1 }) ps

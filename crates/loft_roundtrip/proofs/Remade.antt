@@ -19,7 +19,7 @@ use Rattle.loft_tree.specs.declared.heads.Heads.{Heads}
 use Rattle.loft_scopes.specs.Scopes.{Declared, none_yet}
 use Rattle.loft_scopes.specs.declared.scope.Scope.{Scope}
 use Rattle.loft_scopes.specs.declared.scope.Scope.TheVariants.{Everywhere, Within}
-use Rattle.loft_scopes.specs.declared.sofar.Sofar.{Sofar}
+use Rattle.loft_scopes.specs.declared.counts.DeclarationCounts.{DeclarationCounts}
 use Rattle.loft_numbers.specs.Numbers as numbers
 use Rattle.loft_numbers.specs.Numbers.{number_of, scheduler_of, event_of, module_of, place_of, end_of, name_text, slots_of, arguments_of, client_orders, heads_of}
 use Rattle.loft_draft.specs.Drafts.{source_of}
@@ -164,7 +164,7 @@ module _ (ds : List Declared) (h : Heads) where
   same_clients line (ClientPart c ∷ ps) = (λ i. record { name = c.name; orders = same_orders (line + 1) c.orders i } ∷ same_clients (next_line h line (ClientPart c)) ps i)
   same_clients line (p ∷ ps) = same_clients (next_line h line p) ps
 
-  same_items : (k : Sofar) (line : ℕ) (ps : List Part) → numbers.items_in k (source_of (said h line ps)) ≡ items_from k ps
+  same_items : (k : DeclarationCounts) (line : ℕ) (ps : List Part) → numbers.items_in k (source_of (said h line ps)) ≡ items_from k ps
   same_items k line [] = refl
   same_items k line (SchedulerPart name ∷ ps) = ap (λ xs. item.Scheduler (record { 0 = k.schedulers }) ∷ xs) (same_items (record k { schedulers = k.schedulers + 1 }) (next_line h line (SchedulerPart name)) ps)
   same_items k line (EventPart x ∷ ps) = ap (λ xs. item.Event (record { 0 = k.events }) ∷ xs) (same_items (record k { events = k.events + 1 }) (next_line h line (EventPart x)) ps)

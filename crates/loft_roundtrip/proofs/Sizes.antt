@@ -18,7 +18,7 @@ use Rattle.loft_tree.specs.Levels.{in_brackets, left_bracketed, nesting, operand
 use Rattle.loft_tree.specs.Source.{Binary, Expression, Ident, Number, Special, Unary, Variable}
 use Rattle.loft_tree.specs.Fits.{Each, ExpressionFits, IfThere, NameFits, NumberFits, WordsFit}
 use Rattle.loft_grammar.specs.Limits as grammar
-use Rattle.loft_show.specs.Canon.{Piece, behind, binary_sign, builtin_word, expression_pieces, further_pieces, held, list_pieces, bracketed_pieces, number_text, pieces_text, sign, space, spelled, unary_sign, word}
+use Rattle.loft_show.specs.Canon.{Piece, led_by, binary_sign, builtin_word, expression_pieces, further_pieces, held, list_pieces, bracketed_pieces, number_text, pieces_text, sign, space, spelled, unary_sign, word}
 
 -- the bytes of pieces
 abbrev pub size : List Piece → ℕ
@@ -124,7 +124,7 @@ value_size e fits gap short = let most = expression_size e grammar.nesting fits.
 
 -- ---- lists
 
--- each of these has at most so many bytes, behind one blank at most
+-- each of these has at most so many bytes, after one blank at most
 abbrev pub EachSmall : {A : Type 0} → (A → List ℕ → List Piece) → ℕ → List A → Type 0
 EachSmall one most xs = Each (λ x. (gap : List ℕ) → length gap ≤ 1 → size (one x gap) ≤ most) xs
 
@@ -153,7 +153,7 @@ bracketed_size one most xs small =
 pub events_size : {A : Type 0} (one : A → List ℕ → List Piece) (most : ℕ) (xs : List A) → EachSmall one most xs → size (further_pieces one xs) ≤ length xs * (1 + most)
 events_size one most xs small = further_size one most xs small
 
-pub behind_size : {A : Type 0} (one : A → List ℕ → List Piece) (most : ℕ) (ps : List Piece) (x : Option A) → IfThere (λ y. (gap : List ℕ) → length gap ≤ 1 → size (one y gap) ≤ most) x
-    → size (behind one ps x) ≤ size ps + most
-behind_size one most ps None small = omega arith
-behind_size one most ps (Some x) small = let first = small space (lit≤ tt) in let all = size_both ps (one x space) in omega (arith, first, all)
+pub led_size : {A : Type 0} (one : A → List ℕ → List Piece) (most : ℕ) (ps : List Piece) (x : Option A) → IfThere (λ y. (gap : List ℕ) → length gap ≤ 1 → size (one y gap) ≤ most) x
+    → size (led_by one ps x) ≤ size ps + most
+led_size one most ps None small = omega arith
+led_size one most ps (Some x) small = let first = small space (lit≤ tt) in let all = size_both ps (one x space) in omega (arith, first, all)

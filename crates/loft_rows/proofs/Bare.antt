@@ -8,7 +8,7 @@ use Rattle.loft_lex.specs.Symbol.{Quoted}
 use Rattle.loft_tree.specs.Levels.{Signed, Joined, shape_of, brackets_left, brackets_right, brackets_sign, left_bracketed, right_bracketed, sign_bracketed}
 use Rattle.loft_tree.specs.Source as src
 use Rattle.loft_tree.specs.Source.{Expression, Number, Variable, Special, Unary, Binary, Creation, Statement, Assign, AssignCreate, Create, PrintText, PrintValue, Cooperate, Generate, Await, Select, Get, Join, ControlThread, Broadcast, Link, Unlink, Run, Halt, If, While, Repeat, PlaceName, InScheduler, Unlinked, ModuleHead, Argument, ANumber, AName, CreateThere, ControlThere, BroadcastThere, Declaration, Scheduler, Event, Shared, Module, Start, Outside}
-use Rattle.loft_show.specs.Canon.{Piece, held, piece, tight, spaced, sign, word, name, unary_sign, binary_sign, space, expression_pieces, further_pieces, list_pieces, bracketed_pieces, behind, event_pieces, name_pieces, creation_pieces, comma_part, for_part, word_line, ended, line, statement_lines, control_word, named_pieces, place_pieces, argument_pieces, call_pieces, head_line, order_line, declaration_lines, lines_text, pieces_text}
+use Rattle.loft_show.specs.Canon.{Piece, held, piece, tight, spaced, sign, word, name, unary_sign, binary_sign, space, expression_pieces, further_pieces, list_pieces, bracketed_pieces, led_by, event_pieces, name_pieces, creation_pieces, comma_part, for_part, word_line, ended, line, statement_lines, control_word, named_pieces, place_pieces, argument_pieces, call_pieces, head_line, order_line, declaration_lines, lines_text, pieces_text}
 use Rattle.loft_show.specs.Places.{bare_expression, bare_value, bare_event, bare_name, bare_creation, bare_statement, bare_named, bare_place, bare_argument, bare_head, bare_order, bare_declaration}
 use Rattle.loft_show.specs.PartReads.{IsOneLine}
 use Rattle.loft_rows.specs.Instructions.{Instruction, Do, Stop, Branch, Enter, Count, Turn, Jump, End as EndOf, feed, value_text, instruction_text, bare_instruction}
@@ -64,9 +64,9 @@ module _ {A : Type 0} (one : A → List ℕ → List Piece) (bare : A → A) (sa
   same_bracketed : (xs : List A) → bracketed_pieces one (map bare xs) ≡ bracketed_pieces one xs
   same_bracketed xs = ap (λ ps. tight (sign s.Open) ∷ (ps ++ tight (sign s.Close) ∷ [])) (same_list xs)
 
-  same_behind : (ps : List Piece) (x : Option A) → behind one ps (option_map bare x) ≡ behind one ps x
-  same_behind ps None = refl
-  same_behind ps (Some x) = ap (λ qs. ps ++ qs) (same x space)
+  same_led : (ps : List Piece) (x : Option A) → led_by one ps (option_map bare x) ≡ led_by one ps x
+  same_led ps None = refl
+  same_led ps (Some x) = ap (λ qs. ps ++ qs) (same x space)
 
 -- ---- statements
 
@@ -77,10 +77,10 @@ same_creation : (x : Creation) → creation_pieces (bare_creation x) ≡ creatio
 same_creation x = ap (λ ps. spaced (name x.scheduler) ∷ tight (sign s.Dot) ∷ tight (name x.called) ∷ ps) (same_arguments x.arguments)
 
 same_comma : (e : Option Expression) → comma_part (bare_value e) ≡ comma_part e
-same_comma e = same_behind expression_pieces bare_expression same_expression (tight (sign s.Comma) ∷ []) e
+same_comma e = same_led expression_pieces bare_expression same_expression (tight (sign s.Comma) ∷ []) e
 
 same_for : (e : Option Expression) → for_part (bare_value e) ≡ for_part e
-same_for e = same_behind expression_pieces bare_expression same_expression (spaced (word w.For) ∷ []) e
+same_for e = same_led expression_pieces bare_expression same_expression (spaced (word w.For) ∷ []) e
 
 same_events : (events : List src.EventName) → further_pieces event_pieces (map bare_event events) ≡ further_pieces event_pieces events
 same_events events = same_further event_pieces bare_event (λ event gap. refl) events
@@ -91,7 +91,7 @@ same_statement (AssignCreate target at creation) one = ap (λ ps. line 0 (tight 
 same_statement (Create at creation) one = ap (λ ps. word_line 0 w.Create ps ∷ []) (same_creation creation)
 same_statement (PrintText at text value) one = ap (λ ps. word_line 0 w.Print (spaced (Quoted text) ∷ ps) ∷ []) (same_comma value)
 same_statement (PrintValue at value) one = ap (λ ps. word_line 0 w.Print ps ∷ []) (same_expression value space)
-same_statement (Cooperate at instants) one = ap (λ ps. word_line 0 w.Cooperate ps ∷ []) (same_behind expression_pieces bare_expression same_expression [] instants)
+same_statement (Cooperate at instants) one = ap (λ ps. word_line 0 w.Cooperate ps ∷ []) (same_led expression_pieces bare_expression same_expression [] instants)
 same_statement (Generate at event value) one = ap (λ ps. word_line 0 w.Generate (spaced (name event.name) ∷ ps) ∷ []) (same_comma value)
 same_statement (Await at event limit) one = ap (λ ps. word_line 0 w.Await (spaced (name event.name) ∷ ps) ∷ []) (same_for limit)
 same_statement (Select at [] limit) one = ap (λ ps. word_line 0 w.Select ps ∷ []) (same_for limit)
@@ -131,9 +131,9 @@ same_call scheduler called arguments =
 same_head : (h : ModuleHead) → head_line (bare_head h) ≡ head_line h
 same_head h =
     let parameters = same_bracketed named_pieces bare_named (λ v gap. refl) h.parameters in
-    let end = same_behind place_pieces bare_place same_place (spaced (word w.To) ∷ []) h.end in
-    ap (λ ps. line 0 (tight (word w.Module) ∷ spaced (name h.name) ∷ (ps ++ spaced (word w.In) ∷ (place_pieces (bare_place h.begin) space ++ behind place_pieces (spaced (word w.To) ∷ []) (option_map bare_place h.end))))) parameters
-    ∙ ap (λ ps. line 0 (tight (word w.Module) ∷ spaced (name h.name) ∷ (bracketed_pieces named_pieces h.parameters ++ spaced (word w.In) ∷ (ps ++ behind place_pieces (spaced (word w.To) ∷ []) (option_map bare_place h.end))))) (same_place h.begin space)
+    let end = same_led place_pieces bare_place same_place (spaced (word w.To) ∷ []) h.end in
+    ap (λ ps. line 0 (tight (word w.Module) ∷ spaced (name h.name) ∷ (ps ++ spaced (word w.In) ∷ (place_pieces (bare_place h.begin) space ++ led_by place_pieces (spaced (word w.To) ∷ []) (option_map bare_place h.end))))) parameters
+    ∙ ap (λ ps. line 0 (tight (word w.Module) ∷ spaced (name h.name) ∷ (bracketed_pieces named_pieces h.parameters ++ spaced (word w.In) ∷ (ps ++ led_by place_pieces (spaced (word w.To) ∷ []) (option_map bare_place h.end))))) (same_place h.begin space)
     ∙ ap (λ ps. line 0 (tight (word w.Module) ∷ spaced (name h.name) ∷ (bracketed_pieces named_pieces h.parameters ++ spaced (word w.In) ∷ (place_pieces h.begin space ++ ps)))) end
 
 same_order : (x : src.Order) → order_line (bare_order x) ≡ order_line x
@@ -147,8 +147,8 @@ same_item (Event n scheduler) one = refl
 same_item (Shared n scheduler value) one = refl
 same_item (Module head locals body) one = absurd one
 same_item (Start scheduler called arguments n) one =
-    ap (λ ps. word_line 0 w.Start (ps ++ behind name_pieces (spaced (word w.As) ∷ []) (option_map bare_name n)) ∷ []) (same_call scheduler called arguments)
-    ∙ ap (λ ps. word_line 0 w.Start (call_pieces scheduler called arguments ++ ps) ∷ []) (same_behind name_pieces bare_name (λ m gap. refl) (spaced (word w.As) ∷ []) n)
+    ap (λ ps. word_line 0 w.Start (ps ++ led_by name_pieces (spaced (word w.As) ∷ []) (option_map bare_name n)) ∷ []) (same_call scheduler called arguments)
+    ∙ ap (λ ps. word_line 0 w.Start (call_pieces scheduler called arguments ++ ps) ∷ []) (same_led name_pieces bare_name (λ m gap. refl) (spaced (word w.As) ∷ []) n)
 same_item (Outside n orders) one = absurd one
 
 -- ---- lines

@@ -34,31 +34,31 @@ before_short m byte text before after whole short =
 abbrev pub place_bytes : PlaceName → List ℕ
 place_bytes p = pieces_text (place_pieces p [])
 
-place_behind : (p : PlaceName) → place_text p ≡ 32 ∷ place_bytes p
-place_behind (InScheduler n) = refl
-place_behind Unlinked = refl
+place_after_blank : (p : PlaceName) → place_text p ≡ 32 ∷ place_bytes p
+place_after_blank (InScheduler n) = refl
+place_after_blank Unlinked = refl
 
 -- the text of an expression, with a line feed
 abbrev pub line_bytes : Expression → List ℕ
 line_bytes e = pieces_text (expression_pieces e []) ++ feed
 
-held_behind : (t : Bool) (inner : List ℕ → List Piece) → pieces_text (inner space) ≡ 32 ∷ pieces_text (inner []) → pieces_text (held t inner space) ≡ 32 ∷ pieces_text (held t inner [])
-held_behind true inner same = refl
-held_behind false inner same = same
+held_after_blank : (t : Bool) (inner : List ℕ → List Piece) → pieces_text (inner space) ≡ 32 ∷ pieces_text (inner []) → pieces_text (held t inner space) ≡ 32 ∷ pieces_text (held t inner [])
+held_after_blank true inner same = refl
+held_after_blank false inner same = same
 
-expression_behind : (e : Expression) → pieces_text (expression_pieces e space) ≡ 32 ∷ pieces_text (expression_pieces e [])
-expression_behind (Number at value) = refl
-expression_behind (Variable n) = refl
-expression_behind (Special at builtin) = refl
-expression_behind (Unary at operator e) = refl
-expression_behind (Binary operator left right) =
+expression_after_blank : (e : Expression) → pieces_text (expression_pieces e space) ≡ 32 ∷ pieces_text (expression_pieces e [])
+expression_after_blank (Number at value) = refl
+expression_after_blank (Variable n) = refl
+expression_after_blank (Special at builtin) = refl
+expression_after_blank (Unary at operator e) = refl
+expression_after_blank (Binary operator left right) =
     let rest : List Piece = spaced (sign (binary_sign operator)) ∷ held (right_bracketed operator right) (expression_pieces right) space in
     pieces_text-append (held (left_bracketed operator left) (expression_pieces left) space) rest
-    ∙ ap (λ t. t ++ pieces_text rest) (held_behind (left_bracketed operator left) (expression_pieces left) (expression_behind left))
+    ∙ ap (λ t. t ++ pieces_text rest) (held_after_blank (left_bracketed operator left) (expression_pieces left) (expression_after_blank left))
     ∙ ap (λ t. 32 ∷ t) (sym (pieces_text-append (held (left_bracketed operator left) (expression_pieces left) []) rest))
 
-value_behind : (e : Expression) → value_text e ≡ 32 ∷ line_bytes e
-value_behind e = ap (λ t. t ++ feed) (expression_behind e)
+value_after_blank : (e : Expression) → value_text e ≡ 32 ∷ line_bytes e
+value_after_blank e = ap (λ t. t ++ feed) (expression_after_blank e)
 
 -- ---- cuts
 
@@ -68,13 +68,13 @@ place_without Unlinked fits = refl
 
 pub operation_columns : (number depth : ℕ) (p : PlaceName) (i : Instruction)
     → line_text (Operation number p depth i) ≡ decimal number ++ 32 ∷ (place_bytes p ++ 32 ∷ (decimal depth ++ 32 ∷ instruction_text i))
-operation_columns number depth p i = ap (λ t. decimal number ++ (t ++ 32 ∷ (decimal depth ++ 32 ∷ instruction_text i))) (place_behind p)
+operation_columns number depth p i = ap (λ t. decimal number ++ (t ++ 32 ∷ (decimal depth ++ 32 ∷ instruction_text i))) (place_after_blank p)
 
 pub branch_cut : (text : List ℕ) (t : ℕ) (test : Expression) → text ≡ instruction_text (Branch t test) → IsCutAt 32 text (codes "branch") (decimal t ++ 32 ∷ line_bytes test)
-branch_cut text t test same = record { whole = same ∙ ap (λ v. codes "branch " ++ (decimal t ++ v)) (value_behind test); first = refl }
+branch_cut text t test same = record { whole = same ∙ ap (λ v. codes "branch " ++ (decimal t ++ v)) (value_after_blank test); first = refl }
 
 pub count_cut : (text : List ℕ) (count : Expression) → text ≡ codes "count" ++ value_text count → IsCutAt 32 text (codes "count") (line_bytes count)
-count_cut text count same = record { whole = same ∙ ap (λ v. codes "count" ++ v) (value_behind count); first = refl }
+count_cut text count same = record { whole = same ∙ ap (λ v. codes "count" ++ v) (value_after_blank count); first = refl }
 
 pub turn_cut : (text : List ℕ) (t : ℕ) → text ≡ instruction_text (Turn t) → IsCutAt 32 text (codes "turn") (decimal t ++ feed)
 turn_cut text t same = record { whole = same; first = refl }

@@ -23,7 +23,7 @@ step_past : (byte k b : ℕ) (rest : List ℕ) (t : Bool) (found : Option ℕ) �
 step_past byte k b rest true found is other later = absurd cc
 step_past byte k b rest false found is other later = grind (arith, common_steps)
 
--- the first of the bytes stands behind those before it
+-- the first of the bytes stands after those before it
 position_found : (byte k : ℕ) (before after : List ℕ) → IsWithout byte before
     → position_from (λ c. c == byte) k (before ++ byte ∷ after) ≡ Some (k + length before)
 position_found byte k [] after without = grind (arith, common_steps, nat_tests)
@@ -113,5 +113,5 @@ pub line_cut : (text line rest front : List ℕ) → text ≡ line ++ rest → l
 line_cut text line rest front whole ends plain = record { whole = whole ∙ ap (λ t. t ++ rest) ends ∙ append_assoc front (10 ∷ []) rest; first = plain }
 
 pub line_whole : (text before after line rest : List ℕ) → IsCutAt 10 text before after → line ≡ before ++ 10 ∷ [] → rest ≡ after → text ≡ line ++ rest
-line_whole text before after line rest cut first behind =
-    cut.whole ∙ sym (append_assoc before (10 ∷ []) after) ∙ ap (λ t. t ++ after) (sym first) ∙ ap (λ t. line ++ t) (sym behind)
+line_whole text before after line rest cut first follows =
+    cut.whole ∙ sym (append_assoc before (10 ∷ []) after) ∙ ap (λ t. t ++ after) (sym first) ∙ ap (λ t. line ++ t) (sym follows)

@@ -22,7 +22,7 @@ use Rattle.loft_tree.specs.Fits.{Each, IfThere, NameFits, EventNameFits, NumberF
 use Rattle.loft_tree.specs.Levels.{left_bracketed, right_bracketed, sign_bracketed}
 use Rattle.loft_grammar.specs.Limits.{nesting}
 use Rattle.loft_grammar.specs.PartsFit.{LineCreationFits, LineFits, NamedFits, HeadFits}
-use Rattle.loft_show.specs.Canon.{Piece, spelled, held, tight, spaced, sign, word, name, unary_sign, binary_sign, builtin_word, space, signed_pieces, expression_pieces, ended, line, lines_text, pieces_text, control_word, kind_word, word_line, creation_pieces, comma_part, for_part, behind, further_pieces, list_pieces, event_pieces, name_pieces, named_pieces, place_pieces, argument_pieces, call_pieces, bracketed_pieces}
+use Rattle.loft_show.specs.Canon.{Piece, spelled, held, tight, spaced, sign, word, name, unary_sign, binary_sign, builtin_word, space, signed_pieces, expression_pieces, ended, line, lines_text, pieces_text, control_word, kind_word, word_line, creation_pieces, comma_part, for_part, led_by, further_pieces, list_pieces, event_pieces, name_pieces, named_pieces, place_pieces, argument_pieces, call_pieces, bracketed_pieces}
 use Rattle.loft_show.specs.PartReads.{IsOneLine}
 use Rattle.loft_rows.specs.Cuts.{IsWithout}
 use Rattle.loft_rows.specs.Feeds.{EndsAtItsFeed}
@@ -130,17 +130,17 @@ module _ {A : Type 0} (one : A → List ℕ → List Piece) (Ok : A → Type 0) 
   bracketed_plain : (xs : List A) → Each Ok xs → PlainPieces (bracketed_pieces one xs)
   bracketed_plain xs all = (refl, refl, joined (list_pieces one xs) (tight (sign s.Close) ∷ []) (list_plain xs all) (refl, refl, tt))
 
-  behind_plain : (ps : List Piece) (x : Option A) → PlainPieces ps → IfThere Ok x → PlainPieces (behind one ps x)
-  behind_plain ps None before there = tt
-  behind_plain ps (Some x) before there = joined ps (one x space) before (plain x there space refl)
+  led_plain : (ps : List Piece) (x : Option A) → PlainPieces ps → IfThere Ok x → PlainPieces (led_by one ps x)
+  led_plain ps None before there = tt
+  led_plain ps (Some x) before there = joined ps (one x space) before (plain x there space refl)
 
 -- ---- statements
 
 values_plain : (es : List Expression) → Each (ExpressionFits nesting) es → PlainPieces (bracketed_pieces expression_pieces es)
 values_plain es all = bracketed_plain expression_pieces (ExpressionFits nesting) value_plain es all
 
-if_value : (ps : List Piece) (e : Option Expression) → PlainPieces ps → IfThere (ExpressionFits nesting) e → PlainPieces (behind expression_pieces ps e)
-if_value ps e before there = behind_plain expression_pieces (ExpressionFits nesting) value_plain ps e before there
+if_value : (ps : List Piece) (e : Option Expression) → PlainPieces ps → IfThere (ExpressionFits nesting) e → PlainPieces (led_by expression_pieces ps e)
+if_value ps e before there = led_plain expression_pieces (ExpressionFits nesting) value_plain ps e before there
 
 comma_plain : (e : Option Expression) → IfThere (ExpressionFits nesting) e → PlainPieces (comma_part e)
 comma_plain e there = if_value (tight (sign s.Comma) ∷ []) e (refl, refl, tt) there
@@ -173,7 +173,7 @@ statement_ends (Create at creation) one fits = word_ends 0 w.Create (creation_pi
 statement_ends (PrintText at text value) one fits =
     word_ends 0 w.Print (spaced (Quoted text) ∷ comma_part value) refl (refl, quoted_plain text fits.0, comma_plain value fits.1)
 statement_ends (PrintValue at value) one fits = word_ends 0 w.Print (expression_pieces value space) refl (value_plain value fits space refl)
-statement_ends (Cooperate at instants) one fits = word_ends 0 w.Cooperate (behind expression_pieces [] instants) refl (if_value [] instants tt fits)
+statement_ends (Cooperate at instants) one fits = word_ends 0 w.Cooperate (led_by expression_pieces [] instants) refl (if_value [] instants tt fits)
 statement_ends (Generate at event value) one fits =
     word_ends 0 w.Generate (spaced (name event.name) ∷ comma_part value) refl (refl, name_plain event.name fits.0, comma_plain value fits.1)
 statement_ends (Await at event limit) one fits =
@@ -232,9 +232,9 @@ item_ends (Shared n scheduler value) one fits =
     (refl, name_plain n fits.0, (refl, refl, (refl, name_plain scheduler fits.1, (refl, refl, signed_plain value fits.2 space refl))))
 item_ends (Module head' locals body) one fits = absurd one
 item_ends (Start scheduler called arguments n) one fits =
-    word_ends 0 w.Start (call_pieces scheduler called arguments ++ behind name_pieces (spaced (word w.As) ∷ []) n) refl
-    (joined (call_pieces scheduler called arguments) (behind name_pieces (spaced (word w.As) ∷ []) n) (call_plain scheduler called arguments fits.0)
-    (behind_plain name_pieces NameFits (λ x ok gap before. (before, name_plain x ok, tt)) (spaced (word w.As) ∷ []) n (refl, refl, tt) fits.1))
+    word_ends 0 w.Start (call_pieces scheduler called arguments ++ led_by name_pieces (spaced (word w.As) ∷ []) n) refl
+    (joined (call_pieces scheduler called arguments) (led_by name_pieces (spaced (word w.As) ∷ []) n) (call_plain scheduler called arguments fits.0)
+    (led_plain name_pieces NameFits (λ x ok gap before. (before, name_plain x ok, tt)) (spaced (word w.As) ∷ []) n (refl, refl, tt) fits.1))
 item_ends (Outside n orders) one fits = absurd one
 
 named_plain : (v : Named) → NamedFits v → (gap : List ℕ) → Plain gap → PlainPieces (named_pieces v gap)
@@ -250,7 +250,7 @@ end_plain begin (Some p) fits = fits.0
 
 head_ends : (h : ModuleHead) → HeadFits h → EndsAtItsFeed (line_text (Head h))
 head_ends h fits =
-    let last : List Piece = behind place_pieces (spaced (word w.To) ∷ []) h.end in
+    let last : List Piece = led_by place_pieces (spaced (word w.To) ∷ []) h.end in
     line_ends 0 (tight (word w.Module) ∷ spaced (name h.name) ∷ (bracketed_pieces named_pieces h.parameters ++ spaced (word w.In) ∷ (place_pieces h.begin space ++ last))) refl (
       refl,
       refl,
@@ -262,7 +262,7 @@ head_ends h fits =
               refl,
               refl,
               joined (place_pieces h.begin space) last (place_plain h.begin fits.begin space refl)
-                  (behind_plain place_pieces PlaceFits place_plain (spaced (word w.To) ∷ []) h.end (refl, refl, tt) (end_plain h.begin h.end fits.end)),
+                  (led_plain place_pieces PlaceFits place_plain (spaced (word w.To) ∷ []) h.end (refl, refl, tt) (end_plain h.begin h.end fits.end)),
             ),
       ),
     )
@@ -273,17 +273,17 @@ order_ends (src.ControlThere control thread scheduler) fits =
     word_ends 2 (control_word control) (spaced (name thread) ∷ spaced (word w.In) ∷ spaced (name scheduler) ∷ []) refl
     (refl, name_plain thread fits.0, (refl, refl, (refl, name_plain scheduler fits.1, tt)))
 order_ends (src.BroadcastThere event value) fits =
-    word_ends 2 w.Broadcast (spaced (name event.name) ∷ behind signed_pieces (tight (sign s.Comma) ∷ []) value) refl
-    (refl, name_plain event.name fits.0, behind_plain signed_pieces SignedFits signed_plain (tight (sign s.Comma) ∷ []) value (refl, refl, tt) fits.1)
+    word_ends 2 w.Broadcast (spaced (name event.name) ∷ led_by signed_pieces (tight (sign s.Comma) ∷ []) value) refl
+    (refl, name_plain event.name fits.0, led_plain signed_pieces SignedFits signed_plain (tight (sign s.Comma) ∷ []) value (refl, refl, tt) fits.1)
 
 -- ---- operations
 
-behind_ends : (before text : List ℕ) → Plain before → EndsAtItsFeed text → EndsAtItsFeed (before ++ text)
-behind_ends before text plain (front, whole, rest) =
+after_ends : (before text : List ℕ) → Plain before → EndsAtItsFeed text → EndsAtItsFeed (before ++ text)
+after_ends before text plain (front, whole, rest) =
     (before ++ front, ap (λ t. before ++ t) whole ∙ sym (append_assoc before front feed), both_without 10 before front plain rest)
 
 number_ends : (n : ℕ) (text : List ℕ) → IsSmall n → EndsAtItsFeed text → EndsAtItsFeed (decimal n ++ text)
-number_ends n text small ends = behind_ends (decimal n) text (decimal_without 10 n small refl) ends
+number_ends n text small ends = after_ends (decimal n) text (decimal_without 10 n small refl) ends
 
 feed_ends : EndsAtItsFeed feed
 feed_ends = ([], refl, refl)
@@ -294,15 +294,15 @@ value_ends e fits = (pieces_text (expression_pieces e space), refl, plain_text (
 instruction_ends : (i : Instruction) → InstructionFits i → EndsAtItsFeed (instruction_text i)
 instruction_ends (Do x) fits = statement_ends x (action_line x fits) fits.1
 instruction_ends (Stop k x) fits =
-    behind_ends (codes "@") (decimal k ++ (space ++ statement_text x)) refl
-    (number_ends k (space ++ statement_text x) fits.0 (behind_ends space (statement_text x) refl (statement_ends x (stop_line x fits.1) fits.1.1)))
+    after_ends (codes "@") (decimal k ++ (space ++ statement_text x)) refl
+    (number_ends k (space ++ statement_text x) fits.0 (after_ends space (statement_text x) refl (statement_ends x (stop_line x fits.1) fits.1.1)))
 instruction_ends (Branch t test) fits =
-    behind_ends (codes "branch ") (decimal t ++ (pieces_text (expression_pieces test space) ++ feed)) refl
+    after_ends (codes "branch ") (decimal t ++ (pieces_text (expression_pieces test space) ++ feed)) refl
     (number_ends t (pieces_text (expression_pieces test space) ++ feed) fits.0 (value_ends test fits.1))
 instruction_ends Enter fits = (codes "enter", refl, refl)
-instruction_ends (Count count) fits = behind_ends (codes "count") (pieces_text (expression_pieces count space) ++ feed) refl (value_ends count fits)
-instruction_ends (Turn t) fits = behind_ends (codes "turn ") (decimal t ++ feed) refl (number_ends t feed fits feed_ends)
-instruction_ends (Jump t) fits = behind_ends (codes "jump ") (decimal t ++ feed) refl (number_ends t feed fits feed_ends)
+instruction_ends (Count count) fits = after_ends (codes "count") (pieces_text (expression_pieces count space) ++ feed) refl (value_ends count fits)
+instruction_ends (Turn t) fits = after_ends (codes "turn ") (decimal t ++ feed) refl (number_ends t feed fits feed_ends)
+instruction_ends (Jump t) fits = after_ends (codes "jump ") (decimal t ++ feed) refl (number_ends t feed fits feed_ends)
 instruction_ends EndOf fits = (codes "end", refl, refl)
 
 pub line_ends_at_feed : (l : ListingLine) → ListingLineFits l → EndsAtItsFeed (line_text l)
@@ -312,9 +312,9 @@ line_ends_at_feed (Head h) fits = head_ends h fits
 line_ends_at_feed (Local v) fits = word_ends 0 w.Local (named_pieces v space) refl (named_plain v fits space refl)
 line_ends_at_feed (Operation number p depth i) fits =
     number_ends number (place_text p ++ (space ++ (decimal depth ++ (space ++ instruction_text i)))) fits.0
-    (behind_ends (place_text p) (space ++ (decimal depth ++ (space ++ instruction_text i))) (plain_text (place_pieces p space) (place_plain p fits.1 space refl))
-    (behind_ends space (decimal depth ++ (space ++ instruction_text i)) refl
-    (number_ends depth (space ++ instruction_text i) fits.2 (behind_ends space (instruction_text i) refl (instruction_ends i fits.3)))))
+    (after_ends (place_text p) (space ++ (decimal depth ++ (space ++ instruction_text i))) (plain_text (place_pieces p space) (place_plain p fits.1 space refl))
+    (after_ends space (decimal depth ++ (space ++ instruction_text i)) refl
+    (number_ends depth (space ++ instruction_text i) fits.2 (after_ends space (instruction_text i) refl (instruction_ends i fits.3)))))
 line_ends_at_feed End fits = (codes "end", refl, refl)
 line_ends_at_feed (Client n) fits =
     line_ends 0 (tight (word w.Outside) ∷ spaced (name n) ∷ spaced (sign s.OpenBrace) ∷ []) refl (refl, refl, (refl, name_plain n fits, (refl, refl, tt)))

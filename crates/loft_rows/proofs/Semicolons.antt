@@ -18,7 +18,7 @@ use Rattle.loft_tree.specs.declared.kinds.BinaryOperator.{BinaryOperator}
 use Rattle.loft_tree.specs.declared.kinds.BinaryOperator.TheVariants as o
 use Rattle.loft_tree.specs.Fits.{WordsFit}
 use Rattle.loft_tree.specs.Levels.{left_bracketed, right_bracketed, sign_bracketed}
-use Rattle.loft_show.specs.Canon.{Piece, held, tight, spaced, sign, word, name, unary_sign, binary_sign, builtin_word, space, expression_pieces, ended, line, lines_text, pieces_text, control_word, word_line, creation_pieces, comma_part, for_part, behind, further_pieces, event_pieces, bracketed_pieces}
+use Rattle.loft_show.specs.Canon.{Piece, held, tight, spaced, sign, word, name, unary_sign, binary_sign, builtin_word, space, expression_pieces, ended, line, lines_text, pieces_text, control_word, word_line, creation_pieces, comma_part, for_part, led_by, further_pieces, event_pieces, bracketed_pieces}
 use Rattle.loft_show.specs.PartReads.{IsOneLine}
 use Rattle.loft_show.proofs.Texts.{pieces_text-append}
 use Rattle.loft_rows.specs.Cuts.{is_other, IsWithout}
@@ -59,7 +59,7 @@ statement_semicolon (AssignCreate target at creation) one =
 statement_semicolon (Create at creation) one = any_word w.Create (creation_pieces creation)
 statement_semicolon (PrintText at text value) one = any_word w.Print (spaced (Quoted text) ∷ comma_part value)
 statement_semicolon (PrintValue at value) one = any_word w.Print (expression_pieces value space)
-statement_semicolon (Cooperate at instants) one = any_word w.Cooperate (behind expression_pieces [] instants)
+statement_semicolon (Cooperate at instants) one = any_word w.Cooperate (led_by expression_pieces [] instants)
 statement_semicolon (Generate at event value) one = any_word w.Generate (spaced (name event.name) ∷ comma_part value)
 statement_semicolon (Await at event limit) one = any_word w.Await (spaced (name event.name) ∷ for_part limit)
 statement_semicolon (Select at [] limit) one = any_word w.Select (for_part limit)
@@ -89,8 +89,8 @@ CleanPieces ps = Clean (pieces_text ps)
 joined : (ps qs : List Piece) → CleanPieces ps → CleanPieces qs → CleanPieces (ps ++ qs)
 joined ps qs first rest = subst Clean (sym (pieces_text-append ps qs)) (both_without 59 (pieces_text ps) (pieces_text qs) first rest)
 
-behind_gap : (gap text rest : List ℕ) → Clean gap → Clean text → Clean rest → Clean (gap ++ (text ++ rest))
-behind_gap gap text rest before now after = both_without 59 gap (text ++ rest) before (both_without 59 text rest now after)
+after_gap : (gap text rest : List ℕ) → Clean gap → Clean text → Clean rest → Clean (gap ++ (text ++ rest))
+after_gap gap text rest before now after = both_without 59 gap (text ++ rest) before (both_without 59 text rest now after)
 
 builtin_clean : (x : Builtin) → Clean (word_spelling (builtin_word x))
 builtin_clean b.Itself = refl
@@ -118,17 +118,17 @@ binary_clean o.Remainder = refl
 
 held_clean : (t : Bool) (inner : List ℕ → List Piece) (gap : List ℕ) → Clean gap → ((g : List ℕ) → Clean g → CleanPieces (inner g)) → CleanPieces (held t inner gap)
 held_clean true inner gap before inside =
-    behind_gap gap (codes "(") (pieces_text (inner [] ++ tight (sign s.Close) ∷ [])) before refl (joined (inner []) (tight (sign s.Close) ∷ []) (inside [] refl) refl)
+    after_gap gap (codes "(") (pieces_text (inner [] ++ tight (sign s.Close) ∷ [])) before refl (joined (inner []) (tight (sign s.Close) ∷ []) (inside [] refl) refl)
 held_clean false inner gap before inside = inside gap before
 
 number_clean : (value : ℤ) (n : ℕ) → n ≤ 9223372036854775807 → value ≡ pos n → (gap : List ℕ) → Clean gap → CleanPieces (expression_pieces (Number 0 value) gap)
 number_clean value n small is gap before =
-    subst (λ v. CleanPieces (expression_pieces (Number 0 v) gap)) (sym is) (behind_gap gap (decimal n) [] before (decimal_without 59 n small refl) refl)
+    subst (λ v. CleanPieces (expression_pieces (Number 0 v) gap)) (sym is) (after_gap gap (decimal n) [] before (decimal_without 59 n small refl) refl)
 
 expression_clean : (e : Expression) → WordsFit e → (gap : List ℕ) → Clean gap → CleanPieces (expression_pieces e gap)
 expression_clean (Number at value) fits gap before = number_clean value fits.0 fits.1 fits.2 gap before
-expression_clean (Variable n) fits gap before = behind_gap gap n.text [] before (name_without 59 n.text refl fits) refl
-expression_clean (Special at builtin) fits gap before = behind_gap gap (word_spelling (builtin_word builtin)) [] before (builtin_clean builtin) refl
+expression_clean (Variable n) fits gap before = after_gap gap n.text [] before (name_without 59 n.text refl fits) refl
+expression_clean (Special at builtin) fits gap before = after_gap gap (word_spelling (builtin_word builtin)) [] before (builtin_clean builtin) refl
 expression_clean (Unary at operator e) fits gap before =
     both_without 59 gap (pieces_text (tight (sign (unary_sign operator)) ∷ held (sign_bracketed e) (expression_pieces e) [])) before
     (joined (tight (sign (unary_sign operator)) ∷ []) (held (sign_bracketed e) (expression_pieces e) []) (unary_clean operator)
@@ -167,9 +167,9 @@ pub semicolons : (i : Instruction) → InstructionFits i → has_semicolon (inst
 semicolons (Do x) fits = statement_semicolon x (action_line x fits)
 semicolons (Stop k x) fits = any_later (codes "@") (decimal k ++ (space ++ statement_text x)) (any_later (decimal k) (space ++ statement_text x) (any_later space (statement_text x) (statement_semicolon x (stop_line x fits.1))))
 semicolons (Branch t test) fits =
-    clean_none (instruction_text (Branch t test)) (behind_gap (codes "branch ") (decimal t) (value_text test) refl (decimal_without 59 t fits.0 refl) (value_clean test fits.1.words))
+    clean_none (instruction_text (Branch t test)) (after_gap (codes "branch ") (decimal t) (value_text test) refl (decimal_without 59 t fits.0 refl) (value_clean test fits.1.words))
 semicolons Enter fits = refl
 semicolons (Count count) fits = clean_none (instruction_text (Count count)) (both_without 59 (codes "count") (value_text count) refl (value_clean count fits.words))
-semicolons (Turn t) fits = clean_none (instruction_text (Turn t)) (behind_gap (codes "turn ") (decimal t) feed refl (decimal_without 59 t fits refl) refl)
-semicolons (Jump t) fits = clean_none (instruction_text (Jump t)) (behind_gap (codes "jump ") (decimal t) feed refl (decimal_without 59 t fits refl) refl)
+semicolons (Turn t) fits = clean_none (instruction_text (Turn t)) (after_gap (codes "turn ") (decimal t) feed refl (decimal_without 59 t fits refl) refl)
+semicolons (Jump t) fits = clean_none (instruction_text (Jump t)) (after_gap (codes "jump ") (decimal t) feed refl (decimal_without 59 t fits refl) refl)
 semicolons End fits = refl

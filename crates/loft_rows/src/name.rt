@@ -17,7 +17,7 @@ use loft_lex::Word;
 use loft_tree::{Expr, Ident, PlaceName};
 use std::alloc::Global;
 
-/// The bytes with a line feed behind them.
+/// The bytes with a line feed after them.
 fn with_feed(alloc: Global, bytes: &[u8]) -> Result<Vec<u8>, NoMemory>
     ensures { IfOk result (λ line. line.items ≡ bytes.now ++ feed) }
 {

@@ -4,9 +4,9 @@ use Rattle.loft_tree.specs.declared.program.Item.{Item}
 use Rattle.loft_tree.specs.Source.{ModuleHead, Named}
 use Rattle.loft_tree.specs.View.{declaration_of, source_of}
 use Rattle.loft_scopes.specs.declared.error.NameError.{NameError}
-use Rattle.loft_scopes.specs.Scopes.{Declared, Sofar, AModule, after, everywhere, kinds_of, module_declared, declared_by, declared_from, earlier, variables}
+use Rattle.loft_scopes.specs.Scopes.{Declared, DeclarationCounts, AModule, after, everywhere, kinds_of, module_declared, declared_by, declared_from, earlier, variables}
 use Rattle.loft_scopes.specs.Faults.{again, twice_from}
-use Rattle.loft_scopes.specs.Least.{least_of}
+use Rattle.loft_scopes.specs.FirstFault.{least_of}
 use Rattle.loft_scopes.specs.Tables.{Declares}
 use Rattle.loft_scopes.proofs.First.{least_of-append}
 
@@ -54,7 +54,7 @@ joined old now next first so_far later ds es d e = record {
 }
 
 -- the next declaration of those that are left
-pub next_item : (n : Sofar) (items : List Item) (i : ℕ) (item : Item) → i < length items → item ≡ get_or items i item
+pub next_item : (n : DeclarationCounts) (items : List Item) (i : ℕ) (item : Item) → i < length items → item ≡ get_or items i item
     → declared_from n (source_of (drop i items)) ≡ declared_by n (declaration_of item) ++ declared_from (after n (declaration_of item)) (source_of (drop (i + 1) items))
 next_item n items i item lt is =
     let split : drop i items ≡ item ∷ drop (i + 1) items = drop-cons items i item lt ∙ rw (← is, add-one) refl in

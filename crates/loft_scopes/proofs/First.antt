@@ -2,7 +2,7 @@
 use Rattle.std.proofs.Common.{◌≡◌, List, [], ◌∷◌, ◌++◌, Option, Some, refl, append-nil}
 use Rattle.loft_tree.proofs.Trees.{statements}
 use Rattle.loft_scopes.specs.declared.error.NameError.{NameError}
-use Rattle.loft_scopes.specs.Least.{least_of, sooner}
+use Rattle.loft_scopes.specs.FirstFault.{least_of, sooner}
 
 pub least_of-append : (first : Option NameError) (es ds : List NameError) → least_of first (es ++ ds) ≡ least_of (least_of first es) ds
 least_of-append first [] ds = refl

@@ -7,8 +7,8 @@ use Rattle.loft_tree.specs.declared.program.Item.{Item}
 use Rattle.loft_tree.specs.Source.{Declaration, Scheduler, Event, Shared, Module, Start, Outside, Source}
 use Rattle.loft_tree.specs.View.{declaration_of, source_of}
 use Rattle.loft_tree.specs.Fits.{Each, DeclarationFits, SourceFits, is_scheduler, is_event, is_shared, is_module, is_start, is_outside}
-use Rattle.loft_scopes.specs.Scopes.{Sofar, after, none_yet}
-use Rattle.loft_scopes.specs.Rooms.{HasRoom}
+use Rattle.loft_scopes.specs.Scopes.{DeclarationCounts, after, none_yet}
+use Rattle.loft_scopes.specs.Counts.{HasRoom}
 
 -- each declaration of a program that fits
 pub item_fits : (xs : List Item) (i : ℕ) (x : Item) → i < length xs → x ≡ get_or xs i x → Each DeclarationFits (source_of xs) → DeclarationFits (declaration_of x)
@@ -45,16 +45,16 @@ few_items items fits =
     let p : Source = source_of items in
     omega (arith, length-map items declaration_of, counted p, fits.schedulers, fits.events, fits.shared, fits.modules, fits.starts, fits.clients)
 
-pub first_room : (n : Sofar) (items : List Item) → n ≡ none_yet → SourceFits (source_of items) → HasRoom n (length items - 0)
+pub first_room : (n : DeclarationCounts) (items : List Item) → n ≡ none_yet → SourceFits (source_of items) → HasRoom n (length items - 0)
 first_room n items is fits =
     let p : Source = source_of items in
     let long : length p ≡ length items = length-map items declaration_of in
     let few : length p ≤ 5000 = omega (arith, counted p, fits.schedulers, fits.events, fits.shared, fits.modules, fits.starts, fits.clients) in
-    subst (λ (m : Sofar). HasRoom m (length items - 0)) (sym is)
+    subst (λ (m : DeclarationCounts). HasRoom m (length items - 0)) (sym is)
     (record { schedulers = omega arith; events = omega arith; shared = omega arith; modules = omega arith; starts = omega arith; clients = omega arith })
 
 -- room for one less is left
-pub room_left : (n : Sofar) (d : Declaration) (all i : ℕ) → i < all → HasRoom n (all - i) → HasRoom (after n d) (all - (i + 1))
+pub room_left : (n : DeclarationCounts) (d : Declaration) (all i : ℕ) → i < all → HasRoom n (all - i) → HasRoom (after n d) (all - (i + 1))
 room_left n (Scheduler name) all i lt r = record { schedulers = omega arith; events = omega arith; shared = omega arith; modules = omega arith; starts = omega arith; clients = omega arith }
 room_left n (Event name scheduler) all i lt r = record { schedulers = omega arith; events = omega arith; shared = omega arith; modules = omega arith; starts = omega arith; clients = omega arith }
 room_left n (Shared name scheduler value) all i lt r = record { schedulers = omega arith; events = omega arith; shared = omega arith; modules = omega arith; starts = omega arith; clients = omega arith }

@@ -1,6 +1,6 @@
 pub mod Scopes
 pub mod Faults
-pub mod Least
+pub mod FirstFault
 pub mod Tables
-pub mod Rooms
+pub mod Counts
 pub mod Modules

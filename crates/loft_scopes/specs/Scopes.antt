@@ -4,7 +4,7 @@ use Rattle.std.specs.List.{find}
 use Rattle.std.specs.Str.{bytes_eq}
 use Rattle.loft_tree.specs.declared.kinds.Kind.{Kind}
 use Rattle.loft_tree.specs.Source.{Ident, Named, ModuleHead, Declaration, Scheduler, Event, Shared, Module, Start, Outside, Source}
-pub use Rattle.loft_scopes.specs.declared.sofar.Sofar.{Sofar}
+pub use Rattle.loft_scopes.specs.declared.counts.DeclarationCounts.{DeclarationCounts}
 pub use Rattle.loft_scopes.specs.declared.scope.Scope.{Scope}
 pub use Rattle.loft_scopes.specs.declared.scope.Scope.TheVariants.{Everywhere, Within}
 
@@ -47,11 +47,11 @@ start_name None number = []
 start_name (Some name) number = everywhere name AStart number ∷ []
 
 -- how many declarations there were, before the first
-abbrev pub none_yet : Sofar
+abbrev pub none_yet : DeclarationCounts
 none_yet = record { schedulers = 0; events = 0; shared = 0; modules = 0; starts = 0; clients = 0 }
 
 -- one more declaration
-abbrev pub after : Sofar → Declaration → Sofar
+abbrev pub after : DeclarationCounts → Declaration → DeclarationCounts
 after n (Scheduler name) = record n { schedulers = n.schedulers + 1 }
 after n (Event name scheduler) = record n { events = n.events + 1 }
 after n (Shared name scheduler value) = record n { shared = n.shared + 1 }
@@ -66,7 +66,7 @@ module_declared number head locals =
     ∷ (variables number 0 head.parameters ++ variables number (length head.parameters) locals)
 
 -- what one declaration declares, in the order of the text
-abbrev pub declared_by : Sofar → Declaration → List Declared
+abbrev pub declared_by : DeclarationCounts → Declaration → List Declared
 declared_by n (Scheduler name) = everywhere name AScheduler n.schedulers ∷ []
 declared_by n (Event name scheduler) = everywhere name AnEvent n.events ∷ []
 declared_by n (Shared name scheduler value) = everywhere name AShared n.shared ∷ []
@@ -74,7 +74,7 @@ declared_by n (Module head locals body) = module_declared n.modules head locals
 declared_by n (Start scheduler called arguments name) = start_name name n.starts
 declared_by n (Outside name orders) = everywhere name AClient n.clients ∷ []
 
-abbrev pub declared_from : Sofar → Source → List Declared
+abbrev pub declared_from : DeclarationCounts → Source → List Declared
 declared_from n [] = []
 declared_from n (d ∷ ds) = declared_by n d ++ declared_from (after n d) ds
 

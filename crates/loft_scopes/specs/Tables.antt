@@ -7,7 +7,7 @@ use Rattle.indexmap.specs.IndexMap.{IndexMap, get}
 use Rattle.loft_tree.specs.View.{named_of}
 use Rattle.loft_scopes.specs.Scopes.{Scope, Everywhere, Within, Sort as PlainSort, Declared, AScheduler, AnEvent, AShared, AModule, AStart, AClient, AVariable, kinds_of}
 use Rattle.loft_scopes.specs.Faults.{twice_from}
-use Rattle.loft_scopes.specs.Least.{least_of}
+use Rattle.loft_scopes.specs.FirstFault.{least_of}
 use Rattle.loft_scopes.specs.declared.error.NameError.{NameError}
 use Rattle.loft_scopes.specs.declared.table.Sort.{Sort}
 use Rattle.loft_scopes.specs.declared.table.Sort.TheVariants as sort

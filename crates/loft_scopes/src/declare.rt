@@ -4,14 +4,14 @@ ghost use Rattle.std.specs.Prelude.{◌≡◌, ◌+◌, ◌<◌, ◌≤◌, ◌^
 ghost use Rattle.loft_tree.specs.View.{named_of, head_of, declaration_of, source_of};
 ghost use Rattle.loft_tree.specs.Fits.{DeclarationFits, SourceFits};
 ghost use Rattle.loft_scopes.specs.Faults.{twice_from};
-ghost use Rattle.loft_scopes.specs.Least.{least_of};
+ghost use Rattle.loft_scopes.specs.FirstFault.{least_of};
 ghost use Rattle.loft_scopes.specs.Scopes.{declared, declared_by, everywhere, module_declared, variables};
 ghost use Rattle.loft_scopes.specs.Tables.{Declares, declared_of, sort_of};
 
+use crate::counts::DeclarationCounts;
 use crate::error::NameError;
-use crate::least::note;
+use crate::first_fault::note;
 use crate::scope::Scope;
-use crate::sofar::Sofar;
 use crate::table::{Entry, Sort, Table};
 use loft_base::NoMemory;
 use loft_tree::{Ident, Item, ModuleHead, Variable};
@@ -102,7 +102,7 @@ fn declare_module<'a>(
 /// What one declaration of the program declares.
 fn declare_item<'a>(
     table: Table<'a>,
-    sofar: Sofar,
+    sofar: DeclarationCounts,
     item: &'a Item,
     least: &mut Option<NameError>,
 ) -> Result<Table<'a>, NoMemory>
@@ -153,7 +153,7 @@ pub fn declare_all<'a>(
         (twice_from [] (declared (source_of items.now)))) }
 {
     let mut table = Table::new(alloc);
-    let mut sofar = Sofar::none();
+    let mut sofar = DeclarationCounts::none();
     for item in items {
         table = declare_item(table, sofar, item, least)?;
         sofar = sofar.after(item);

@@ -1,9 +1,9 @@
 //! The table of what a program declares.
 
-ghost use Rattle.std.specs.Prelude.{◌≡◌, ◌++◌, ◌∷◌, [], IfOk, OnOk};
+ghost use Rattle.std.specs.Prelude.{◌≡◌, ◌++◌, ◌∷◌, [], map, IfOk, OnOk};
 ghost use Rattle.std.specs.List.{list_any, position_or_len};
 ghost use Rattle.std.specs.Option.{option_map};
-ghost use Rattle.loft_scopes.specs.Tables.{NotesFirst, is_sought, sort_of};
+ghost use Rattle.loft_scopes.specs.Tables.{IndexesFirsts, NotesFirst, declared_of, is_sought, sort_of};
 ghost use Rattle.loft_scopes.specs.Faults.{is_scheduler};
 
 use crate::scope::Scope;
@@ -126,6 +126,24 @@ fn note_first<'a>(
     Ok(())
 }
 
+/// Adds a declaration to others, and notes where its name is declared.
+fn add<'a>(
+    entries: &mut Vec<Entry<'a>>,
+    firsts: &mut IndexMap<(Reach, &'a [u8]), usize>,
+    declaration: Entry<'a>,
+) -> Result<(), NoMemory>
+    requires { IndexesFirsts firsts.old (map declared_of entries.old.items) }
+    ensures entries { OnOk result (entries.new.items ≡ entries.old.items ++ declaration.entry ∷ []) }
+    ensures firsts { OnOk result (IndexesFirsts firsts.new (map declared_of entries.new.items)) }
+{
+    let name = declaration.name.text();
+    let position = entries.len();
+    note_first(firsts, (Reach::Anywhere, name), position)?;
+    note_first(firsts, (Reach::In(declaration.scope), name), position)?;
+    entries.push(declaration)?;
+    Ok(())
+}
+
 /// Whether one of these declarations is a scheduler.
 fn any_scheduler(declarations: &[Entry]) -> bool
     ensures { result ≡ list_any (λ one. is_scheduler (sort_of one.sort)) declarations.now }
@@ -195,14 +213,7 @@ impl<'a> Table<'a> {
             mut entries,
             mut firsts,
         } = self;
-        let name = declaration.name.text();
-        note_first(&mut firsts, (Reach::Anywhere, name), entries.len())?;
-        note_first(
-            &mut firsts,
-            (Reach::In(declaration.scope), name),
-            entries.len(),
-        )?;
-        entries.push(declaration)?;
+        add(&mut entries, &mut firsts, declaration)?;
         Ok(Table { entries, firsts })
     }
 }

@@ -6,7 +6,6 @@ use Rattle.loft_base.specs.declared.ids.SchedId.{SchedId}
 use Rattle.loft_sense.specs.declared.thread.Thread.{Thread}
 use Rattle.loft_sense.specs.declared.order.Order.{Order}
 use Rattle.loft_sense.specs.declared.order.Sent.{Sent}
-use Rattle.loft_sense.specs.declared.entry.Actor.{Actor}
 use Rattle.loft_sense.specs.declared.entry.Actor.TheVariants as actor
 use Rattle.loft_sense.specs.declared.entry.Entry.{Entry}
 use Rattle.loft_sense.specs.declared.entry.Entry.TheVariants.{Take, Give, Pick, Post, Client}

@@ -32,7 +32,7 @@ one_more texts text out xs i x total each lt is so_far =
     let split : drop i xs ≡ x ∷ drop (i + 1) xs = drop-cons xs i x lt ∙ rw (← is, add-one) refl in
     append_assoc out _ _ ∙ ap (λ t. out ++ t) (sym (each x (drop (i + 1) xs))) ∙ ap (λ ys. out ++ texts ys) (sym split) ∙ so_far
 
--- one behind its comma more
+-- one after its comma more
 pub further_more : {A : Type 0} (pieces : A → List ℕ → List Piece) (out : List ℕ) (xs : List A) (i : ℕ) (x : A) (total : List ℕ)
     → i < length xs → x ≡ get_or xs i x → out ++ pieces_text (further_pieces pieces (drop i xs)) ≡ total
     → ((out ++ codes ",") ++ pieces_text (pieces x space)) ++ pieces_text (further_pieces pieces (drop (i + 1) xs)) ≡ total
@@ -41,15 +41,15 @@ further_more pieces out xs i x total lt is so_far =
     ∙ one_more (λ ys. pieces_text (further_pieces pieces ys)) (λ y. pieces_text (tight (sign s.Comma) ∷ pieces y space)) out xs i x total
     (λ y ys. pieces_text-append (tight (sign s.Comma) ∷ pieces y space) (further_pieces pieces ys)) lt is so_far
 
--- the first of a list, and those behind it
+-- the first of a list, and those after it
 pub list_text : {A : Type 0} (pieces : A → List ℕ → List Piece) (out : List ℕ) (xs : List A) (x : A)
     → 1 ≤ length xs → x ≡ get_or xs 0 x
     → (out ++ pieces_text (pieces x [])) ++ pieces_text (further_pieces pieces (take (length xs - 1) (drop 1 xs))) ≡ out ++ pieces_text (list_pieces pieces xs)
 list_text pieces out xs x some is =
-    let behind : take (length xs - 1) (drop 1 xs) ≡ drop 1 xs = grind (arith, common_steps) in
+    let rest_is : take (length xs - 1) (drop 1 xs) ≡ drop 1 xs = grind (arith, common_steps) in
     let split : xs ≡ x ∷ drop 1 xs = drop-cons xs 0 x some ∙ rw (← is) refl in
     append_assoc out _ _ ∙ ap (λ t. out ++ t)
-    (ap (λ ys. pieces_text (pieces x []) ++ pieces_text (further_pieces pieces ys)) behind
+    (ap (λ ys. pieces_text (pieces x []) ++ pieces_text (further_pieces pieces ys)) rest_is
     ∙ sym (pieces_text-append (pieces x []) (further_pieces pieces (drop 1 xs)))
     ∙ ap (λ ys. pieces_text (list_pieces pieces ys)) (sym split))
 

@@ -80,7 +80,7 @@ sign v = Mark v
 abbrev pub name : Ident → What
 name n = NamedWhat n.text
 
--- ";" behind the pieces
+-- ";" after the pieces
 abbrev pub ended : List Piece → List Piece
 ended ps = ps ++ tight (sign s.Semicolon) ∷ []
 
@@ -110,12 +110,12 @@ binary_sign o.Times = s.Star
 binary_sign o.Divide = s.Slash
 binary_sign o.Remainder = s.Percent
 
--- with brackets or without, behind the gap
+-- with brackets or without, after the gap
 abbrev pub held : Bool → (List ℕ → List Piece) → List ℕ → List Piece
 held true inner gap = piece gap (sign s.Open) ∷ (inner [] ++ tight (sign s.Close) ∷ [])
 held false inner gap = inner gap
 
--- an expression behind the gap
+-- an expression after the gap
 abbrev pub expression_pieces : Expression → List ℕ → List Piece
 expression_pieces (Number at value) gap = piece gap (Numeral value) ∷ []
 expression_pieces (Variable n) gap = piece gap (name n) ∷ []
@@ -126,7 +126,7 @@ expression_pieces (Binary operator left right) gap =
     held (left_bracketed operator left) (expression_pieces left) gap
     ++ (spaced (sign (binary_sign operator)) ∷ held (right_bracketed operator right) (expression_pieces right) space)
 
--- a number with its sign, behind the gap
+-- a number with its sign, after the gap
 abbrev pub signed_pieces : ℤ → List ℕ → List Piece
 signed_pieces (pos n) gap = piece gap (Numeral (pos n)) ∷ []
 signed_pieces (negsuc n) gap = piece gap (sign s.Minus) ∷ tight (Numeral (pos (n + 1))) ∷ []
@@ -134,7 +134,7 @@ signed_pieces (negsuc n) gap = piece gap (sign s.Minus) ∷ tight (Numeral (pos 
 -- ---- lists
 
 module _ {A : Type 0} (one : A → List ℕ → List Piece) where
-  -- each behind a comma
+  -- each after a comma
   abbrev pub further_pieces : List A → List Piece
   further_pieces [] = []
   further_pieces (x ∷ xs) = tight (sign s.Comma) ∷ (one x space ++ further_pieces xs)
@@ -147,10 +147,10 @@ module _ {A : Type 0} (one : A → List ℕ → List Piece) where
   abbrev pub bracketed_pieces : List A → List Piece
   bracketed_pieces xs = tight (sign s.Open) ∷ (list_pieces xs ++ tight (sign s.Close) ∷ [])
 
-  -- what there may be, behind these
-  abbrev pub behind : List Piece → Option A → List Piece
-  behind ps None = []
-  behind ps (Some x) = ps ++ one x space
+  -- what there may be, after these
+  abbrev pub led_by : List Piece → Option A → List Piece
+  led_by ps None = []
+  led_by ps (Some x) = ps ++ one x space
 
 -- ---- statements
 
@@ -165,10 +165,10 @@ control_word c.Resume = w.Resume
 
 -- ", E" and " for E", where there is one
 abbrev pub comma_part : Option Expression → List Piece
-comma_part e = behind expression_pieces (tight (sign s.Comma) ∷ []) e
+comma_part e = led_by expression_pieces (tight (sign s.Comma) ∷ []) e
 
 abbrev pub for_part : Option Expression → List Piece
-for_part e = behind expression_pieces (spaced (word w.For) ∷ []) e
+for_part e = led_by expression_pieces (spaced (word w.For) ∷ []) e
 
 abbrev pub name_pieces : Ident → List ℕ → List Piece
 name_pieces n gap = piece gap (name n) ∷ []
@@ -176,7 +176,7 @@ name_pieces n gap = piece gap (name n) ∷ []
 abbrev pub event_pieces : EventName → List ℕ → List Piece
 event_pieces event gap = name_pieces event.name gap
 
--- the line of a word with a test in brackets, and a word behind it
+-- the line of a word with a test in brackets, and a word after it
 abbrev pub test_line : ℕ → Word → Expression → Word → Line
 test_line n before e after =
     line n (tight (word before) ∷ spaced (sign s.Open) ∷ (expression_pieces e [] ++ tight (sign s.Close) ∷ spaced (word after) ∷ []))
@@ -196,7 +196,7 @@ abbrev mutual
   statement_lines (Create at creation) n = word_line n w.Create (creation_pieces creation) ∷ []
   statement_lines (PrintText at text value) n = word_line n w.Print (spaced (Quoted text) ∷ comma_part value) ∷ []
   statement_lines (PrintValue at value) n = word_line n w.Print (expression_pieces value space) ∷ []
-  statement_lines (Cooperate at instants) n = word_line n w.Cooperate (behind expression_pieces [] instants) ∷ []
+  statement_lines (Cooperate at instants) n = word_line n w.Cooperate (led_by expression_pieces [] instants) ∷ []
   statement_lines (Generate at event value) n = word_line n w.Generate (spaced (name event.name) ∷ comma_part value) ∷ []
   statement_lines (Await at event limit) n = word_line n w.Await (spaced (name event.name) ∷ for_part limit) ∷ []
   statement_lines (Select at [] limit) n = word_line n w.Select (for_part limit) ∷ []
@@ -241,9 +241,9 @@ place_pieces Unlinked gap = piece gap (word w.Unlinked) ∷ []
 abbrev pub head_line : ModuleHead → Line
 head_line h =
     line 0 (tight (word w.Module) ∷ spaced (name h.name) ∷ (bracketed_pieces named_pieces h.parameters
-    ++ spaced (word w.In) ∷ (place_pieces h.begin space ++ behind place_pieces (spaced (word w.To) ∷ []) h.end)))
+    ++ spaced (word w.In) ∷ (place_pieces h.begin space ++ led_by place_pieces (spaced (word w.To) ∷ []) h.end)))
 
--- a local variable behind so many blanks
+-- a local variable after so many blanks
 abbrev pub local_line : ℕ → Named → Line
 local_line n v = word_line n w.Local (named_pieces v space)
 
@@ -264,7 +264,7 @@ abbrev pub order_line : Order → Line
 order_line (CreateThere scheduler called arguments) = word_line 2 w.Create (call_pieces scheduler called arguments)
 order_line (ControlThere control thread scheduler) =
     word_line 2 (control_word control) (spaced (name thread) ∷ spaced (word w.In) ∷ spaced (name scheduler) ∷ [])
-order_line (BroadcastThere event value) = word_line 2 w.Broadcast (spaced (name event.name) ∷ behind signed_pieces (tight (sign s.Comma) ∷ []) value)
+order_line (BroadcastThere event value) = word_line 2 w.Broadcast (spaced (name event.name) ∷ led_by signed_pieces (tight (sign s.Comma) ∷ []) value)
 
 abbrev pub order_lines : List Order → List Line
 order_lines [] = []
@@ -284,7 +284,7 @@ declaration_lines (Shared n scheduler value) =
     word_line 0 w.Shared (spaced (name n) ∷ spaced (word w.In) ∷ spaced (name scheduler) ∷ spaced (sign s.Equals) ∷ signed_pieces value space) ∷ []
 declaration_lines (Module head locals body) = head_line head ∷ (local_lines locals ++ (body_lines body 2 ++ end_line 0 ∷ []))
 declaration_lines (Start scheduler called arguments n) =
-    word_line 0 w.Start (call_pieces scheduler called arguments ++ behind name_pieces (spaced (word w.As) ∷ []) n) ∷ []
+    word_line 0 w.Start (call_pieces scheduler called arguments ++ led_by name_pieces (spaced (word w.As) ∷ []) n) ∷ []
 declaration_lines (Outside n orders) =
     outside_line n ∷ (order_lines orders ++ brace_line ∷ [])
 

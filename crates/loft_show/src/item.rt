@@ -6,7 +6,7 @@ ghost use Rattle.loft_lex.specs.declared.word.Word.TheVariants as w;
 ghost use Rattle.loft_tree.specs.Source.{Event, Shared, Module, Start, Outside};
 ghost use Rattle.loft_tree.specs.View.{named_of, place_name_of, head_of, statements_of, argument_of, order_of, declaration_of};
 ghost use Rattle.loft_tree.specs.Fits.{StatementsFit, DeclarationFits};
-ghost use Rattle.loft_show.specs.Canon.{behind, brace_line, declaration_lines, head_line, kind_word, lines_text, local_line, local_lines, name_pieces, named_pieces, outside_line, pieces_text, place_pieces, space, spaced, word};
+ghost use Rattle.loft_show.specs.Canon.{led_by, brace_line, declaration_lines, head_line, kind_word, lines_text, local_line, local_lines, name_pieces, named_pieces, outside_line, pieces_text, place_pieces, space, spaced, word};
 
 use crate::line::{begin_line, end_line, end_statement, put_bare_line, put_name_line};
 use crate::list::{Listed, put_list};
@@ -57,7 +57,7 @@ pub fn put_place(out: &mut Vec<u8>, place: &PlaceName) -> Result<(), NoMemory>
 #[tactic(auto, using(crate::proofs::Items::items))]
 fn put_end_place(out: &mut Vec<u8>, end: &Option<PlaceName>) -> Result<(), NoMemory>
     ensures { OnOk result (out.new.items ≡ out.old.items ++ pieces_text
-        (behind place_pieces (spaced (word w.To) ∷ []) (option_map place_name_of end.now))) }
+        (led_by place_pieces (spaced (word w.To) ∷ []) (option_map place_name_of end.now))) }
 {
     let Some(end) = end else {
         return Ok(());
@@ -175,7 +175,7 @@ fn put_module(
 #[tactic(auto, using(crate::proofs::Items::items))]
 fn put_start_name(out: &mut Vec<u8>, name: &Option<Ident>) -> Result<(), NoMemory>
     ensures { OnOk result (out.new.items ≡ out.old.items ++ pieces_text
-        (behind name_pieces (spaced (word w.As) ∷ []) name.now)) }
+        (led_by name_pieces (spaced (word w.As) ∷ []) name.now)) }
 {
     let Some(name) = name else {
         return Ok(());

@@ -12,7 +12,7 @@ use loft_tree::{EventName, Ident};
 
 /// What can stand in a list.
 pub trait Listed {
-    /// Its pieces behind these blanks.
+    /// Its pieces after these blanks.
     ghost pieces: { Self → List ℕ → List Piece };
 
     /// Appends blanks and its pieces.

@@ -3,7 +3,7 @@
 ghost use Rattle.std.specs.Prelude.{◌≡◌, ◌++◌, ◌∷◌, [], map, OnOk};
 ghost use Rattle.loft_lex.specs.declared.sign.Sign.TheVariants as s;
 ghost use Rattle.loft_tree.specs.View.{argument_of, order_of};
-ghost use Rattle.loft_show.specs.Canon.{argument_pieces, behind, call_pieces, lines_text, order_line, order_lines, pieces_text, sign, signed_pieces, tight};
+ghost use Rattle.loft_show.specs.Canon.{argument_pieces, led_by, call_pieces, lines_text, order_line, order_lines, pieces_text, sign, signed_pieces, tight};
 
 use crate::line::{begin_line, end_statement};
 use crate::list::{Listed, put_call};
@@ -43,7 +43,7 @@ pub fn put_outer_call(
 #[tactic(auto, using(crate::proofs::Items::items))]
 fn put_number_part(out: &mut Vec<u8>, value: Option<i64>) -> Result<(), NoMemory>
     ensures { OnOk result (out.new.items ≡ out.old.items ++ pieces_text
-        (behind signed_pieces (tight (sign s.Comma) ∷ []) value)) }
+        (led_by signed_pieces (tight (sign s.Comma) ∷ []) value)) }
 {
     let Some(value) = value else {
         return Ok(());

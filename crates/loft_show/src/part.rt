@@ -2,7 +2,7 @@
 
 ghost use Rattle.std.specs.Prelude.{◌≡◌, ◌++◌, [], OnOk};
 ghost use Rattle.loft_tree.specs.View.{value_of, creation_of};
-ghost use Rattle.loft_show.specs.Canon.{creation_pieces, comma_part, for_part, behind, expression_pieces, pieces_text};
+ghost use Rattle.loft_show.specs.Canon.{creation_pieces, comma_part, for_part, led_by, expression_pieces, pieces_text};
 
 use crate::expression::put_expression;
 use crate::list::put_call;
@@ -51,7 +51,7 @@ pub fn put_limit_part(out: &mut Vec<u8>, limit: &Option<Expr>) -> Result<(), NoM
 #[tactic(auto, using(crate::proofs::Texts::texts))]
 pub fn put_value_alone(out: &mut Vec<u8>, value: &Option<Expr>) -> Result<(), NoMemory>
     ensures { OnOk result (out.new.items ≡ out.old.items ++ pieces_text
-        (behind expression_pieces [] (value_of value.now))) }
+        (led_by expression_pieces [] (value_of value.now))) }
 {
     match value {
         Some(value) => put_expression(out, b" ", value),

@@ -1,4 +1,4 @@
-//! Words, signs, names, texts and numbers, each behind blanks.
+//! Words, signs, names, texts and numbers, each after blanks.
 
 ghost use Rattle.std.specs.Prelude.{◌≡◌, ◌++◌, OnOk, codes};
 ghost use Rattle.std.specs.Fmt.{signed_decimal};

@@ -127,7 +127,7 @@ pub fn put_body(out: &mut Vec<u8>, body: &[Stmt], depth: u8) -> Result<(), NoMem
     Ok(())
 }
 
-/// The `else` of an `if` that stands so deep, and what stands behind it, where there is anything.
+/// The `else` of an `if` that stands so deep, and what stands after it, where there is anything.
 #[cycle(statement)]
 #[tactic(auto, using(crate::proofs::Texts::bodies))]
 fn put_else(out: &mut Vec<u8>, body: &[Stmt], depth: u8) -> Result<(), NoMemory>

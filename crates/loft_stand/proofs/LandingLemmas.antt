@@ -92,7 +92,7 @@ module _ (c : Automata) (valid : Valid c) (m : ModuleId) (signature : Signature)
   later_or_test : (p t : ℕ) (l : Line) → slice_get lines p ≡ Some l → jump_of l.operation ≡ Some t → (p < t) ⊎ IsTrue (test_in (slice_get lines t))
   later_or_test p t l at e = jump_leads c.heads signature lines p t l (jump_is l.operation t e) (valid_passes c m signature lines p l valid is at)
 
-  -- over as many jumps as there are operations behind
+  -- over as many jumps as there are operations after it
   pub lands : (n p : ℕ) (here : Place) (depth : ℕ) → length lines ≤ n + p → IsReached lines here (way p depth) → IsLanded lines here depth (land lines n p)
   lands zero p here depth past r = absurd (omega (arith, past, slice_get_within lines p r.next r.at))
   lands (suc n) p here depth past r =

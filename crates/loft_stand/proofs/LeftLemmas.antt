@@ -28,7 +28,7 @@ mutual
       neither (after_step s k cs (before b w)) (after_body b k cs w)
       (outside_step s n k cs (before b w) h.0 (outside_left k n (stops_in s) (body_stops b) o)) (outside_body b (n + stops_in s) k cs w h.1 (outside_right k n (stops_in s) (body_stops b) o))
 
--- where a stop is found behind, it isn't in front
+-- where a stop is found in what comes after, it isn't in what comes before
 not_in_step : (s : Step) (b : Body) (n k : ℕ) (cs ds : List ℤ) (u v w : List Work) → StepNumbered s n → BodyNumbered b (n + stops_in s) → after_body b k cs w ≡ Some v → after_step s k ds u ≡ None
 not_in_step s b n k cs ds u v w hs hb e = by (apart k n (stops_in s) (body_stops b))
   where

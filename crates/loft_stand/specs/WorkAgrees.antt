@@ -26,7 +26,7 @@ module _ (h : Heads) (stops : ℕ → Option StopAt) where
     BodyAgrees Empty depth p = Unit {0}
     BodyAgrees (Then s rest) depth p = StepAgrees s depth p × BodyAgrees rest depth (leads_step h s p)
 
-  -- the same of work: a stop in it is inside as many `repeat`s as there are counts behind it
+  -- the same of work: a stop in it is inside as many `repeat`s as there are counts after it
   abbrev pub WorkAgrees : List Work → Place → Type 0
   WorkAgrees [] p = Unit {0}
   WorkAgrees (Begin s ∷ w) p = StepAgrees s (length (counts_in w)) p × WorkAgrees w (leads_step h s p)

@@ -52,7 +52,7 @@ impl Running {
     ghost use Rattle.loft_step.specs.Frames.{Makes, moved_by};
 
     /// What an effect makes of its thread.
-    fn moved(effect: Effect) -> Option<Move>
+    fn move_of(effect: Effect) -> Option<Move>
         ensures { result ≡ moved_by effect }
     {
         match effect {
@@ -78,7 +78,7 @@ impl Running {
     {
         self.op = number + 1;
         let effect = act(&mut self.scope, alloc, heads, beside, action)?;
-        Ok(Self::moved(effect))
+        Ok(Self::move_of(effect))
     }
 
     /// A stop but for `run`.
@@ -99,7 +99,7 @@ impl Running {
         self.op = number + 1;
         self.scope.at.stop = stop as u32;
         let effect = hold(&mut self.scope, alloc, heads, beside, pause)?;
-        Ok(Self::moved(effect))
+        Ok(Self::move_of(effect))
     }
 
     /// A `run`.

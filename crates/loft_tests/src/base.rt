@@ -4,12 +4,11 @@ mod host;
 mod writing;
 
 use loft_base::{
-    Div, EventId, Failed, FileError, Files, Gate, Maker, MemFiles, MemSink, ModuleId, OpenGate,
-    SchedId, Sequence, SharedId, Sink, ThreadId, Turn, Value, Values, add, division_law, less, mul,
-    quot, read_whole, rem, sub, wrapping_law,
+    Div, EventId, Failed, FileError, Files, Gate, Maker, MemFiles, MemSink, ModuleId, NoMemory,
+    OpenGate, SchedId, Sequence, SharedId, Sink, ThreadId, Turn, Value, Values, add, division_law,
+    less, mul, quot, read_whole, rem, sub, wrapping_law,
 };
-use std::alloc::{AllocError, Global};
-use std::test::Fail;
+use std::alloc::Global;
 
 #[test]
 fn ids_differ_by_maker_and_number(rt: HostRuntime) {
@@ -21,115 +20,195 @@ fn ids_differ_by_maker_and_number(rt: HostRuntime) {
         maker: Maker::Sched(0),
         seq: 0,
     };
-    assert_ne!(rt; first, second);
-    assert_ne!(rt; SchedId(1), SchedId(2));
-    assert_ne!(rt; EventId(0), EventId(1));
-    assert_ne!(rt; SharedId(0), SharedId(1));
-    assert_ne!(rt; ModuleId(0), ModuleId(1));
-    assert_ne!(rt; Value::Thread(first), Value::Int(1));
+    let differ = [
+        first != second,
+        SchedId(1) != SchedId(2),
+        EventId(0) != EventId(1),
+        SharedId(0) != SharedId(1),
+        ModuleId(0) != ModuleId(1),
+        Value::Thread(first) != Value::Int(1),
+    ];
+    assert_eq!(rt; differ, [true; 6]);
+}
+
+const LEAST: i64 = i64::MIN;
+
+const MOST: i64 = i64::MAX;
+
+#[test]
+fn arithmetic_wraps(rt: HostRuntime) {
+    wrapping_law();
+    let wrapped = [
+        add(MOST, 1),
+        add(LEAST, -1),
+        sub(LEAST, 1),
+        sub(0, LEAST),
+        mul(LEAST, -1),
+        mul(MOST, 2),
+    ];
+    let are_less = [less(LEAST, MOST), less(MOST, LEAST), less(0, 0)];
+    let want = [LEAST, MOST, MOST, LEAST, LEAST, -2];
+    assert_eq!(rt; (wrapped, are_less), (want, [true, false, false]));
+}
+
+/// Two numbers, their quotient, and what it leaves.
+static DIVISIONS: [(i64, i64, Result<i64, Div>, Result<i64, Div>); 6] = [
+    (LEAST, -1, Ok(LEAST), Ok(0)),
+    (-7, 2, Ok(-3), Ok(-1)),
+    (7, -2, Ok(-3), Ok(1)),
+    (LEAST, MOST, Ok(-1), Ok(-1)),
+    (1, 0, Err(Div), Err(Div)),
+    (LEAST, 0, Err(Div), Err(Div)),
+];
+
+/// The first division that has another answer.
+fn wrong_division() -> Option<(i64, i64)> {
+    for (a, b, quotient, rest) in DIVISIONS {
+        if quot(a, b) != quotient || rem(a, b) != rest {
+            return Some((a, b));
+        }
+    }
+    None
 }
 
 #[test]
-fn arithmetic_at_the_ends_of_the_range(rt: HostRuntime) {
-    wrapping_law();
+fn division_truncates(rt: HostRuntime) {
     division_law();
-    let (least, most) = (i64::MIN, i64::MAX);
-    let rows = [
-        (add(most, 1), least),
-        (add(least, -1), most),
-        (sub(least, 1), most),
-        (sub(0, least), least),
-        (mul(least, -1), least),
-        (mul(most, 2), -2),
-    ];
-    for (got, want) in rows {
-        assert_eq!(rt; got, want);
-    }
-    let divisions = [
-        (least, -1, Ok(least), Ok(0)),
-        (-7, 2, Ok(-3), Ok(-1)),
-        (7, -2, Ok(-3), Ok(1)),
-        (least, most, Ok(-1), Ok(-1)),
-        (1, 0, Err(Div), Err(Div)),
-        (least, 0, Err(Div), Err(Div)),
-    ];
-    for (a, b, quotient, rest) in divisions {
-        assert_eq!(rt; quot(a, b), quotient, "{a} / {b}");
-        assert_eq!(rt; rem(a, b), rest, "{a} % {b}");
-    }
-    assert!(rt; less(least, most) && !less(most, least) && !less(0, 0));
+    assert_eq!(rt; wrong_division(), None);
 }
 
 /// Takes what may go to another thread and be shared among threads.
 fn crosses_threads<T: Send + Sync>(_value: &T) {}
 
-#[test]
-fn lists(rt: HostRuntime) -> Result<(), Fail> {
-    let mut values = Values::new(rt.alloc());
-    assert!(rt; values.is_empty());
-    for n in 0..4 {
-        values.push(Value::Int(n))?;
-    }
-    assert_eq!(rt; values.len(), 4);
+/// The values that lists begin with.
+static FOUR: [Value; 4] = [Value::Int(0), Value::Int(1), Value::Int(2), Value::Int(3)];
+
+/// The values that are put into a list.
+static FIVE: [Value; 5] = [
+    Value::Int(9),
+    Value::Int(7),
+    Value::Int(8),
+    Value::Int(3),
+    Value::Int(5),
+];
+
+/// Whether a list has the values that are put into it, each in another way.
+fn is_set(alloc: Global) -> Result<bool, NoMemory> {
+    let mut values = Values::new(alloc);
+    values.extend_from_slice(&FOUR)?;
+    values.push(Value::Int(5))?;
     values.set(1, Value::Int(7));
-    assert_eq!(rt; values[1], Value::Int(7));
     values[2] = Value::Int(8);
     values.as_mut_slice()[0] = Value::Int(9);
-    assert_eq!(rt; values.remove(3), Value::Int(3));
-    assert_eq!(rt; values.pop(), Some(Value::Int(8)));
-    values.extend_from_slice(&[Value::Int(5)])?;
-    let want = [Value::Int(9), Value::Int(7), Value::Int(5)];
-    assert_eq!(rt; values.as_slice(), want.as_slice());
-    crosses_threads(&values);
-    let copy = values.clone()?;
-    assert!(rt; copy == values);
-    assert!(rt; Sequence::from_vec(copy.into_vec()) == Sequence::from_slice(rt.alloc(), &want)?);
+    Ok(values.as_slice() == FIVE.as_slice())
+}
+
+/// Whether a list gives its values as they are taken out of it, and has no other.
+fn is_cut(alloc: Global) -> Result<bool, NoMemory> {
+    let mut values = Values::from_slice(alloc, &FOUR)?;
+    let taken = (values.remove(1), values.pop());
+    let many = values.len();
     values.truncate(1);
-    assert_eq!(rt; values.len(), 1);
+    let one = values.len();
     values.clear();
-    assert!(rt; values.is_empty());
-    Ok(())
+    let lens = (many, one, values.is_empty());
+    Ok((taken, lens) == ((Value::Int(1), Some(Value::Int(3))), (2, 1, true)))
 }
 
-/// A file of `len` bytes.
-fn long_file(alloc: Global, len: usize) -> Result<Vec<u8>, AllocError> {
-    vec![in alloc; b'x'; len]
-}
-
-#[test]
-fn files_in_memory(rt: HostRuntime) -> Result<(), Fail> {
-    let mut files = MemFiles::new(rt.alloc())?;
-    files.add(rt.alloc(), "a", b"first")?;
-    files.add(rt.alloc(), "b", b"other")?;
-    files.add(rt.alloc(), "a", b"second")?;
-    files.add(rt.alloc(), "long", long_file(rt.alloc(), 40000)?.as_slice())?;
-    let mut into = [0; 4];
-    assert_eq!(rt; files.part("a", 0, &mut into), Ok(4));
-    assert_eq!(rt; into, *b"seco");
-    assert_eq!(rt; files.part("a", 4, &mut into), Ok(2));
-    assert_eq!(rt; files.part("a", 6, &mut into), Ok(0));
-    let rows = [
-        ("a", 6, Ok(6)),
-        ("a", 5, Err(FileError::TooLong)),
-        ("b", 5, Ok(5)),
-        ("long", 40000, Ok(40000)),
-        ("long", 39999, Err(FileError::TooLong)),
-        ("none", 100, Err(FileError::Failed)),
-    ];
-    for (name, limit, want) in rows {
-        let got = read_whole(rt.alloc(), &mut files, name, limit);
-        assert_eq!(rt; got.map(|bytes| bytes.len()), want, "{name} up to {limit}");
-    }
-    Ok(())
+/// Whether a list is the same as its copy.
+fn is_copied(alloc: Global) -> Result<bool, NoMemory> {
+    let values = Values::from_slice(alloc, &FIVE)?;
+    crosses_threads(&values);
+    let copy = Sequence::from_vec(values.clone()?.into_vec());
+    Ok(copy == values)
 }
 
 #[test]
-fn sink_in_memory_and_open_gate(rt: HostRuntime) -> Result<(), Fail> {
-    let mut sink = MemSink::new(rt.alloc(), 5)?;
-    assert_eq!(rt; sink.put(b"abc"), Ok(()));
-    assert_eq!(rt; sink.put(b"def"), Err(Failed));
-    assert_eq!(rt; sink.put(b"gh"), Ok(()));
-    assert_eq!(rt; sink.bytes(), b"abcgh".as_slice());
+fn lists(rt: HostRuntime) {
+    let alloc = rt.alloc();
+    assert_eq!(rt;
+        [is_set(alloc), is_cut(alloc), is_copied(alloc)],
+        [Ok(true); 3]
+    );
+}
+
+/// Adds two files, one of them twice.
+fn add_files(alloc: Global, files: &mut MemFiles) -> Result<(), NoMemory> {
+    files.add(alloc, "a", b"first")?;
+    files.add(alloc, "b", b"other")?;
+    files.add(alloc, "a", b"second")
+}
+
+/// Adds a file of 40000 bytes.
+fn add_long(alloc: Global, files: &mut MemFiles) -> Result<(), NoMemory> {
+    let long = vec![in alloc; b'x'; 40000]?;
+    files.add(alloc, "long", long.as_slice())
+}
+
+/// How many bytes a file has.
+fn len_of(alloc: Global, files: &mut MemFiles, name: &str, limit: u32) -> Result<usize, FileError> {
+    let bytes = read_whole(alloc, files, name, limit.into())?;
+    Ok(bytes.len())
+}
+
+/// How many bytes files have, each up to a limit.
+fn lens(alloc: Global) -> Result<[Result<usize, FileError>; 6], NoMemory> {
+    let mut files = MemFiles::new(alloc)?;
+    add_files(alloc, &mut files)?;
+    add_long(alloc, &mut files)?;
+    Ok([
+        len_of(alloc, &mut files, "a", 6),
+        len_of(alloc, &mut files, "a", 5),
+        len_of(alloc, &mut files, "b", 5),
+        len_of(alloc, &mut files, "long", 40000),
+        len_of(alloc, &mut files, "long", 39999),
+        len_of(alloc, &mut files, "none", 100),
+    ])
+}
+
+#[test]
+fn files_are_read_up_to_a_limit(rt: HostRuntime) {
+    let (long, failed) = (Err(FileError::TooLong), Err(FileError::Failed));
+    assert_eq!(rt;
+        lens(rt.alloc()),
+        Ok([Ok(6), long, Ok(5), Ok(40000), long, failed])
+    );
+}
+
+/// How many bytes of a file come in each of three parts of at most 4, and those of the first.
+fn three_parts(files: &mut MemFiles) -> Result<([usize; 3], [u8; 4]), Failed> {
+    let (mut first, mut into) = ([0; 4], [0; 4]);
+    let one = files.part("a", 0, &mut first)?;
+    let two = files.part("a", one as u64, &mut into)?;
+    let three = files.part("a", (one + two) as u64, &mut into)?;
+    Ok(([one, two, three], first))
+}
+
+/// The same of files in memory.
+fn parts(alloc: Global) -> Result<Result<([usize; 3], [u8; 4]), Failed>, NoMemory> {
+    let mut files = MemFiles::new(alloc)?;
+    add_files(alloc, &mut files)?;
+    Ok(three_parts(&mut files))
+}
+
+#[test]
+fn files_are_read_in_parts(rt: HostRuntime) {
+    assert_eq!(rt; parts(rt.alloc()), Ok(Ok(([4, 2, 0], *b"seco"))));
+}
+
+/// How three pieces end that are put into a sink of 5 bytes, and whether it has the first and the
+/// last.
+fn put_three(alloc: Global) -> Result<([Result<(), Failed>; 3], bool), NoMemory> {
+    let mut sink = MemSink::new(alloc, 5)?;
+    let puts = [sink.put(b"abc"), sink.put(b"def"), sink.put(b"gh")];
+    Ok((puts, sink.bytes() == b"abcgh".as_slice()))
+}
+
+#[test]
+fn sink_in_memory_and_open_gate(rt: HostRuntime) {
+    assert_eq!(rt;
+        put_three(rt.alloc()),
+        Ok(([Ok(()), Err(Failed), Ok(())], true))
+    );
     OpenGate.pass(&rt, Turn::Block { w: 0 });
-    Ok(())
 }

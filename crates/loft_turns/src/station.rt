@@ -1,6 +1,7 @@
 //! One scheduler in a run.
 
 ghost use Rattle.std.specs.Prelude.{◌≡◌, ◌++◌, ◌∷◌, [], ℕ, false, map, All, IfOk, OnOk};
+ghost use Rattle.std.specs.Option.{option_to_list};
 ghost use Rattle.loft_sense.specs.Fits.{Fits};
 ghost use Rattle.loft_sense.specs.Machine.{empty, heads as heads_of};
 ghost use Rattle.loft_sense.specs.History.{TakeBy, GiveBy, has_turn, waiting};
@@ -43,6 +44,17 @@ impl<X: Setting, E: Engine> Model for Station<X, E> {
     } };
 
     ghost invariant = { λ s. (E.program s.engine ≡ X.program) × (E.limits s.engine ≡ X.options.limits) };
+}
+
+/// The notes with one more, if there is one.
+fn with_note(notes: NoteList, note: Option<InstantNote>) -> Result<NoteList, NoMemory>
+    ensures { IfOk result (λ all. all ≡ notes ++ option_to_list note) }
+{
+    let mut notes = notes;
+    if let Some(note) = note {
+        notes.push(note)?;
+    }
+    Ok(notes)
 }
 
 impl<X: Setting, E: Engine> Station<X, E> {
@@ -159,14 +171,12 @@ impl<X: Setting, E: Engine> Station<X, E> {
     {
         let Station {
             engine,
-            mut notes,
+            notes,
             current,
             ..
         } = self;
+        let notes = with_note(notes, current)?;
         let last = engine.last(alloc)?;
-        if let Some(note) = current {
-            notes.push(note)?;
-        }
         Ok((notes, last))
     }
 

@@ -13,7 +13,7 @@ use Rattle.loft_tree.specs.Source.{Argument, Expression, Declaration, Scheduler,
 use Rattle.loft_tree.specs.View.{argument_of, declaration_of, expression_of, named_of, source_of}
 use Rattle.loft_scopes.specs.declared.error.NameError.TheVariants.{Arity}
 use Rattle.loft_scopes.specs.declared.error.NameError.{NameError}
-use Rattle.loft_scopes.specs.Least.{least_of}
+use Rattle.loft_scopes.specs.FirstFault.{least_of}
 use Rattle.loft_scopes.proofs.First.{least_of-append}
 use Rattle.loft_scopes.specs.declared.scope.Scope.{Scope}
 use Rattle.loft_scopes.specs.Scopes.{Declared, kinds_of}

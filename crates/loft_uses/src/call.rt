@@ -5,7 +5,7 @@ ghost use Rattle.std.specs.Option.{option_map};
 ghost use Rattle.loft_tree.specs.View.{creation_of, expression_of, named_of};
 ghost use Rattle.loft_scopes.specs.Scopes.{kinds_of};
 ghost use Rattle.loft_scopes.specs.Faults.{arguments_faults, arity_faults, call_faults, creation_faults};
-ghost use Rattle.loft_scopes.specs.Least.{least_of};
+ghost use Rattle.loft_scopes.specs.FirstFault.{least_of};
 
 use crate::expression::{begin_of, expression};
 use crate::name::{module, scheduler, unlike};

@@ -4,7 +4,7 @@ ghost use Rattle.std.specs.Prelude.{◌≡◌};
 ghost use Rattle.loft_tree.specs.View.{expression_of, value_of};
 ghost use Rattle.loft_tree.specs.KindOf.{builtin_kind, compares};
 ghost use Rattle.loft_scopes.specs.Faults.{begin_of, expression_faults, kind_of, wants, wants_if};
-ghost use Rattle.loft_scopes.specs.Least.{least_of};
+ghost use Rattle.loft_scopes.specs.FirstFault.{least_of};
 
 use crate::name::{unlike, value};
 use loft_scopes::{NameError, Scope, Table};

@@ -3,7 +3,7 @@
 ghost use Rattle.std.specs.Prelude.{◌≡◌, ◌<◌, ◌^◌, length};
 ghost use Rattle.loft_tree.specs.View.{declaration_of, head_of, place_name_of, source_of, statements_of};
 ghost use Rattle.loft_scopes.specs.Faults.{declaration_uses, place_faults, module_uses, uses_from};
-ghost use Rattle.loft_scopes.specs.Least.{least_of};
+ghost use Rattle.loft_scopes.specs.FirstFault.{least_of};
 
 use crate::name::scheduler;
 use crate::order::{creation, orders};
@@ -79,7 +79,7 @@ fn item(table: &Table, number: u32, declared: &Item, least: &mut Option<NameErro
 }
 
 /// The uses in declarations.
-pub fn items(table: &Table, declared: &[Item], least: &mut Option<NameError>)
+pub fn note_uses(table: &Table, declared: &[Item], least: &mut Option<NameError>)
     requires { length declared.now < 2 ^ 32 }
     ensures { least.new ≡ least_of least.old (uses_from table.now 0 (source_of declared.now)) }
 {

@@ -9,4 +9,4 @@ mod order;
 mod simple;
 mod statement;
 
-pub use item::items;
+pub use item::note_uses;

@@ -5,7 +5,7 @@ ghost use Rattle.std.specs.Option.{option_map};
 ghost use Rattle.loft_tree.specs.View.{event_name_of, named_of};
 ghost use Rattle.loft_scopes.specs.Scopes.{kinds_of, meaning};
 ghost use Rattle.loft_scopes.specs.Faults.{event_faults, events_faults, is_start, meant, module_use, scheduler_faults, start_use, target_faults, thread_if, unlike, use_faults, used, value_use};
-ghost use Rattle.loft_scopes.specs.Least.{least_of};
+ghost use Rattle.loft_scopes.specs.FirstFault.{least_of};
 
 use loft_scopes::{NameError, Scope, Sort, Table, note};
 use loft_tree::{EventName, Ident, Kind, Variable};

@@ -4,7 +4,7 @@ ghost use Rattle.std.specs.Prelude.{◌≡◌, map};
 ghost use Rattle.loft_tree.specs.View.{argument_of, named_of, order_of};
 ghost use Rattle.loft_scopes.specs.Scopes.{kinds_of};
 ghost use Rattle.loft_scopes.specs.Faults.{argument_at, argument_faults, argument_kind, order_faults, orders_faults, outer_faults, start_faults};
-ghost use Rattle.loft_scopes.specs.Least.{least_of};
+ghost use Rattle.loft_scopes.specs.FirstFault.{least_of};
 
 use crate::call::{arity, kind_at};
 use crate::name::{event, module, scheduler, start, unlike};

@@ -5,7 +5,7 @@ ghost use Rattle.loft_tree.specs.Source.{Assign, AssignCreate, ControlThread, Ge
 ghost use Rattle.loft_tree.specs.View.{creation_of, event_name_of, expression_of, value_of};
 ghost use Rattle.loft_tree.specs.declared.kinds.Control.TheVariants as control;
 ghost use Rattle.loft_scopes.specs.Faults.{statement_faults};
-ghost use Rattle.loft_scopes.specs.Least.{least_of};
+ghost use Rattle.loft_scopes.specs.FirstFault.{least_of};
 
 use crate::expression::{begin_of, expression, wants, wants_if};
 use crate::{call, name};

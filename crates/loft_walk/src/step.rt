@@ -34,7 +34,7 @@ impl<'a> Running<'a> {
     ghost use Rattle.loft_walk.specs.Frames.{Steps, moved_by};
 
     /// What a statement makes of its thread.
-    fn moved(effect: Effect) -> Move
+    fn move_of(effect: Effect) -> Move
         ensures { result ≡ moved_by effect }
     {
         match effect {
@@ -67,7 +67,7 @@ impl<'a> Running<'a> {
             | NamedStmt::Generate { .. }
             | NamedStmt::Control { .. }
             | NamedStmt::Broadcast { .. } => {
-                Ok(Self::moved(act(&mut self.scope, alloc, heads, beside, statement)?))
+                Ok(Self::move_of(act(&mut self.scope, alloc, heads, beside, statement)?))
             }
             NamedStmt::Cooperate { stop, .. }
             | NamedStmt::Await { stop, .. }
@@ -78,7 +78,7 @@ impl<'a> Running<'a> {
             | NamedStmt::Unlink { stop, .. }
             | NamedStmt::Halt { stop, .. } => {
                 self.scope.at.stop = *stop;
-                Ok(Self::moved(hold(&mut self.scope, alloc, heads, beside, statement)?))
+                Ok(Self::move_of(hold(&mut self.scope, alloc, heads, beside, statement)?))
             }
             NamedStmt::Run {
                 at: _,

@@ -11,7 +11,7 @@ use Rattle.std.proofs.lemmas.Slice.Eq.{bytes_eq-Decides}
 use Rattle.loft_words.specs.Words.{is_option, is_equals_sign, has_value, name_in, value_in}
 use Rattle.loft_words.specs.Arguments.{arguments}
 
--- the '=' behind a name without one is the first
+-- the '=' after a name without one is the first
 at_sign : (name value : List ℕ) → list_any is_equals_sign name ≡ false → position_or_len is_equals_sign (name ++ (61 ∷ value)) ≡ length name
 at_sign [] value none = refl
 at_sign (b ∷ bs) value none = go (is_equals_sign b) refl (at_sign bs value)

@@ -252,20 +252,10 @@ added h es fs waits lists threads jobs_now count counted e sent (Err failed) w o
 
 -- ---- creates of clients
 
-if_both : (b t : Bool) (n : ℕ) → t ≡ true → (if b then n + 1 else n) ≡ (if b && t then n + 1 else n)
-if_both true t n e = ap (λ (u : Bool). if u then n + 1 else n) (sym e)
-if_both false t n e = refl
-
-if_neither : (b t : Bool) (n : ℕ) → t ≡ false → n ≡ (if b && t then n + 1 else n)
-if_neither true t n e = ap (λ (u : Bool). if u then n + 1 else n) (sym e)
-if_neither false t n e = refl
-
--- the counts after an order of a client that is a create, and after one that isn't
-pub one_create : (d c : ℕ) (sent : Sent) (before last : ℕ) → is_create sent.order ≡ true → last ≡ (if d == c then before + 1 else before) → last ≡ creates_after d before (Client c sent ∷ [])
-one_create d c sent before last create is = is ∙ if_both (d == c) (is_create sent.order) before create
-
-pub other_order : (d c : ℕ) (sent : Sent) (before : ℕ) → is_create sent.order ≡ false → before ≡ creates_after d before (Client c sent ∷ [])
-other_order d c sent before other = if_neither (d == c) (is_create sent.order) before other
+-- the count after an order of a client, where one more is counted if it is a create
+pub one_counted : (d c : ℕ) (sent : Sent) (before first last : ℕ) (one : Bool) → first ≡ before → one ≡ is_create sent.order → last ≡ (if (d == c) && one then first + 1 else first)
+    → last ≡ creates_after d before (Client c sent ∷ [])
+one_counted d c sent before first last one same create counted = counted ∙ rw (same, create) refl
 
 -- a client's entry is added
 pub client_added : (h : Heads) (es fs : List Entry) (waits lists : List (List Order)) (threads jobs_now : List Thread) (count counted : ℕ → ℕ) (c : ℕ) (copy sent : Sent)

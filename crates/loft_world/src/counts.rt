@@ -1,6 +1,6 @@
 //! How many creates each client has given.
 
-ghost use Rattle.std.specs.Prelude.{◌≡◌, ◌+◌, ◌<◌, ◌^◌, ◌==◌, ℕ, IsSome, OnOk, if◌then◌else◌};
+ghost use Rattle.std.specs.Prelude.{◌≡◌, ◌+◌, ◌<◌, ◌^◌, ◌==◌, ◌&&◌, ℕ, IsSome, OnOk, if◌then◌else◌};
 ghost use Rattle.std.specs.Ordering.{nat_cmp};
 ghost use Rattle.std.specs.BTreeMap.{get};
 ghost use Rattle.loft_world.specs.State.{count_in};
@@ -28,14 +28,16 @@ pub(crate) fn make_room(counts: &mut Counts, c: u32) -> Result<(), NoMemory>
     Ok(())
 }
 
-/// Adds one to the count of a client that has room.
-pub(crate) fn add_one(counts: &mut Counts, c: u32)
+/// Adds one to the count of a client that has room, where `one` says so.
+pub(crate) fn add_one_if(counts: &mut Counts, c: u32, one: bool)
     requires room { IsSome (get nat_cmp counts.old c) }
     requires few { count_in counts.old c + 1 < 2 ^ 64 }
     ensures { (d : ℕ) → count_in counts.new d
-        ≡ (if d == c then count_in counts.old d + 1 else count_in counts.old d) }
+        ≡ (if (d == c) && one then count_in counts.old d + 1 else count_in counts.old d) }
 {
-    if let Some(count) = counts.get_mut(&c) {
-        *count += 1;
+    if one {
+        if let Some(count) = counts.get_mut(&c) {
+            *count += 1;
+        }
     }
 }

@@ -1,4 +1,4 @@
-//! What the schedulers of a program leave behind.
+//! What the schedulers of a program leave.
 
 use crate::world::World;
 use loft_base::Sequence;

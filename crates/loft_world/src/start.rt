@@ -1,6 +1,6 @@
 //! What waits before the first entry: the creates of the source's starts.
 
-ghost use Rattle.std.specs.Prelude.{◌≡◌, length, IfOk};
+ghost use Rattle.std.specs.Prelude.{◌≡◌, [], ◌∷◌, ◌++◌, length, IfOk, OnOk};
 ghost use Rattle.loft_base.specs.declared.ids.Maker.TheVariants.{Source};
 ghost use Rattle.loft_sense.specs.declared.order.Order.TheVariants.{Create};
 ghost use Rattle.loft_sense.specs.History.{starts_of};
@@ -11,18 +11,25 @@ use loft_sense::{Order, Orders};
 use loft_tree::{Heads, Start};
 use std::alloc::Global;
 
-/// The create of a start, by its number in the text.
-fn create_of(alloc: Global, number: u64, start: &Start) -> Result<Order, NoMemory>
-    ensures { IfOk result (λ order. order
-        ≡ Create (record { maker = Source; seq = number }) start.now.«module» start.now.arguments) }
+/// Adds the create of a start, by its number in the text.
+fn add_create(
+    orders: &mut Orders,
+    alloc: Global,
+    number: u64,
+    start: &Start,
+) -> Result<(), NoMemory>
+    ensures { OnOk result (orders.new ≡ orders.old
+        ++ Create (record { maker = Source; seq = number }) start.now.«module» start.now.arguments
+        ∷ []) }
 {
-    Ok(Order::Create {
+    let args = Sequence::from_slice(alloc, start.arguments.as_slice())?;
+    orders.push(Order::Create {
         thread: ThreadId {
             maker: Maker::Source,
             seq: number,
         },
         module: start.module,
-        args: Sequence::from_slice(alloc, start.arguments.as_slice())?,
+        args,
     })
 }
 
@@ -33,7 +40,7 @@ fn starts_at(alloc: Global, heads: &Heads, at: usize) -> Result<Orders, NoMemory
     let mut orders = Sequence::new(alloc);
     for (k, start) in heads.starts.as_slice().iter().enumerate() {
         if at == start.scheduler.0 as usize {
-            orders.push(create_of(alloc, k as u64, start)?)?;
+            add_create(&mut orders, alloc, k as u64, start)?;
         }
     }
     Ok(orders)

@@ -7,7 +7,7 @@ ghost use Rattle.loft_sense.specs.History.{waiting, jobs, creates, is_open, is_b
 ghost use Rattle.loft_sense.specs.Legal.{IsRouted};
 ghost use Rattle.loft_world.specs.State.{no_entries, with_entry, each_with, sends, IsSending, IsScheduler, IsToOne, IsForClients};
 
-use crate::counts::{Counts, add_one, count_in, make_room};
+use crate::counts::{Counts, add_one_if, count_in, make_room};
 use crate::orders::add_all;
 use crate::start::starts_of_each;
 use loft_base::{EventId, NoMemory, SchedId, Sequence, TryClone, try_clone_all};
@@ -82,10 +82,9 @@ impl World {
         ensures ok { IfOk result (λ batch. self.new ≡ with_entry self.old (entry.Take s batch)) }
         ensures err { OnErr result (self.new ≡ self.old) }
     {
-        let at = s.0 as usize;
-        let batch = try_clone_all(alloc, self.waits[at].as_slice())?;
-        self.entries.push(Entry::Take { s, batch })?;
-        Ok(mem::replace(&mut self.waits[at], Sequence::new(alloc)))
+        let batch = try_clone_all(alloc, self.left(s).as_slice())?;
+        self.record_take(alloc, s)?;
+        Ok(batch)
     }
 
     /// As `take`, and the orders move into the entry: none is copied. Who takes them has seen them
@@ -127,10 +126,12 @@ impl World {
             return Ok(None);
         };
         self.entries.reserve(1)?;
-        let job = first.share()?;
         let thread = first.as_thread().try_clone(alloc)?;
-        self.entries.push_reserved(Entry::Pick { w, job });
-        self.jobs.pop_front();
+        let job = self.jobs.pop_front();
+        self.entries.push_reserved(Entry::Pick {
+            w,
+            job: job.unwrap(),
+        });
         Ok(Some(thread))
     }
 
@@ -166,9 +167,7 @@ impl World {
             slice::from_ref(sent),
         )?;
         let position = self.entries.len() as u64;
-        if is_create(&sent.order) {
-            add_one(&mut self.creates, c);
-        }
+        add_one_if(&mut self.creates, c, is_create(&sent.order));
         Ok(position)
     }
 

@@ -24,7 +24,7 @@ loop-at-preserved c = (
 pub returns-in-Fault-clause-fault : goal.returns-in-Fault-clause-fault
 returns-in-Fault-clause-fault c =
     let found = at_fault c.loop-at.items.items c.args.text.now c.loop-at.at _ c.loop-at-test.true c.loop-at.invariant.1 c.in-Fault.error (c.in-Fault.ensures.front ∙ ap front_of c.split_at.ensures.back) in
-    rw c.behind.ensures (first_fault c.args.text.now _ found)
+    rw c.moved_by.ensures (first_fault c.args.text.now _ found)
 
 pub returns-clause-found : goal.returns-clause-found
 returns-clause-found c = rw c.new.ensures (at_end c.loop-at.items.items c.args.text.now c.loop-at.at _ c.loop-at-test.false c.loop-at.invariant.1)

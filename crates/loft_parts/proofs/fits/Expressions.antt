@@ -92,10 +92,10 @@ module _ {n : ℕ} where
 abbrev InBrackets : ℕ → Expression → Type 0
 InBrackets n e = WordsFit e × (nesting e + 1 ≤ n)
 
-abbrev BehindSign : ℕ → Expression → Type 0
-BehindSign n e = WordsFit e × (in_brackets (sign_bracketed e) (nesting e) + 1 ≤ n)
+abbrev AfterSign : ℕ → Expression → Type 0
+AfterSign n e = WordsFit e × (in_brackets (sign_bracketed e) (nesting e) + 1 ≤ n)
 
-module _ {lim : Limits Language} {n : ℕ} (bracketed_fits : Gives lim n (inside Bracketed) (InBrackets n)) (signed_fits : Gives lim n (inside Signed) (BehindSign n)) where
+module _ {lim : Limits Language} {n : ℕ} (bracketed_fits : Gives lim n (inside Bracketed) (InBrackets n)) (signed_fits : Gives lim n (inside Signed) (AfterSign n)) where
   special_binds : (at : ℕ) (special : Builtin) → Binds n 7 (Special at special)
   special_binds at special = record { words = tt; nests = omega arith }
 
@@ -173,12 +173,12 @@ module _ {lim : Limits Language} {n : ℕ} (bracketed_fits : Gives lim n (inside
   unfolding expression
   expression_binds = gives_made (conjunction_binds ▸ gives_many disjunct_binds) (λ x h. chain_binds 1 refl x.0 x.1 (binds_lower 1 2 x.0 (omega arith) h.0) h.1)
 
-insides_bind : {lim : Limits Language} (n : ℕ) → Gives lim n (inside Bracketed) (InBrackets n) × Gives lim n (inside Signed) (BehindSign n)
-insides_bind zero = (gives_inside_none Bracketed (InBrackets 0), gives_inside_none Signed (BehindSign 0))
+insides_bind : {lim : Limits Language} (n : ℕ) → Gives lim n (inside Bracketed) (InBrackets n) × Gives lim n (inside Signed) (AfterSign n)
+insides_bind zero = (gives_inside_none Bracketed (InBrackets 0), gives_inside_none Signed (AfterSign 0))
 insides_bind (suc n) =
     let h = insides_bind n in (
       gives_inside n Bracketed (InBrackets (suc n)) (gives_so (expression_binds h.0 h.1) (λ e k. (k.words, omega (arith, unbracketed _ (nesting e) n k.nests)))),
-      gives_inside n Signed (BehindSign (suc n)) (gives_so (unary_binds h.0 h.1) (λ e k. (k.words, omega (arith, k.nests)))),
+      gives_inside n Signed (AfterSign (suc n)) (gives_so (unary_binds h.0 h.1) (λ e k. (k.words, omega (arith, k.nests)))),
     )
 
 -- ---- operands

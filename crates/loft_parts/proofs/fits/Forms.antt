@@ -44,7 +44,7 @@ counts w (counted v f) = same v w || counts w f
 counts w (fresh v f) = counts w f
 counts w (made h f) = counts w f
 
--- nothing is due behind the form, if b tells that nothing is due before
+-- nothing is due after the form, if b tells that nothing is due before
 abbrev pub settles : {A : Type 0} → Bool → Form A → Bool
 settles b (leaf passes value opens) = true
 settles b (f ▹ g) = settles (settles b f) g
@@ -89,7 +89,7 @@ module _ (R : State Language → State Language → Type 0) (stays : (c : State 
 abbrev AtMost : Counted → State Language → State Language → Type 0
 AtMost w c d = total w c ≤ total w d
 
--- where no count was past its limit before, none is behind
+-- where no count was past its limit before, none is after it
 abbrev Keeps : Limits Language → State Language → State Language → Type 0
 Keeps lim c d = Within lim c.counts → Within lim d.counts
 
@@ -214,7 +214,7 @@ rule_settles lim (suc n) r ss c x d h = form_settles lim n (SpellsRule rules lim
 abbrev pub Spelled : {A : Type 0} → Limits Language → ℕ → Form A → Spelling Language A
 Spelled lim n f = Spells lim n (SpellsRule rules lim n) f
 
--- What a form counts is counted behind it, unless it counts it from 0 somewhere.
+-- What a form counts is counted after it, unless it counts it from 0 somewhere.
 pub spelled_counts : {A : Type 0} (lim : Limits Language) (n : ℕ) (w : Counted) (f : Form A) (ss : List Symbol) (c : State Language) (x : A) (d : State Language) → spares w f ≡ true → Spelled lim n f ss c x d → total w c + one (counts w f) ≤ total w d
 spelled_counts lim n w f ss c x d spared h = form_counts lim n (SpellsRule rules lim n) w (rule_counts lim w n) f ss c x d spared h
 
@@ -222,6 +222,6 @@ spelled_counts lim n w f ss c x d spared h = form_counts lim n (SpellsRule rules
 pub spelled_keeps : {A : Type 0} (lim : Limits Language) (n : ℕ) (f : Form A) (ss : List Symbol) (c : State Language) (x : A) (d : State Language) → Spelled lim n f ss c x d → Within lim c.counts → Within lim d.counts
 spelled_keeps lim n f ss c x d h within = form_keeps lim n (SpellsRule rules lim n) (rule_keeps lim n) f ss c x d h within
 
--- Nothing is due behind a form that settles it.
+-- Nothing is due after a form that settles it.
 pub spelled_settles : {A : Type 0} (lim : Limits Language) (n : ℕ) (f : Form A) (b : Bool) (ss : List Symbol) (c : State Language) (x : A) (d : State Language) → (b ≡ true → c.due ≡ []) → settles b f ≡ true → Spelled lim n f ss c x d → d.due ≡ []
 spelled_settles lim n f b ss c x d paid settled h = form_settles lim n (SpellsRule rules lim n) (rule_settles lim n) f b ss c x d h paid settled

@@ -6,7 +6,7 @@ use Rattle.loft_base.specs.Arithmetic.{wrapped}
 use Rattle.loft_lex.specs.Bytes.{max_number}
 use Rattle.loft_tree.specs.Source.{PlaceName, Declaration}
 use Rattle.loft_tree.specs.Fits.{Each, IfThere, NameFits, NumberFits, SignedFits, PlaceFits, same_place, EndFits, ArgumentFits, OrderFits, DeclarationFits, is_scheduler, is_event, is_shared, is_module, is_start, is_outside}
-use Rattle.loft_grammar.specs.Items.{end_of, negative, signed, parameter, parameters, local, place, ending, head, module_item, scheduler_item, event_item, shared_item, outer_argument, outer_arguments, alias, start_item, create_order, control_order, value_behind_comma, broadcast_order, order, outside_item, item, program}
+use Rattle.loft_grammar.specs.Items.{end_of, negative, signed, parameter, parameters, local, place, ending, head, module_item, scheduler_item, event_item, shared_item, outer_argument, outer_arguments, alias, start_item, create_order, control_order, value_after_comma, broadcast_order, order, outside_item, item, program}
 use Rattle.loft_grammar.specs.Limits.{limits}
 use Rattle.loft_grammar.specs.PartsFit.{NamedFits, HeadFits}
 use Rattle.loft_grammar.specs.declared.counts.Counted.{Counted}
@@ -47,7 +47,7 @@ module _ {n : ℕ} where
   -- ---- orders
 
   pub order_fits : Gives limits n order OrderFits
-  unfolding order create_order control_order broadcast_order value_behind_comma
+  unfolding order create_order control_order broadcast_order value_after_comma
   order_fits =
       gives_made (gives_any ▸ name_fits ▸ gives_any ▸ name_fits ▸ outer_arguments_fit ▸ gives_any)
       (λ x h. record { there = h.1.0; runs = h.1.1.1.0; each = h.1.1.1.1.0.0; few = h.1.1.1.1.0.1 })

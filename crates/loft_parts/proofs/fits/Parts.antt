@@ -32,7 +32,7 @@ pub gives_leaf : {lim : Limits Language} {n : ℕ} {A : Type 0} {passes : Kind �
     → ((s : Symbol) → SymbolFits s → passes (kind_of s.what) ≡ true → P (value s)) → Gives lim n (leaf passes value opens) P
 gives_leaf {P = P} k = record { of = λ ss c x d fits within h. subst P (sym h.3) (k h.0 (subst (Each SymbolFits) h.1 fits).0 h.2) }
 
--- one form behind the other
+-- one form after the other
 infixr 30 ◌▸◌
 pub ◌▸◌ : {lim : Limits Language} {n : ℕ} {A B : Type 0} {f : Form A} {g : Form B} {P : A → Type 0} {Q : B → Type 0} → Gives lim n f P → Gives lim n g Q → Gives lim n (f ▹ g) (λ x. P x.0 × Q x.1)
 ◌▸◌ {lim} {n} {f = f} p q = record {
@@ -152,7 +152,7 @@ few_of {lim} {n = n} {w = w} {f = f} limited b p settled ss c x d paid within h 
 pub gives_few : {A : Type 0} {lim : Limits Language} {n : ℕ} {w : Counted} {f : Form A} {m : A → ℕ} → IsLimited lim w → Weighs lim n w f m → settles false f ≡ true → Gives lim n f (λ x. m x ≤ most w)
 gives_few limited p settled = record { of = λ ss c x d fits within h. few_of limited false p settled ss c x d (λ e. absurd cc) within h }
 
--- what is counted from 0 is within the limit behind the next symbols
+-- what is counted from 0 is within the limit after the next symbols
 pub gives_few_fresh : {A B : Type 0} {lim : Limits Language} {n : ℕ} {w : Counted} {f : Form A} {g : Form B} {m : A → ℕ} → IsLimited lim w → Weighs lim n w f m → spares w g ≡ true → settles false (f ▹ g) ≡ true → Gives lim n (fresh w f ▹ g) (λ x. m x.0 ≤ most w)
 gives_few_fresh {lim} {w = w} {g = g} limited p spared settled = record {
   of = λ ss c x d fits within h.

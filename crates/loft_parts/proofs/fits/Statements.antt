@@ -8,7 +8,7 @@ use Rattle.loft_tree.specs.Fits.{Each, IfThere, NameFits, EventNameFits, Express
 use Rattle.loft_grammar.specs.Language.{Language, Conditional, Looped}
 use Rattle.loft_grammar.specs.Symbols.{text}
 use Rattle.loft_grammar.specs.Expressions.{whole, argument, arguments}
-use Rattle.loft_grammar.specs.Statements.{event_name, assignment_of, print_of, else_of, creation, behind_comma, time_limit, assigned, assignment, printed, print, create, cooperate, generate, await_event, choice, choices, select, get, join, control, broadcast, link, unlink, run, halt, conditional, while_loop, repeat, value_statement, event_statement, thread_statement, moving_statement, statement, body, condition, otherwise, branches, turns}
+use Rattle.loft_grammar.specs.Statements.{event_name, assignment_of, print_of, else_of, creation, after_comma, time_limit, assigned, assignment, printed, print, create, cooperate, generate, await_event, choice, choices, select, get, join, control, broadcast, link, unlink, run, halt, conditional, while_loop, repeat, value_statement, event_statement, thread_statement, moving_statement, statement, body, condition, otherwise, branches, turns}
 use Rattle.loft_grammar.specs.Limits.{limits}
 use Rattle.loft_grammar.specs.declared.counts.Counted.TheVariants.{Statement, Operand, Argument, Choice}
 use Rattle.loft_parts.proofs.fits.Expressions.{name_fits, whole_fits}
@@ -62,8 +62,8 @@ module _ {lim : Limits Language} {n : ℕ} where
 
 -- where operands are limited as in sources
 module _ {lim : Limits Language} {n : ℕ} (operands : IsLimited lim Operand) where
-  pub comma_fits : Gives lim n behind_comma (ExpressionFits n)
-  unfolding behind_comma
+  pub comma_fits : Gives lim n after_comma (ExpressionFits n)
+  unfolding after_comma
   comma_fits = further_gives (whole_fits operands n)
 
   pub limit_fits : Gives lim n time_limit (ExpressionFits n)

@@ -85,11 +85,11 @@ else_is n k (Then first rest) p = record {
 -- ---- statements with bodies
 
 -- the pieces of a statement with bodies, as they are read and as they stand in lines
-branches_pieces : (e b l last : List Piece) (first behind bracket close : Piece) → first ∷ (((bracket ∷ (e ++ close ∷ [])) ++ (behind ∷ (b ++ l))) ++ last) ≡ (first ∷ bracket ∷ (e ++ (close ∷ behind ∷ []))) ++ (b ++ (l ++ last))
-branches_pieces e b l last first behind bracket close = simp append_assoc
+branches_pieces : (e b l last : List Piece) (first follows bracket close : Piece) → first ∷ (((bracket ∷ (e ++ close ∷ [])) ++ (follows ∷ (b ++ l))) ++ last) ≡ (first ∷ bracket ∷ (e ++ (close ∷ follows ∷ []))) ++ (b ++ (l ++ last))
+branches_pieces e b l last first follows bracket close = simp append_assoc
 
-turns_pieces : (e b last : List Piece) (first behind bracket close : Piece) → first ∷ (((bracket ∷ (e ++ close ∷ [])) ++ (behind ∷ b)) ++ last) ≡ (first ∷ bracket ∷ (e ++ (close ∷ behind ∷ []))) ++ (b ++ last)
-turns_pieces e b last first behind bracket close = simp append_assoc
+turns_pieces : (e b last : List Piece) (first follows bracket close : Piece) → first ∷ (((bracket ∷ (e ++ close ∷ [])) ++ (follows ∷ b)) ++ last) ≡ (first ∷ bracket ∷ (e ++ (close ∷ follows ∷ []))) ++ (b ++ last)
+turns_pieces e b last first follows bracket close = simp append_assoc
 
 if_pieces : (k : ℕ) (e : Expression) (first second : Statements) → tight (word w.If) ∷ (((spaced (sign s.Open) ∷ (expression_pieces e [] ++ tight (sign s.Close) ∷ [])) ++ (spaced (word w.Then) ∷ (line_pieces (body_lines first (k + 2)) ++ line_pieces (else_lines second k)))) ++ tight (word w.End) ∷ [])
     ≡ (test_line k w.If e w.Then).pieces ++ line_pieces (body_lines first (k + 2) ++ (else_lines second k ++ end_line k ∷ []))

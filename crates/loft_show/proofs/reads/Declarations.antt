@@ -17,7 +17,7 @@ use Rattle.loft_grammar.specs.Counts.{most, number, put, none as nothing}
 use Rattle.loft_grammar.specs.Items.{end_of, head, module_item, scheduler_item, event_item, shared_item, start_item, outside_item, alias, item, program}
 use Rattle.loft_grammar.specs.Limits.{limits}
 use Rattle.loft_grammar.specs.Texts.{SpellsProgram}
-use Rattle.loft_show.specs.Canon.{Piece, line, word_line, space, tight, spaced, word, sign, name, behind, signed_pieces, name_pieces, call_pieces, head_line, local_lines, body_lines, end_line, order_lines, declaration_lines, source_lines}
+use Rattle.loft_show.specs.Canon.{Piece, line, word_line, space, tight, spaced, word, sign, name, led_by, signed_pieces, name_pieces, call_pieces, head_line, local_lines, body_lines, end_line, order_lines, declaration_lines, source_lines}
 use Rattle.loft_show.specs.Places.{bare_name, bare_named, bare_place, bare_body, bare_head, bare_declaration, without_places}
 use Rattle.loft_show.proofs.reads.Spelling as spelling
 use Rattle.loft_show.proofs.reads.Spelling.{syms, line_pieces, Is, spelled_as, valued_as}
@@ -106,7 +106,7 @@ module_is h locals ss fits c few =
 
 -- ---- starts and clients
 
-alias_is : (x : Option Ident) → Part limits 32 (maybe alias) (behind name_pieces (spaced (word w.As) ∷ []) x) (option_map bare_name x)
+alias_is : (x : Option Ident) → Part limits 32 (maybe alias) (led_by name_pieces (spaced (word w.As) ∷ []) x) (option_map bare_name x)
 unfolding alias
 alias_is None = none
 alias_is (Some x) = some (built (word_is w.As then name_is x))
@@ -115,7 +115,7 @@ start_is : (scheduler called : Ident) (arguments : List Argument) (x : Option Id
 unfolding item start_item
 start_is scheduler called arguments x fits c few =
     let ps = call_pieces scheduler called arguments in
-    let qs = behind name_pieces (spaced (word w.As) ∷ []) x in
+    let qs = led_by name_pieces (spaced (word w.As) ∷ []) x in
     let (d, after, whole) = followed (spelling.first_word_is c count.Start w.Start few) (grouped ps qs (tight (sign s.Semicolon) ∷ []) (call_is scheduler called arguments fits (alias_is x then semicolon))) in
     (d, same_after after, on_line (word_line 0 w.Start (ps ++ qs)).pieces (spelling.right (spelling.right (spelling.right (spelling.right (spelling.left (spelling.built whole)))))))
 
@@ -164,19 +164,19 @@ room_first (Module h locals ss) p c room = (let few = room.modules in omega (ari
 room_first (Start scheduler called arguments x) p c room = (let few = room.starts in omega (arith, counts_first))
 room_first (Outside x orders) p c room = (let few = room.clients in omega (arith, counts_first))
 
-room_behind : (x : Declaration) (p : Source) (c d : Counts) → Room (x ∷ p) c → SameItems (one_more_of x c) d → Room p d
-room_behind (Scheduler x) p c d room same = omega (arith, counts_first)
-room_behind (Event x scheduler) p c d room same = omega (arith, counts_first)
-room_behind (Shared x scheduler value) p c d room same = omega (arith, counts_first)
-room_behind (Module h locals ss) p c d room same = omega (arith, counts_first)
-room_behind (Start scheduler called arguments x) p c d room same = omega (arith, counts_first)
-room_behind (Outside x orders) p c d room same = omega (arith, counts_first)
+room_after : (x : Declaration) (p : Source) (c d : Counts) → Room (x ∷ p) c → SameItems (one_more_of x c) d → Room p d
+room_after (Scheduler x) p c d room same = omega (arith, counts_first)
+room_after (Event x scheduler) p c d room same = omega (arith, counts_first)
+room_after (Shared x scheduler value) p c d room same = omega (arith, counts_first)
+room_after (Module h locals ss) p c d room same = omega (arith, counts_first)
+room_after (Start scheduler called arguments x) p c d room same = omega (arith, counts_first)
+room_after (Outside x orders) p c d room same = omega (arith, counts_first)
 
 declarations_are : (p : Source) → Each DeclarationFits p → (c : Counts) → Room p c → (d : Counts) × Is limits 32 (many item) (syms (line_pieces (source_lines p))) (paid c) (without_places p) (paid d)
 declarations_are [] all c room = (c, spelling.nothing_more)
 declarations_are (x ∷ p) all c room =
     let (d, same, first) = declaration_is x all.0 c (room_first x p c room) in
-    let (e, others) = declarations_are p all.1 d (room_behind x p c d room same) in
+    let (e, others) = declarations_are p all.1 d (room_after x p c d room same) in
     (e, spelled_as (sym (ap syms (pieces_joined (declaration_lines x) (source_lines p)) ∙ joined (line_pieces (declaration_lines x)) (line_pieces (source_lines p)))) (spelling.one_more first others))
 
 -- the symbols of the canonical lines, without places, spell the program without places

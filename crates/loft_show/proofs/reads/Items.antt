@@ -27,8 +27,8 @@ use Rattle.loft_grammar.specs.Limits.{limits}
 use Rattle.loft_grammar.specs.Statements
 use Rattle.loft_grammar.specs.Symbols
 use Rattle.loft_grammar.specs.Symbols.{Form}
-use Rattle.loft_grammar.specs.Items.{negative, signed, kind, parameter, parameters, local, place, ending, outer_argument, outer_arguments, value_behind_comma, order, create_order, control_order, broadcast_order}
-use Rattle.loft_show.specs.Canon.{Piece, space, tight, spaced, word, sign, kind_word, signed_pieces, named_pieces, place_pieces, bracketed_pieces, behind, argument_pieces, call_pieces, control_word, local_lines, order_line, order_lines}
+use Rattle.loft_grammar.specs.Items.{negative, signed, kind, parameter, parameters, local, place, ending, outer_argument, outer_arguments, value_after_comma, order, create_order, control_order, broadcast_order}
+use Rattle.loft_show.specs.Canon.{Piece, space, tight, spaced, word, sign, kind_word, signed_pieces, named_pieces, place_pieces, bracketed_pieces, led_by, argument_pieces, call_pieces, control_word, local_lines, order_line, order_lines}
 use Rattle.loft_show.specs.Places.{bare_name, bare_named, bare_place, bare_argument, bare_order}
 use Rattle.loft_show.proofs.reads.Spelling as spelling
 use Rattle.loft_show.proofs.reads.Spelling.{bare, syms, line_pieces, Is, spelled_as}
@@ -107,7 +107,7 @@ unfolding place
 place_is (InScheduler x) gap = left (built (name_is x))
 place_is Unlinked gap = right (built (word_is w.Unlinked))
 
-pub ending_is : {n : ℕ} (x : Option PlaceName) → Part limits n (maybe ending) (behind place_pieces (spaced (word w.To) ∷ []) x) (option_map bare_place x)
+pub ending_is : {n : ℕ} (x : Option PlaceName) → Part limits n (maybe ending) (led_by place_pieces (spaced (word w.To) ∷ []) x) (option_map bare_place x)
 unfolding ending
 ending_is None = none
 ending_is (Some x) = some (built (word_is w.To then place_is x space))
@@ -129,7 +129,7 @@ outer_arguments_count : (n : ℕ) (xs : List Argument) → Each ArgumentFits xs 
 outer_arguments_count n [] all = tt
 outer_arguments_count n (x ∷ xs) all = (outer_argument_counts n x all.0, outer_arguments_count n xs all.1)
 
--- "S.m(A, B)", and what stands behind it
+-- "S.m(A, B)", and what stands after it
 pub call_is : {n : ℕ} {B : Type 0} {f : Form B} {ps : List Piece} {y : B} (scheduler called : Ident) (xs : List Argument) → CallFits scheduler called xs → Part limits n f ps y
     → Part limits n (Symbols.name ▹ Symbols.sign s.Dot ▹ Symbols.name ▹ outer_arguments ▹ f) (call_pieces scheduler called xs ++ ps) (bare_name scheduler, (tt, (bare_name called, (map bare_argument xs, y))))
 unfolding outer_arguments
@@ -143,8 +143,8 @@ control_word_is n c.Stop what c few = spelling.left (spelling.built (spelling.fi
 control_word_is n c.Suspend what c few = spelling.right (spelling.left (spelling.built (spelling.first_word_is c what w.Suspend few)))
 control_word_is n c.Resume what c few = spelling.right (spelling.right (spelling.built (spelling.first_word_is c what w.Resume few)))
 
-value_is : {n : ℕ} (x : Option ℤ) → IfThere SignedFits x → Part limits n (maybe value_behind_comma) (behind signed_pieces (tight (sign s.Comma) ∷ []) x) x
-unfolding value_behind_comma
+value_is : {n : ℕ} (x : Option ℤ) → IfThere SignedFits x → Part limits n (maybe value_after_comma) (led_by signed_pieces (tight (sign s.Comma) ∷ []) x) x
+unfolding value_after_comma
 value_is None fits = none
 value_is (Some x) fits = some (built (sign_is s.Comma then signed_is x space fits))
 
@@ -152,7 +152,7 @@ value_is (Some x) fits = some (built (sign_is s.Comma then signed_is x space fit
 abbrev pub OrderIs : ℕ → Order → Type 0
 OrderIs n x = (c : Counts) → c.orders < 1024 → (d : Counts) × After 0 (put count.Order (c.orders + 1) c) d × Is limits n order (syms (order_line x).pieces) (paid c) (bare_order x) (paid d)
 
--- a part behind a first symbol
+-- a part after a first symbol
 pub followed : {n : ℕ} {A B : Type 0} {f : Form A} {g : Form B} {x : A} {y : B} {first : Symbol} {ps : List Piece} {c m : Counts} → Is limits n f (first ∷ []) (paid c) x (paid m) → Part limits n g ps y
     → (d : Counts) × After 0 m d × Is limits n (f ▹ g) (first ∷ syms ps) (paid c) (x, y) (paid d)
 followed {m} p q = let (d, after, others) = q.at m in (d, after, spelling.◌then◌ p others)

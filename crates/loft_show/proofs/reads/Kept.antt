@@ -11,7 +11,7 @@ use Rattle.loft_tree.specs.declared.kinds.UnaryOperator.TheVariants as u
 use Rattle.loft_tree.specs.Levels.{left_bracketed, right_bracketed, sign_bracketed}
 use Rattle.loft_tree.specs.Source.{Ident, Expression, Number, Variable, Special, Unary, Binary}
 use Rattle.loft_tree.specs.Fits.{Each, IfThere, NameFits, WordsFit, ExpressionFits}
-use Rattle.loft_show.specs.Canon.{Piece, Line, piece, space, tight, spaced, word, sign, name, ended, word_line, builtin_word, unary_sign, binary_sign, held, expression_pieces, further_pieces, list_pieces, bracketed_pieces, behind, comma_part, for_part}
+use Rattle.loft_show.specs.Canon.{Piece, Line, piece, space, tight, spaced, word, sign, name, ended, word_line, builtin_word, unary_sign, binary_sign, held, expression_pieces, further_pieces, list_pieces, bracketed_pieces, led_by, comma_part, for_part}
 use Rattle.loft_show.proofs.reads.Written.{WhatFits, is_mark, is_soft}
 use Rattle.loft_show.proofs.reads.Lexes.{Blank, Apart, LineFits}
 
@@ -20,7 +20,7 @@ abbrev pub Follows : Bool → List Piece → Type 0
 Follows true ps = (v : Sign) → Apart (Mark v) ps
 Follows false ps = (prev : What) → Apart prev ps
 
--- The pieces are kept apart: behind a sign, where `after` is true, or behind anything; and they end in a sign, where
+-- The pieces are kept apart: after a sign, where `after` is true, or after anything; and they end in a sign, where
 -- `sign` is true.
 pub record Flows (after ends : Bool) (ps : List Piece) : Type 0 where
   pub go : (rest : List Piece) → Follows ends rest → Follows after (ps ++ rest)
@@ -43,47 +43,47 @@ pub loose : {a : Bool} (b : Bool) {ps : List Piece} → Flows a b ps → Flows a
 loose b p = record { go = λ rest h. p.go rest (weaker b rest h) }
 
 -- a sign stands before
-pub behind_sign : {a b : Bool} {ps : List Piece} → Flows a b ps → Flows true b ps
-behind_sign {a} {ps} p = record { go = λ rest h. stronger a (ps ++ rest) (p.go rest h) }
+pub after_sign : {a b : Bool} {ps : List Piece} → Flows a b ps → Flows true b ps
+after_sign {a} {ps} p = record { go = λ rest h. stronger a (ps ++ rest) (p.go rest h) }
 
 pub none : {a : Bool} → Flows a a []
 none = record { go = λ rest h. h }
 
 -- ---- single pieces
 
--- without a blank before it a piece stands behind a sign
+-- without a blank before it a piece stands after a sign
 abbrev pub needs_sign : List ℕ → Bool
 needs_sign [] = true
 needs_sign (b ∷ gap) = false
 
-apart_behind : (x : What) (rest : List Piece) → Follows (is_mark x) rest → Apart x rest
-apart_behind (NamedWhat bytes) rest h = h (NamedWhat bytes)
-apart_behind (Keyword v) rest h = h (Keyword v)
-apart_behind (Numeral value) rest h = h (Numeral value)
-apart_behind (Quoted bytes) rest h = h (Quoted bytes)
-apart_behind (Mark v) rest h = h v
-apart_behind Unreadable rest h = h Unreadable
+apart_after : (x : What) (rest : List Piece) → Follows (is_mark x) rest → Apart x rest
+apart_after (NamedWhat bytes) rest h = h (NamedWhat bytes)
+apart_after (Keyword v) rest h = h (Keyword v)
+apart_after (Numeral value) rest h = h (Numeral value)
+apart_after (Quoted bytes) rest h = h (Quoted bytes)
+apart_after (Mark v) rest h = h v
+apart_after Unreadable rest h = h Unreadable
 
 pub at_gap : (gap : List ℕ) (x : What) → Blank gap → WhatFits x → is_soft x ≡ true → Flows (needs_sign gap) (is_mark x) (piece gap x ∷ [])
-at_gap [] x blank fits soft = record { go = λ rest h. λ v. (tt, fits, inr (soft, inl refl), apart_behind x rest h) }
-at_gap (b ∷ gap) x blank fits soft = record { go = λ rest h. λ prev. (blank, fits, inl (omega arith), apart_behind x rest h) }
+at_gap [] x blank fits soft = record { go = λ rest h. λ v. (tt, fits, inr (soft, inl refl), apart_after x rest h) }
+at_gap (b ∷ gap) x blank fits soft = record { go = λ rest h. λ prev. (blank, fits, inl (omega arith), apart_after x rest h) }
 
 pub space_blank : Blank space
 space_blank = (refl, tt)
 
 pub spaced_is : (x : What) → WhatFits x → Flows false (is_mark x) (spaced x ∷ [])
-spaced_is x fits = record { go = λ rest h. λ prev. (space_blank, fits, inl (lit< tt), apart_behind x rest h) }
+spaced_is x fits = record { go = λ rest h. λ prev. (space_blank, fits, inl (lit< tt), apart_after x rest h) }
 
 pub tight_is : (x : What) → WhatFits x → is_soft x ≡ true → Flows true (is_mark x) (tight x ∷ [])
 tight_is x fits soft = at_gap [] x tt fits soft
 
--- a sign may stand behind anything
+-- a sign may stand after anything
 pub tight_sign : (v : Sign) → is_soft (Mark v) ≡ true → Flows false true (tight (sign v) ∷ [])
 tight_sign v soft = record { go = λ rest h. λ prev. (tt, tt, inr (soft, inr refl), h v) }
 
 -- ---- expressions
 
--- the pieces behind any gap are kept apart
+-- the pieces after any gap are kept apart
 abbrev pub Kept : (List ℕ → List Piece) → Type 0
 Kept one = (gap : List ℕ) → Blank gap → Flows (needs_sign gap) false (one gap)
 
@@ -117,9 +117,9 @@ module _ {A : Type 0} (one : A → List ℕ → List Piece) where
   pub brackets_kept : (xs : List A) → Each (λ x. Kept (one x)) xs → Flows false true (bracketed_pieces one xs)
   brackets_kept xs all = tight_sign s.Open refl then list_kept xs all then tight_sign s.Close refl
 
-  pub behind_kept : (ps : List Piece) (x : Option A) → Flows false false ps → IfThere (λ y. Kept (one y)) x → Flows false false (behind one ps x)
-  behind_kept ps None p kept = none
-  behind_kept ps (Some x) p kept = p then kept space space_blank
+  pub led_kept : (ps : List Piece) (x : Option A) → Flows false false ps → IfThere (λ y. Kept (one y)) x → Flows false false (led_by one ps x)
+  led_kept ps None p kept = none
+  led_kept ps (Some x) p kept = p then kept space space_blank
 
 expressions_kept : (n : ℕ) (es : List Expression) → Each (ExpressionFits n) es → Each (λ e. Kept (expression_pieces e)) es
 expressions_kept n [] all = tt
@@ -134,7 +134,7 @@ name_kept x fits = spaced_is (name x) fits
 pub word_kept : (v : Word) → Flows false false (spaced (word v) ∷ [])
 word_kept v = spaced_is (word v) tt
 
--- "S.m", and what stands in brackets behind it
+-- "S.m", and what stands in brackets after it
 pub called_kept : (scheduler called : Ident) (ps : List Piece) → NameFits scheduler → NameFits called → Flows false true ps → Flows false true (spaced (name scheduler) ∷ tight (sign s.Dot) ∷ tight (name called) ∷ ps)
 called_kept scheduler called ps there runs p = name_kept scheduler there then tight_sign s.Dot refl then tight_is (name called) runs refl then p
 
@@ -143,13 +143,13 @@ if_kept n None fits = tt
 if_kept n (Some e) fits = expression_kept e fits.words
 
 pub comma_kept : (n : ℕ) (e : Option Expression) → IfThere (ExpressionFits n) e → Flows false false (comma_part e)
-comma_kept n e fits = behind_kept expression_pieces (tight (sign s.Comma) ∷ []) e (loose true (tight_sign s.Comma refl)) (if_kept n e fits)
+comma_kept n e fits = led_kept expression_pieces (tight (sign s.Comma) ∷ []) e (loose true (tight_sign s.Comma refl)) (if_kept n e fits)
 
 pub for_kept : (n : ℕ) (e : Option Expression) → IfThere (ExpressionFits n) e → Flows false false (for_part e)
-for_kept n e fits = behind_kept expression_pieces (spaced (word w.For) ∷ []) e (word_kept w.For) (if_kept n e fits)
+for_kept n e fits = led_kept expression_pieces (spaced (word w.For) ∷ []) e (word_kept w.For) (if_kept n e fits)
 
-pub instants_kept : (n : ℕ) (e : Option Expression) → IfThere (ExpressionFits n) e → Flows false false (behind expression_pieces [] e)
-instants_kept n e fits = behind_kept expression_pieces [] e none (if_kept n e fits)
+pub instants_kept : (n : ℕ) (e : Option Expression) → IfThere (ExpressionFits n) e → Flows false false (led_by expression_pieces [] e)
+instants_kept n e fits = led_kept expression_pieces [] e none (if_kept n e fits)
 
 pub value_kept : (n : ℕ) (e : Expression) → ExpressionFits n e → Flows false false (expression_pieces e space)
 value_kept n e fits = expression_kept e fits.words space space_blank
@@ -163,7 +163,7 @@ follows_nothing false = λ prev. tt
 pub line_kept : {l : Line} {b : Bool} → Flows true b l.pieces → LineFits l
 line_kept {l} {b} p = record { apart = subst (Apart (Mark s.Semicolon)) (append-nil l.pieces) (p.go [] (follows_nothing b) s.Semicolon) }
 
--- ";" behind the pieces
+-- ";" after the pieces
 pub ended_kept : {a b : Bool} {ps : List Piece} → Flows a b ps → Flows a true (ended ps)
 ended_kept {b} p = loose b p then tight_sign s.Semicolon refl
 

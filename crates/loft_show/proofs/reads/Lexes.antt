@@ -9,7 +9,7 @@ use Rattle.loft_lex.specs.Bytes.{is_blank}
 use Rattle.loft_lex.specs.Fits.{IsOfKind}
 use Rattle.loft_lex.specs.Cut.{Cut, IsWhole, nothing, blank, token as one_token}
 use Rattle.loft_lex.specs.Symbol.{Symbol, What, Mark, what_of, symbols}
-use Rattle.loft_lex.specs.Tokens.{token_behind}
+use Rattle.loft_lex.specs.Tokens.{token_moved}
 use Rattle.loft_tree.specs.Fits.{Each}
 use Rattle.loft_show.specs.Canon.{Piece, Line, spelled, pieces_text, lines_text}
 use Rattle.loft_show.proofs.reads.Spelling.{line_pieces}
@@ -25,30 +25,30 @@ Says text ws = (ts : List Token) × Cut text (Ok ts) × (whats text ts ≡ ws)
 
 -- ---- bytes put before a text
 
-drop_behind : (front rest : List ℕ) (n : ℕ) → drop (length front + n) (front ++ rest) ≡ drop n rest
-drop_behind [] rest n = let e : 0 + n ≡ n = omega arith in ap (λ k. drop k rest) e
-drop_behind (b ∷ front) rest n = let e : suc (length front) + n ≡ suc (length front + n) = omega arith in rw e (drop_behind front rest n)
+drop_after : (front rest : List ℕ) (n : ℕ) → drop (length front + n) (front ++ rest) ≡ drop n rest
+drop_after [] rest n = let e : 0 + n ≡ n = omega arith in ap (λ k. drop k rest) e
+drop_after (b ∷ front) rest n = let e : suc (length front) + n ≡ suc (length front + n) = omega arith in rw e (drop_after front rest n)
 
-slice_behind : (front rest : List ℕ) (from to : ℕ) → slice_range (front ++ rest) (length front + from) (length front + to) ≡ slice_range rest from to
-slice_behind front rest from to =
+slice_after : (front rest : List ℕ) (from to : ℕ) → slice_range (front ++ rest) (length front + from) (length front + to) ≡ slice_range rest from to
+slice_after front rest from to =
     let e : length front + to - (length front + from) ≡ to - from = omega arith in
-    rw (e, drop_behind front rest from) refl
+    rw (e, drop_after front rest from) refl
 
-whats_behind : (front rest : List ℕ) (ts : List Token) → whats (front ++ rest) (map (token_behind (length front)) ts) ≡ whats rest ts
-whats_behind front rest [] = refl
-whats_behind front rest (t ∷ ts) = λ i. what_of t.kind (slice_behind front rest t.from t.to i) ∷ whats_behind front rest ts i
+whats_moved : (front rest : List ℕ) (ts : List Token) → whats (front ++ rest) (map (token_moved (length front)) ts) ≡ whats rest ts
+whats_moved front rest [] = refl
+whats_moved front rest (t ∷ ts) = λ i. what_of t.kind (slice_after front rest t.from t.to i) ∷ whats_moved front rest ts i
 
 says_nothing : Says [] []
 says_nothing = ([], nothing, refl)
 
 says_blank : (b : ℕ) (rest : List ℕ) (ws : List What) → is_blank b ≡ true → Says rest ws → Says (b ∷ rest) ws
-says_blank b rest ws h (ts, cut, same) = (map (token_behind 1) ts, blank b rest (Ok ts) h cut, whats_behind (b ∷ []) rest ts ∙ same)
+says_blank b rest ws h (ts, cut, same) = (map (token_moved 1) ts, blank b rest (Ok ts) h cut, whats_moved (b ∷ []) rest ts ∙ same)
 
 says_token : (kind : TokenKind) (bytes rest : List ℕ) (w : What) (ws : List What) → IsOfKind kind bytes → IsWhole kind bytes rest → what_of kind bytes ≡ w → Says rest ws → Says (bytes ++ rest) (w ∷ ws)
 says_token kind bytes rest w ws fits whole is (ts, cut, same) =
     let first : what_of kind (slice_range (bytes ++ rest) 0 (length bytes)) ≡ w = (let n : length bytes - 0 ≡ length bytes = omega arith in rw (n, take_at bytes rest (length bytes) refl) is) in
-    let others : whats (bytes ++ rest) (map (token_behind (length bytes)) ts) ≡ ws = whats_behind bytes rest ts ∙ same in (
-      record { kind = kind; from = 0; to = length bytes } ∷ map (token_behind (length bytes)) ts,
+    let others : whats (bytes ++ rest) (map (token_moved (length bytes)) ts) ≡ ws = whats_moved bytes rest ts ∙ same in (
+      record { kind = kind; from = 0; to = length bytes } ∷ map (token_moved (length bytes)) ts,
       one_token kind bytes rest (Ok ts) fits whole cut,
       (λ i. first i ∷ others i),
     )
@@ -76,15 +76,15 @@ says_blanks (b ∷ gap) rest ws h says = says_blank b (gap ++ rest) ws h.0 (says
 ends_at_blank : (w : What) (b : ℕ) (rest : List ℕ) → WhatFits w → is_blank b ≡ true → IsWhole (kind_of w) (spelled w) (b ∷ rest)
 ends_at_blank w b rest fits h = goes_no_further w (b ∷ rest) fits (blank_quiet b rest h) (inr (blank_no_name b h))
 
-no_name_behind : (w : What) (rest : List ℕ) → is_mark w ≡ true → NoName (spelled w ++ rest)
-no_name_behind (Mark v) rest h = mark_no_name v rest
-no_name_behind _ rest h = absurd cc
+no_name_after : (w : What) (rest : List ℕ) → is_mark w ≡ true → NoName (spelled w ++ rest)
+no_name_after (Mark v) rest h = mark_no_name v rest
+no_name_after _ rest h = absurd cc
 
 ends_at_next : (w v : What) (gap rest : List ℕ) → WhatFits w → Blank gap → WhatFits v → Next w (record { gap = gap; what = v }) → IsWhole (kind_of w) (spelled w) (gap ++ (spelled v ++ rest))
 ends_at_next w v (b ∷ gap) rest fits blanks fit next = ends_at_blank w b (gap ++ (spelled v ++ rest)) fits blanks.0
 ends_at_next w v [] rest fits blanks fit (inl h) = absurd (omega arith)
 ends_at_next w v [] rest fits blanks fit (inr (soft, inl m)) = goes_no_further w (spelled v ++ rest) fits (soft_quiet v rest fit soft) (inl m)
-ends_at_next w v [] rest fits blanks fit (inr (soft, inr m)) = goes_no_further w (spelled v ++ rest) fits (soft_quiet v rest fit soft) (inr (no_name_behind v rest m))
+ends_at_next w v [] rest fits blanks fit (inr (soft, inr m)) = goes_no_further w (spelled v ++ rest) fits (soft_quiet v rest fit soft) (inr (no_name_after v rest m))
 
 regroup : (gap bytes more rest : List ℕ) → (gap ++ (bytes ++ more)) ++ rest ≡ gap ++ (bytes ++ (more ++ rest))
 regroup gap bytes more rest = simp append_assoc

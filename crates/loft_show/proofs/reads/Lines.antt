@@ -9,7 +9,7 @@ use Rattle.loft_tree.specs.Source.{Ident, EventName, Expression, Creation, State
 use Rattle.loft_tree.specs.Fits.{Each, IfThere, NameFits, EventNameFits, NumberFits, SignedFits, ExpressionFits, StatementFits, StatementsFit, PlaceFits, EndFits, ArgumentFits, CallFits, OrderFits, DeclarationFits}
 use Rattle.loft_show.specs.Canon.{Piece, line, space, tight, spaced, word, sign, name, ended, expression_pieces, signed_pieces, bracketed_pieces, creation_pieces, name_pieces, event_pieces, control_word, test_line, end_line, statement_lines, body_lines, else_lines, kind_word, named_pieces, place_pieces, head_line, local_lines, argument_pieces, call_pieces, order_line, order_lines, declaration_lines, source_lines}
 use Rattle.loft_show.proofs.reads.Lexes.{LineFits}
-use Rattle.loft_show.proofs.reads.Kept.{Flows, Kept, ◌then◌, loose, none, at_gap, space_blank, spaced_is, tight_is, tight_sign, expression_kept, further_kept, brackets_kept, behind_kept, arguments_kept, name_kept, word_kept, called_kept, comma_kept, for_kept, instants_kept, value_kept, line_kept, ended_kept, word_line_kept}
+use Rattle.loft_show.proofs.reads.Kept.{Flows, Kept, ◌then◌, loose, none, at_gap, space_blank, spaced_is, tight_is, tight_sign, expression_kept, further_kept, brackets_kept, led_kept, arguments_kept, name_kept, word_kept, called_kept, comma_kept, for_kept, instants_kept, value_kept, line_kept, ended_kept, word_line_kept}
 
 -- all of two lists
 both_lists : {A : Type 0} (P : A → Type 0) (xs ys : List A) → Each P xs → Each P ys → Each P (xs ++ ys)
@@ -25,7 +25,7 @@ events_kept : (xs : List EventName) → Each EventNameFits xs → Each (λ x. Ke
 events_kept [] all = tt
 events_kept (x ∷ xs) all = ((λ gap blank. at_gap gap (name x.name) blank all.0 refl), events_kept xs all.1)
 
--- " = " behind a target, and what stands behind it
+-- " = " after a target, and what stands after it
 pub assigned_kept : {b : Bool} {ps : List Piece} (target : Ident) → NameFits target → Flows false b ps → Flows true true (tight (name target) ∷ spaced (sign s.Equals) ∷ ended ps)
 assigned_kept target fits p = tight_is (name target) fits refl then loose true (spaced_is (sign s.Equals) tt) then ended_kept p
 
@@ -106,7 +106,7 @@ ending_kept begin (Some end) fits = place_kept end fits.0
 pub head_kept : (h : ModuleHead) → NameFits h.name → Each (λ v. NameFits v.name) h.parameters → PlaceFits h.begin → EndFits h.begin h.end → LineFits (head_line h)
 head_kept h called parameters begin end =
     line_kept (tight_is (word w.Module) tt refl then name_kept h.name called then loose true (brackets_kept named_pieces h.parameters (all_named_kept h.parameters parameters)) then word_kept w.In
-    then place_kept h.begin begin space space_blank then behind_kept place_pieces (spaced (word w.To) ∷ []) h.end (word_kept w.To) (ending_kept h.begin h.end end))
+    then place_kept h.begin begin space space_blank then led_kept place_pieces (spaced (word w.To) ∷ []) h.end (word_kept w.To) (ending_kept h.begin h.end end))
 
 locals_kept : (vs : List Named) → Each (λ v. NameFits v.name) vs → Each LineFits (local_lines vs)
 locals_kept [] all = tt
@@ -130,7 +130,7 @@ if_signed_kept (Some x) fits = signed_kept x fits
 pub order_kept : (x : Order) → OrderFits x → LineFits (order_line x)
 order_kept (CreateThere scheduler called arguments) fits = word_line_kept 2 w.Create (call_kept scheduler called arguments fits)
 order_kept (ControlThere control thread scheduler) fits = word_line_kept 2 (control_word control) (name_kept thread fits.0 then word_kept w.In then name_kept scheduler fits.1)
-order_kept (BroadcastThere event value) fits = word_line_kept 2 w.Broadcast (name_kept event.name fits.0 then behind_kept signed_pieces (tight (sign s.Comma) ∷ []) value (loose true (tight_sign s.Comma refl)) (if_signed_kept value fits.1))
+order_kept (BroadcastThere event value) fits = word_line_kept 2 w.Broadcast (name_kept event.name fits.0 then led_kept signed_pieces (tight (sign s.Comma) ∷ []) value (loose true (tight_sign s.Comma refl)) (if_signed_kept value fits.1))
 
 orders_kept : (xs : List Order) → Each OrderFits xs → Each LineFits (order_lines xs)
 orders_kept [] all = tt
@@ -148,7 +148,7 @@ declaration_kept (Shared x scheduler value) fits =
 declaration_kept (Module h locals ss) fits =
     (head_kept h fits.name fits.parameters fits.begin fits.end, both_lists LineFits (local_lines locals) (body_lines ss 2 ++ end_line 0 ∷ []) (locals_kept locals fits.each_local) (both_lists LineFits (body_lines ss 2) (end_line 0 ∷ []) (body_kept ss 32 2 fits.statements) (end_kept 0, tt)))
 declaration_kept (Start scheduler called arguments x) fits =
-    (word_line_kept 0 w.Start (loose true (call_kept scheduler called arguments fits.0) then behind_kept name_pieces (spaced (word w.As) ∷ []) x (word_kept w.As) (alias_kept x fits.1)), tt)
+    (word_line_kept 0 w.Start (loose true (call_kept scheduler called arguments fits.0) then led_kept name_pieces (spaced (word w.As) ∷ []) x (word_kept w.As) (alias_kept x fits.1)), tt)
 declaration_kept (Outside x orders) fits = (
   line_kept (tight_is (word w.Outside) tt refl then name_kept x fits.0 then spaced_is (sign s.OpenBrace) tt),
   both_lists LineFits (order_lines orders) (line 0 (tight (sign s.CloseBrace) ∷ []) ∷ []) (orders_kept orders fits.1) (line_kept (tight_is (sign s.CloseBrace) tt refl), tt),

@@ -140,7 +140,7 @@ module _ (lim : Limits Language) (w : Counted) (n : ℕ) {A : Type 0} (f : Form 
   abbrev pub CountsOne : A → Type 0
   CountsOne x = (gap : List ℕ) → Counting lim w n f (one x gap) (h x)
 
-  -- those behind commas, and the whole list
+  -- those after commas, and the whole list
   pub further_are : (xs : List A) → Each CountsOne xs → (c : Counts) → AtMost (lim.most w) (number w c + length xs)
       → (d : Counts) × After 0 c d × Is lim n (many (further f)) (syms (further_pieces one xs)) (paid c) (map h xs) (paid d)
   further_are [] all c few = (c, after_none c, spelling.nothing_more)

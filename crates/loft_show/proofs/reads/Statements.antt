@@ -19,8 +19,8 @@ use Rattle.loft_grammar.specs.Statements
 use Rattle.loft_grammar.specs.Symbols
 use Rattle.loft_grammar.specs.Symbols.{Form}
 use Rattle.loft_grammar.specs.Expressions.{further, whole}
-use Rattle.loft_grammar.specs.Statements.{begins_with, opens_with, creation, behind_comma, time_limit, assigned, assignment, printed, print, create, cooperate, generate, await_event, choice, choices, select, get, join, control, broadcast, link, unlink, run, halt, value_statement, event_statement, thread_statement, moving_statement, statement}
-use Rattle.loft_show.specs.Canon.{Piece, piece, space, tight, spaced, word, sign, name, expression_pieces, event_pieces, further_pieces, creation_pieces, control_word, comma_part, for_part, behind, statement_lines}
+use Rattle.loft_grammar.specs.Statements.{begins_with, opens_with, creation, after_comma, time_limit, assigned, assignment, printed, print, create, cooperate, generate, await_event, choice, choices, select, get, join, control, broadcast, link, unlink, run, halt, value_statement, event_statement, thread_statement, moving_statement, statement}
+use Rattle.loft_show.specs.Canon.{Piece, piece, space, tight, spaced, word, sign, name, expression_pieces, event_pieces, further_pieces, creation_pieces, control_word, comma_part, for_part, led_by, statement_lines}
 use Rattle.loft_show.specs.Places.{bare_name, bare_event, bare_value, bare_creation, bare_statement}
 use Rattle.loft_show.proofs.reads.Spelling as spelling
 use Rattle.loft_show.proofs.reads.Spelling.{bare, syms, line_pieces, AtMost, fewer, one_below, Loose, below_most, Is, spelled_as}
@@ -28,8 +28,8 @@ use Rattle.loft_show.proofs.reads.Parts.{After, after_then, Part, joined, ◌the
 
 -- ---- parts of statements
 
-comma_is : {lim : Limits Language} → Loose lim → {n : ℕ} (e : Option Expression) → IfThere (ExpressionFits n) e → Part lim n (maybe behind_comma) (comma_part e) (bare_value e)
-unfolding behind_comma
+comma_is : {lim : Limits Language} → Loose lim → {n : ℕ} (e : Option Expression) → IfThere (ExpressionFits n) e → Part lim n (maybe after_comma) (comma_part e) (bare_value e)
+unfolding after_comma
 comma_is loose None fits = none
 comma_is loose (Some e) fits = some (built (sign_is s.Comma then whole_is loose e space fits))
 
@@ -172,7 +172,7 @@ pub cooperate_is : {lim : Limits Language} → Loose lim → (n k at : ℕ) (e :
 unfolding statement thread_statement cooperate
 cooperate_is {lim} loose n k at e fits = on_line (second_of (second_of (first_of (first_of (making (begun loose w.Cooperate before instants_is e fits then semicolon))))))
   where
-    instants_is : (e : Option Expression) → IfThere (ExpressionFits n) e → Part lim n (maybe whole) (behind expression_pieces [] e) (bare_value e)
+    instants_is : (e : Option Expression) → IfThere (ExpressionFits n) e → Part lim n (maybe whole) (led_by expression_pieces [] e) (bare_value e)
     instants_is None fits = none
     instants_is (Some e) fits = some (whole_is loose e space fits)
 

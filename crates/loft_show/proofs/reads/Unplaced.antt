@@ -18,8 +18,8 @@ use Rattle.loft_grammar.specs.declared.counts.Counted.TheVariants as count
 use Rattle.loft_grammar.specs.Language.{Language, Kind, Rule, Meaning, Bracketed, Signed, Conditional, Looped}
 use Rattle.loft_grammar.specs.Symbols.{Form, word, sign, word_place, sign_place, opening_word, opening_sign, name, text, numeral, first_word}
 use Rattle.loft_grammar.specs.Expressions.{chain, operator, special, further, in_brackets, builtin, bracketed, atom, negated, inverted, unary, factor, term, summand, sum, equality, ordering, compared, comparison, conjunct, conjunction, disjunct, expression, whole, argument, arguments}
-use Rattle.loft_grammar.specs.Statements.{rules, event_name, creation, behind_comma, time_limit, assigned, assignment, printed, print, create, cooperate, generate, await_event, choice, choices, select, get, join, control_word, control, broadcast, link, unlink, run, halt, conditional, while_loop, repeat, value_statement, event_statement, thread_statement, moving_statement, statement, body, condition, otherwise, branches, turns}
-use Rattle.loft_grammar.specs.Items.{negative, signed, kind, parameter, parameters, local, place, ending, head, module_item, scheduler_item, event_item, shared_item, outer_argument, outer_arguments, alias, start_item, create_order, control_order, value_behind_comma, broadcast_order, order, outside_item, item, program}
+use Rattle.loft_grammar.specs.Statements.{rules, event_name, creation, after_comma, time_limit, assigned, assignment, printed, print, create, cooperate, generate, await_event, choice, choices, select, get, join, control_word, control, broadcast, link, unlink, run, halt, conditional, while_loop, repeat, value_statement, event_statement, thread_statement, moving_statement, statement, body, condition, otherwise, branches, turns}
+use Rattle.loft_grammar.specs.Items.{negative, signed, kind, parameter, parameters, local, place, ending, head, module_item, scheduler_item, event_item, shared_item, outer_argument, outer_arguments, alias, start_item, create_order, control_order, value_after_comma, broadcast_order, order, outside_item, item, program}
 use Rattle.loft_show.specs.Places.{bare_name, bare_event, bare_expression, bare_creation, bare_statement, bare_named, bare_place, bare_head, bare_argument, bare_order, bare_declaration, without_places}
 use Rattle.loft_show.proofs.reads.Bare.{bare_symbol, bare_rule, bare_operation, bare_chain, bare_comparison, bare_list, bare_body_of, bare_else_of, bare_assignment, bare_print, bare_end, option_map-id}
 use Rattle.loft_show.proofs.reads.Keeps.{Kept, Keeps, keeps_leaf, keeps_then, keeps_or, keeps_maybe, keeps_many, keeps_counted, keeps_fresh, keeps_inside, keeps_made}
@@ -160,9 +160,9 @@ module _ (lim : Limits Language) (n : ℕ) (Inner : (r : Rule) → Spelling Lang
   unfolding creation
   creation_kept = built (name_kept then sign_kept s.Dot then name_kept then arguments_kept) (λ y. refl)
 
-  behind_comma_kept : K behind_comma bare_expression
-  unfolding behind_comma
-  behind_comma_kept = further_kept whole_kept
+  after_comma_kept : K after_comma bare_expression
+  unfolding after_comma
+  after_comma_kept = further_kept whole_kept
 
   time_limit_kept : K time_limit bare_expression
   unfolding time_limit
@@ -179,7 +179,7 @@ module _ (lim : Limits Language) (n : ℕ) (Inner : (r : Rule) → Spelling Lang
   unfolding value_statement assignment assigned print printed create
   value_statement_kept =
       built (counting_it name_kept then sign_kept s.Equals then (built (word_place_kept w.Create then creation_kept) (λ y. refl) or built whole_kept (λ y. refl)) then semicolon) (λ y. bare_assignment y.0 y.1.1.0)
-      or built (begun w.Print then (built (text_kept then if_any behind_comma_kept) (λ y. refl) or built whole_kept (λ y. refl)) then semicolon) (λ y. bare_print y.0 y.1.0)
+      or built (begun w.Print then (built (text_kept then if_any after_comma_kept) (λ y. refl) or built whole_kept (λ y. refl)) then semicolon) (λ y. bare_print y.0 y.1.0)
       or built (begun w.Create then creation_kept then semicolon) (λ y. refl)
 
   event_name_kept : K event_name bare_event
@@ -196,11 +196,11 @@ module _ (lim : Limits Language) (n : ℕ) (Inner : (r : Rule) → Spelling Lang
   event_statement_kept : K event_statement bare_statement
   unfolding event_statement generate await_event select get broadcast
   event_statement_kept =
-      built (begun w.Generate then event_name_kept then if_any behind_comma_kept then semicolon) (λ y. refl)
+      built (begun w.Generate then event_name_kept then if_any after_comma_kept then semicolon) (λ y. refl)
       or built (begun w.Await then event_name_kept then if_any time_limit_kept then semicolon) (λ y. refl)
       or built (begun w.Select then afresh choices_kept then if_any time_limit_kept then semicolon) (λ y. refl)
       or built (begun w.Get then event_name_kept then word_kept w.At then whole_kept then word_kept w.Into then name_kept then semicolon) (λ y. refl)
-      or built (begun w.Broadcast then event_name_kept then if_any behind_comma_kept then semicolon) (λ y. refl)
+      or built (begun w.Broadcast then event_name_kept then if_any after_comma_kept then semicolon) (λ y. refl)
 
   control_word_kept : (what : Counted) → K (control_word what) (λ x. (0, x.1))
   control_word_kept what = built (first_word_kept what w.Stop) (λ y. refl) or built (first_word_kept what w.Suspend) (λ y. refl) or built (first_word_kept what w.Resume) (λ y. refl)
@@ -276,7 +276,7 @@ module _ (lim : Limits Language) (n : ℕ) (Inner : (r : Rule) → Spelling Lang
   outer_arguments_kept = in_brackets_kept (counting_it (built signed_kept (λ y. refl) or built name_kept (λ y. refl)))
 
   pub order_kept : K order bare_order
-  unfolding order create_order control_order broadcast_order value_behind_comma
+  unfolding order create_order control_order broadcast_order value_after_comma
   order_kept =
       built (first_word_kept count.Order w.Create then name_kept then sign_kept s.Dot then name_kept then outer_arguments_kept then semicolon) (λ y. refl)
       or built (control_word_kept count.Order then name_kept then word_kept w.In then name_kept then semicolon) (λ y. refl)

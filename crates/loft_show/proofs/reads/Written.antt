@@ -104,7 +104,7 @@ read_back Unreadable fits = absurd fits
 
 -- ---- what may follow
 
--- a byte that makes no longer sign behind any sign
+-- a byte that makes no longer sign after any sign
 longer_not : (v : Sign) (b : ℕ) → (61 == b) ≡ false → (b == 47) ≡ false → lengthens (signs.spelling v) b ≡ false
 unfolding signs.sign_of
 longer_not s.Semicolon b e f = refl

@@ -2,7 +2,6 @@
 
 use loft_base::{Failed, MemSink, NoMemory, Sink, WriteError, write_lines, write_piece};
 use std::alloc::Global;
-use std::test::Fail;
 
 /// A sink that keeps each piece apart, with a `|` after it, and fails at the piece `fails_at`,
 /// counted from 1.
@@ -54,33 +53,48 @@ impl Sink for Pieces {
     }
 }
 
+/// Whether the writing of a text ends so, and these pieces go out.
+fn is_written(
+    alloc: Global,
+    text: &str,
+    fails_at: u64,
+    want: Result<(), WriteError>,
+    pieces: &str,
+) -> bool {
+    let mut sink = Pieces::new(alloc, fails_at);
+    let ended = write_lines(text.as_bytes(), &mut sink);
+    sink.marked.as_slice() == pieces.as_bytes() && ended == want
+}
+
+/// Each line is a piece, and nothing is written after a failure.
 #[test]
-fn each_line_is_a_piece(rt: HostRuntime) -> Result<(), Fail> {
-    let rows = [
-        ("", ""),
-        ("one\n", "one\n|"),
-        ("one\ntwo", "one\n|two|"),
-        ("\n\nlast line\n", "\n|\n|last line\n|"),
+fn each_line_is_a_piece(rt: HostRuntime) {
+    let alloc = rt.alloc();
+    let written = [
+        is_written(alloc, "", 0, Ok(()), ""),
+        is_written(alloc, "one\n", 0, Ok(()), "one\n|"),
+        is_written(alloc, "one\ntwo", 0, Ok(()), "one\n|two|"),
+        is_written(alloc, "\n\nlast line\n", 0, Ok(()), "\n|\n|last line\n|"),
+        is_written(
+            alloc,
+            "one\ntwo\nthree\n",
+            2,
+            Err(WriteError::Sink),
+            "one\n|",
+        ),
     ];
-    for (text, want) in rows {
-        let mut sink = Pieces::new(rt.alloc(), 0);
-        assert_eq!(rt; write_lines(text.as_bytes(), &mut sink), Ok(()), "{text:?}");
-        assert_eq!(rt; sink.marked.as_slice(), want.as_bytes(), "{text:?}");
-    }
-    Ok(())
+    assert_eq!(rt; written, [true; 5]);
+}
+
+/// How two pieces of 2 bytes end that are written to a sink of 3, and the error of being out of memory.
+fn write_two(alloc: Global) -> Result<[Result<(), WriteError>; 3], NoMemory> {
+    let mut sink = MemSink::new(alloc, 3)?;
+    let (first, second) = (write_piece(b"ab", &mut sink), write_piece(b"cd", &mut sink));
+    Ok([first, second, Err(WriteError::from(NoMemory))])
 }
 
 #[test]
-fn nothing_is_written_after_a_failure(rt: HostRuntime) -> Result<(), Fail> {
-    let mut sink = Pieces::new(rt.alloc(), 2);
-    assert_eq!(rt;
-        write_lines(b"one\ntwo\nthree\n", &mut sink),
-        Err(WriteError::Sink)
-    );
-    assert_eq!(rt; sink.marked.as_slice(), b"one\n|".as_slice());
-    let mut full = MemSink::new(rt.alloc(), 3)?;
-    assert_eq!(rt; write_piece(b"ab", &mut full), Ok(()));
-    assert_eq!(rt; write_piece(b"cd", &mut full), Err(WriteError::Sink));
-    assert_eq!(rt; WriteError::from(NoMemory), WriteError::NoMemory);
-    Ok(())
+fn a_piece_that_does_not_fit_is_a_fault(rt: HostRuntime) {
+    let want = [Ok(()), Err(WriteError::Sink), Err(WriteError::NoMemory)];
+    assert_eq!(rt; write_two(rt.alloc()), Ok(want));
 }

@@ -15,4 +15,4 @@ pub returns-in_err-put-clause-does : goal.returns-in_err-put-clause-does
 returns-in_err-put-clause-does g c = λ file.
     let p = err_from_is_err_and c.from_residual-in_err-put.result c.from_residual-in_err-put.ensures.1 in
     let is : c.from_residual-in_err-put.result ≡ Err stopped.SinkFault = p.1 ∙ ap (λ (e : Stopped). Err e) p.2 in
-    failed_does (inl is) (begun (IsAnswerFor (Check file) (ASource (source_of c.args.program))) (codes "ok" ++ 10 ∷ []) c.in_err-put.ensures.failed (c.in_ok-placed.ensures.well, refl))
+    failed_does (inl is) (begun (IsAnswerFor (Check file) (ASource (source_of c.args.program))) (codes "ok" ++ 10 ∷ []) c.in_err-put.ensures.failed (c.in_ok-place_program.ensures.well, refl))

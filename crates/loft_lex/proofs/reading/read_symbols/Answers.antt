@@ -33,7 +33,7 @@ pub returns-in-Fault-clause-fault : goal.returns-in-Fault-clause-fault
 returns-in-Fault-clause-fault c =
     let ts = c.loop-at.invariant.1.0 in
     let found = at_fault ts c.args.text.now c.loop-at.at _ c.loop-at-test.true c.loop-at.invariant.1.1 c.in-Fault.error (c.in-Fault.ensures.front ∙ ap front_of c.split_at.ensures.back) in
-    rw c.behind.ensures (first_fault c.args.text.now _ found)
+    rw c.moved_by.ensures (first_fault c.args.text.now _ found)
 
 pub returns-clause-found : goal.returns-clause-found
 returns-clause-found c =

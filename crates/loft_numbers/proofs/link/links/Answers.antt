@@ -1,7 +1,7 @@
 use Rattle.std.proofs.Common.{◌≡◌, ◌+◌, ◌++◌, ◌-◌, sym, subst, drop, length}
 use Rattle.loft_tree.specs.View.{declaration_of, source_of}
-use Rattle.loft_scopes.specs.Rooms.{HasRoom}
-use Rattle.loft_scopes.specs.declared.sofar.Sofar.{Sofar}
+use Rattle.loft_scopes.specs.Counts.{HasRoom}
+use Rattle.loft_scopes.specs.declared.counts.DeclarationCounts.{DeclarationCounts}
 use Rattle.loft_scopes.specs.Scopes.{none_yet}
 use Rattle.loft_numbers.specs.Numbers.{links_in}
 use Rattle.loft_scopes.proofs.Numbered.{item_fits, room_left}
@@ -13,7 +13,7 @@ put_links-requires c = item_fits c.args.items.now c.loop-item.item-index c.item-
 
 pub loop-item-preserved : goal.loop-item-preserved
 loop-item-preserved c =
-    subst (λ (n : Sofar). record {
+    subst (λ (n : DeclarationCounts). record {
       room : HasRoom n (length c.args.items.now - (c.loop-item.item-index + 1));
       rest : c.put_links.new.all.items ++ links_in n (source_of (drop (c.loop-item.item-index + 1) c.args.items.now)) ≡ links_in none_yet (source_of c.args.items.now);
     }) (sym c.after-sofar.ensures)

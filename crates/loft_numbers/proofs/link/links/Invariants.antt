@@ -1,7 +1,7 @@
 use Rattle.std.proofs.Common.{◌≡◌, ◌++◌, ◌-◌, drop, length}
 use Rattle.loft_tree.specs.View.{source_of}
 use Rattle.loft_numbers.specs.Numbers.{links_in}
-use Rattle.loft_scopes.specs.Rooms.{HasRoom}
+use Rattle.loft_scopes.specs.Counts.{HasRoom}
 use Rattle.loft_scopes.specs.Scopes.{none_yet}
 use Rattle.loft_numbers.proofs.link.links.Given as goal
 

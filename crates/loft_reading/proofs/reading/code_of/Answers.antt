@@ -96,5 +96,5 @@ returns c d fits memory =
     let least : IsLeastOf c.earlier-wrong.result (stop_lines stop ++ outer_wrong c.in_ok-table.table p) =
     c.earlier-wrong.ensures (stop_lines stop) (outer_wrong c.in_ok-table.table p) (stop_least stop) (c.earlier.ensures _ _ c.in_ok-table.ensures.line c.in_ok-misplaced.ensures) in
     let known : IsLeastOf c.earlier-wrong.result (known_wrong stop d) = known_least c.in_ok-table.table p d c.in_ok-table.ensures.table items stop c.earlier-wrong.result least in
-    let blames : Blames (known_wrong stop d ++ modules_wrong c.in_ok-table.table 0 d) c.blamed.result = c.blamed.ensures _ _ known (c.in-Err.ensures d items texts fits) in
-    subst (λ ns. Blames ns c.blamed.result) (blame_known c.in_ok-table.table p d c.in_ok-table.ensures.table items stop _ refl) blames
+    let blames : Blames (known_wrong stop d ++ modules_wrong c.in_ok-table.table 0 d) c.blame.result = c.blame.ensures _ _ known (c.in-Err.ensures d items texts fits) in
+    subst (λ ns. Blames ns c.blame.result) (blame_known c.in_ok-table.table p d c.in_ok-table.ensures.table items stop _ refl) blames

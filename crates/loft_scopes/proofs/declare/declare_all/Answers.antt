@@ -1,7 +1,7 @@
 use Rattle.std.proofs.Common.{◌+◌, ◌-◌, ap, sym, subst, List, drop, length}
 use Rattle.loft_tree.specs.View.{declaration_of, source_of}
-use Rattle.loft_scopes.specs.Rooms.{HasRoom}
-use Rattle.loft_scopes.specs.Scopes.{Declared, Sofar, after, declared, declared_by, declared_from}
+use Rattle.loft_scopes.specs.Counts.{HasRoom}
+use Rattle.loft_scopes.specs.Scopes.{Declared, DeclarationCounts, after, declared, declared_by, declared_from}
 use Rattle.loft_scopes.proofs.Declaring.{Remains, begins, goes_on, next_item}
 use Rattle.loft_scopes.proofs.Numbered.{item_fits, first_room, room_left}
 use Rattle.loft_scopes.proofs.declare.declare_all.Goals as goal
@@ -18,7 +18,7 @@ declare_item-requires c = item_fits c.args.items.now c.loop-item.item-index c.it
 
 pub loop-item-preserved : goal.loop-item-preserved
 loop-item-preserved c =
-    subst (λ (n : Sofar). record {
+    subst (λ (n : DeclarationCounts). record {
       room : HasRoom n (length c.args.items.now - (c.loop-item.item-index + 1));
       rest : Remains c.new-table.result c.in_ok-table.table c.args.least.now c.declare_item.new.least (declared (source_of c.args.items.now)) (declared_from n (source_of (drop (c.loop-item.item-index + 1) c.args.items.now)));
     }) (sym c.after-sofar.ensures)

@@ -1,6 +1,6 @@
 use Rattle.std.proofs.Common.{drop, length, ◌-◌}
 use Rattle.loft_tree.specs.View.{source_of}
-use Rattle.loft_scopes.specs.Rooms.{HasRoom}
+use Rattle.loft_scopes.specs.Counts.{HasRoom}
 use Rattle.loft_scopes.specs.Scopes.{declared, declared_from}
 use Rattle.loft_scopes.proofs.Declaring.{Remains}
 use Rattle.loft_scopes.proofs.declare.declare_all.Given as goal

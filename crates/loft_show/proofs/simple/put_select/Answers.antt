@@ -11,7 +11,7 @@ use Rattle.loft_show.proofs.Texts.{further_pieces-map, pieces_text-append}
 use Rattle.loft_show.proofs.simple.put_select.Goals as goal
 use Rattle.loft_show.proofs.simple.put_select.Goals.{in_default, in-len1-up+in_ok-put_name+in_ok-put_further}
 
--- the events, as they stand behind the word
+-- the events, as they stand after the word
 choice_pieces : List EventName → List Piece
 choice_pieces [] = []
 choice_pieces (event ∷ events) = spaced (name event.name) ∷ further_pieces event_pieces events
@@ -49,10 +49,10 @@ some_chosen : (out : List ℕ) (events : List EventNameInMemory) (first : EventN
     → (out ++ (32 ∷ first.name.text)) ++ pieces_text (further_pieces (λ e. event_pieces (event_name_of e)) (take (length events - 1) (drop 1 events))) ≡ out ++ pieces_text (choice_pieces (map event_name_of events))
 unfolding choice_pieces
 some_chosen out events first some is =
-    let behind : take (length events - 1) (drop 1 events) ≡ drop 1 events = grind (arith, common_steps) in
+    let rest_is : take (length events - 1) (drop 1 events) ≡ drop 1 events = grind (arith, common_steps) in
     let split : events ≡ first ∷ drop 1 events = drop-cons events 0 first some ∙ rw (← is) refl in
     append_assoc out _ _
-    ∙ ap (λ es. out ++ (32 ∷ (first.name.text ++ pieces_text (further_pieces (λ e. event_pieces (event_name_of e)) es)))) behind
+    ∙ ap (λ es. out ++ (32 ∷ (first.name.text ++ pieces_text (further_pieces (λ e. event_pieces (event_name_of e)) es)))) rest_is
     ∙ ap (λ ps. out ++ (32 ∷ (first.name.text ++ pieces_text ps))) (sym (further_pieces-map event_pieces event_name_of (drop 1 events)))
     ∙ ap (λ es. out ++ pieces_text (choice_pieces (map event_name_of es))) (sym split)
 

@@ -1,6 +1,6 @@
 //! Files that all hold the same bytes, and may fail while they are read.
 
-use std::alloc::{Allocator, Global};
+use std::alloc::{AllocError, Allocator, Global};
 use std::cell::RefCell;
 use std::fs::{Metadata, OpenFile, OpenOptions};
 use std::io::{Error, ErrorKind, Read, Seek, SeekFrom, Write};
@@ -36,10 +36,17 @@ impl FakeFiles {
         }
     }
 
-    /// The names of the files that were opened, in order, with a `|` after each.
-    pub fn opened(self) -> Vec<u8> {
-        self.opened.into_inner()
+    /// Whether these are the names of the files that were opened, in order, with a `|` after each.
+    pub fn has_opened(self, names: &[u8]) -> bool {
+        self.opened.into_inner().as_slice() == names
     }
+}
+
+/// Appends a name with a `|` after it.
+fn append(names: &mut Vec<u8>, name: &str) -> Result<(), AllocError> {
+    names.extend_from_slice(name.as_bytes())?;
+    names.push(b'|')?;
+    Ok(())
 }
 
 fn unsupported<T>() -> io::Result<T> {
@@ -53,8 +60,7 @@ impl rt::Files for FakeFiles {
 
     fn open_file(&self, _how: &OpenOptions, path: &str) -> io::Result<FakeFile> {
         let mut opened = self.opened.try_borrow_mut().map_err(|_| ErrorKind::Other)?;
-        opened.extend_from_slice(path.as_bytes())?;
-        opened.push(b'|')?;
+        append(&mut opened, path)?;
         Ok(FakeFile {
             offset: 0,
             at_once: self.at_once,

@@ -26,9 +26,14 @@ impl FakeOutput {
         }
     }
 
-    /// All bytes taken.
-    pub fn into_bytes(self) -> Vec<u8> {
-        self.bytes.into_inner()
+    /// Whether these are all bytes taken.
+    pub fn has_taken(self, bytes: &[u8]) -> bool {
+        self.bytes.into_inner().as_slice() == bytes
+    }
+
+    /// How many bytes it has taken.
+    pub fn into_len(self) -> usize {
+        self.bytes.into_inner().len()
     }
 }
 

@@ -5,7 +5,7 @@ use Rattle.loft_tree.specs.View.{expression_of, named_of}
 use Rattle.loft_scopes.specs.declared.error.NameError.{NameError}
 use Rattle.loft_scopes.specs.Scopes.{kinds_of}
 use Rattle.loft_scopes.specs.Faults.{arguments_faults, begin_of, expression_faults, kind_of, unlike}
-use Rattle.loft_scopes.specs.Least.{least_of}
+use Rattle.loft_scopes.specs.FirstFault.{least_of}
 use Rattle.loft_uses.proofs.Uses.{next_argument, step}
 use Rattle.loft_uses.proofs.call.arguments.Goals as goal
 

@@ -2,7 +2,7 @@ use Rattle.std.proofs.Common.{◌≡◌, drop, map}
 use Rattle.loft_tree.specs.View.{expression_of, named_of}
 use Rattle.loft_scopes.specs.Scopes.{kinds_of}
 use Rattle.loft_scopes.specs.Faults.{arguments_faults}
-use Rattle.loft_scopes.specs.Least.{least_of}
+use Rattle.loft_scopes.specs.FirstFault.{least_of}
 use Rattle.loft_uses.proofs.call.arguments.Given as goal
 
 -- the faults of those that are left come after

@@ -3,7 +3,7 @@ use Rattle.std.specs.Option.{option_map}
 use Rattle.loft_tree.specs.View.{named_of}
 use Rattle.loft_scopes.specs.Scopes.{kinds_of}
 use Rattle.loft_scopes.specs.Faults.{arity_faults}
-use Rattle.loft_scopes.specs.Least.{least_of}
+use Rattle.loft_scopes.specs.FirstFault.{least_of}
 use Rattle.loft_uses.proofs.Uses.{arity_right, arity_wrong}
 use Rattle.loft_uses.proofs.call.arity.Goals as goal
 

@@ -1,7 +1,7 @@
 use Rattle.std.proofs.Common.{◌≡◌, drop, map}
 use Rattle.loft_tree.specs.View.{event_name_of}
 use Rattle.loft_scopes.specs.Faults.{events_faults}
-use Rattle.loft_scopes.specs.Least.{least_of}
+use Rattle.loft_scopes.specs.FirstFault.{least_of}
 use Rattle.loft_uses.proofs.name.events.Given as goal
 
 -- the faults of those that are left come after

@@ -5,7 +5,7 @@ use Rattle.loft_tree.specs.View.{argument_of, named_of}
 use Rattle.loft_scopes.specs.declared.error.NameError.{NameError}
 use Rattle.loft_scopes.specs.Scopes.{kinds_of}
 use Rattle.loft_scopes.specs.Faults.{outer_faults, argument_at, argument_faults, argument_kind, unlike}
-use Rattle.loft_scopes.specs.Least.{least_of}
+use Rattle.loft_scopes.specs.FirstFault.{least_of}
 use Rattle.loft_uses.proofs.Uses.{next_outer, step}
 use Rattle.loft_uses.proofs.order.arguments.Goals as goal
 

@@ -2,7 +2,7 @@ use Rattle.std.proofs.Common.{◌≡◌, drop, map}
 use Rattle.loft_tree.specs.View.{argument_of, named_of}
 use Rattle.loft_scopes.specs.Scopes.{kinds_of}
 use Rattle.loft_scopes.specs.Faults.{outer_faults}
-use Rattle.loft_scopes.specs.Least.{least_of}
+use Rattle.loft_scopes.specs.FirstFault.{least_of}
 use Rattle.loft_uses.proofs.order.arguments.Given as goal
 
 -- the faults of those that are left come after

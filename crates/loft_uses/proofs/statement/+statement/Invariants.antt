@@ -1,7 +1,7 @@
 use Rattle.std.proofs.Common.{◌≡◌, drop}
 use Rattle.loft_tree.specs.View.{statements_of}
 use Rattle.loft_scopes.specs.Faults.{body_faults}
-use Rattle.loft_scopes.specs.Least.{least_of}
+use Rattle.loft_scopes.specs.FirstFault.{least_of}
 use Rattle.loft_uses.proofs.statement.+statement.Given as goal
 
 -- the faults of those that are left come after

@@ -13,10 +13,10 @@ returns-in-empty-clause-value c = search (rules, nil_from_length c.args.bytes.no
 pub returns-in-len1-up-clause-value : goal.returns-in-len1-up-clause-value
 unfolding sign_of
 returns-in-len1-up-clause-value c =
-    c.spelled.ensures
+    c.find_spelled.ensures
     ∙ ap (find (λ one. bytes_eq (spelling one) c.args.bytes.now)) c.beginning_with.ensures
     ∙ find_among spelling signs c.args.bytes.now c.in-len1-up.len_at_least
 
 pub returns-in-len1-up-clause-spelled : goal.returns-in-len1-up-clause-spelled
 unfolding sign_of
-returns-in-len1-up-clause-spelled c = some_spelled spelling signs c.args.bytes.now c.spelled.result (returns-in-len1-up-clause-value c)
+returns-in-len1-up-clause-spelled c = some_spelled spelling signs c.args.bytes.now c.find_spelled.result (returns-in-len1-up-clause-value c)

@@ -2,7 +2,7 @@ use Rattle.std.proofs.Common.{subst}
 use Rattle.loft_lex.specs.TextSymbols.{symbols_seen, SymbolsOf}
 use Rattle.loft_parse.specs.Parsing.{Answers}
 use Rattle.loft_parse.proofs.Located.{spelled_is}
-use Rattle.loft_parse.proofs.source.parsed.Goals as goal
+use Rattle.loft_parse.proofs.source.parse_short.Goals as goal
 
 pub returns-in-Ok : goal.returns-in-Ok
 returns-in-Ok c =

@@ -2,7 +2,7 @@
 
 ghost use Rattle.std.specs.Prelude.{◌≡◌, [], ◌∷◌};
 ghost use Rattle.loft_scopes.specs.Faults.{rank_of, first_of};
-ghost use Rattle.loft_scopes.specs.Least.{precedes, least_of};
+ghost use Rattle.loft_scopes.specs.FirstFault.{precedes, least_of};
 
 use crate::error::NameError;
 

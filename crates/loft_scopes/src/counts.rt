@@ -8,7 +8,7 @@ use loft_tree::Item;
 
 /// How many declarations there were of each sort.
 #[derive(Clone, Copy)]
-pub struct Sofar {
+pub struct DeclarationCounts {
     pub schedulers: u32,
     pub events: u32,
     pub shared: u32,
@@ -17,15 +17,15 @@ pub struct Sofar {
     pub clients: u32,
 }
 
-impl Sofar {
+impl DeclarationCounts {
     ghost use Rattle.loft_scopes.specs.Scopes.{after, none_yet};
-    ghost use Rattle.loft_scopes.specs.Rooms.{HasRoom};
+    ghost use Rattle.loft_scopes.specs.Counts.{HasRoom};
 
     /// None.
-    pub fn none() -> Sofar
+    pub fn none() -> DeclarationCounts
         ensures { result ≡ none_yet }
     {
-        Sofar {
+        DeclarationCounts {
             schedulers: 0,
             events: 0,
             shared: 0,
@@ -36,7 +36,7 @@ impl Sofar {
     }
 
     /// One declaration more.
-    pub fn after(self, item: &Item) -> Sofar
+    pub fn after(self, item: &Item) -> DeclarationCounts
         requires { HasRoom self 1 }
         ensures { result ≡ after self (declaration_of item.now) }
     {

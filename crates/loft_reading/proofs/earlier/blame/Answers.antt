@@ -2,7 +2,7 @@ use Rattle.std.proofs.Common.{subst}
 use Rattle.loft_reading.specs.Comes.{Blames, IsLeastOf}
 use Rattle.loft_reading.proofs.Leasts.{least_both}
 use Rattle.loft_reading.specs.declared.error.ListError.{ListError}
-use Rattle.loft_reading.proofs.earlier.blamed.Goals as goal
+use Rattle.loft_reading.proofs.earlier.blame.Goals as goal
 
 pub returns-in-Some : goal.returns-in-Some
 returns-in-Some c ms ns one other =

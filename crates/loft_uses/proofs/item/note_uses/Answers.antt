@@ -2,9 +2,9 @@ use Rattle.std.proofs.Common.{◌∙◌, ◌+◌, ap, drop, arith}
 use Rattle.loft_tree.specs.View.{declaration_of, source_of}
 use Rattle.loft_scopes.specs.Modules.{next_module}
 use Rattle.loft_scopes.specs.Faults.{declaration_uses, uses_from}
-use Rattle.loft_scopes.specs.Least.{least_of}
+use Rattle.loft_scopes.specs.FirstFault.{least_of}
 use Rattle.loft_uses.proofs.Uses.{next_item, next_module-le, step}
-use Rattle.loft_uses.proofs.item.items.Goals as goal
+use Rattle.loft_uses.proofs.item.note_uses.Goals as goal
 
 pub loop-one-preserved : goal.loop-one-preserved
 loop-one-preserved c = record {

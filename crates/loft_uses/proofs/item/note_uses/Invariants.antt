@@ -1,8 +1,8 @@
 use Rattle.std.proofs.Common.{◌≡◌, ◌≤◌, drop}
 use Rattle.loft_tree.specs.View.{source_of}
 use Rattle.loft_scopes.specs.Faults.{uses_from}
-use Rattle.loft_scopes.specs.Least.{least_of}
-use Rattle.loft_uses.proofs.item.items.Given as goal
+use Rattle.loft_scopes.specs.FirstFault.{least_of}
+use Rattle.loft_uses.proofs.item.note_uses.Given as goal
 
 -- the faults of those that are left come after
 abbrev pub invariant-loop-one : goal.invariant-loop-one

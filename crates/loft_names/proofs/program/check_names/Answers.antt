@@ -4,7 +4,7 @@ use Rattle.std.specs.List.{list_any}
 use Rattle.loft_tree.specs.View.{source_of}
 use Rattle.loft_scopes.specs.declared.error.NameError.{NameError}
 use Rattle.loft_scopes.specs.Faults.{declares_scheduler, faults, has_scheduler, IsFirst}
-use Rattle.loft_names.proofs.program.checked.Goals as goal
+use Rattle.loft_names.proofs.program.check_names.Goals as goal
 
 pub returns-in-Some-clause-fault : goal.returns-in-Some-clause-fault
 returns-in-Some-clause-fault c =
