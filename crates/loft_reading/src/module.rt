@@ -26,7 +26,10 @@ fn if_operation(row: Row) -> Option<OperationRow>
 {
     match row {
         Row::Operation(operation) => Some(operation),
-        _other => None,
+        other => {
+            drop(other);
+            None
+        }
     }
 }
 

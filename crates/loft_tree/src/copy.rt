@@ -1,7 +1,7 @@
 //! Copies of what a program declares.
 
 use crate::heads::{Client, ClientOrder, EventHead, Heads, SharedHead, Signature, SlotHead, Start};
-use loft_base::{NoMemory, Sequence, TryClone, try_clone_all};
+use loft_base::{NoMemory, Room, Sequence, TryClone};
 use std::alloc::Global;
 
 impl TryClone for EventHead {
@@ -34,27 +34,31 @@ impl TryClone for SlotHead {
 
 impl TryClone for Signature {
     fn try_clone(&self, alloc: Global) -> Result<Signature, NoMemory> {
-        Ok(Signature {
-            name: self.name.try_clone(alloc)?,
-            parameters: try_clone_all(alloc, self.parameters.as_slice())?,
-            locals: try_clone_all(alloc, self.locals.as_slice())?,
+        let mut room = Room::new(alloc);
+        let copy = Signature {
+            name: room.slice(self.name.as_slice()),
+            parameters: room.all(self.parameters.as_slice()),
+            locals: room.all(self.locals.as_slice()),
             begin: self.begin,
             end: self.end,
-        })
+        };
+        room.done(copy)
     }
 }
 
 impl TryClone for Start {
     fn try_clone(&self, alloc: Global) -> Result<Start, NoMemory> {
-        Ok(Start {
+        let mut room = Room::new(alloc);
+        let copy = Start {
             scheduler: self.scheduler,
             module: self.module,
-            arguments: Sequence::from_slice(alloc, self.arguments.as_slice())?,
+            arguments: room.slice(self.arguments.as_slice()),
             name: match &self.name {
-                Some(name) => Some(name.try_clone(alloc)?),
+                Some(name) => Some(room.slice(name.as_slice())),
                 None => None,
             },
-        })
+        };
+        room.done(copy)
     }
 }
 
@@ -89,23 +93,27 @@ impl TryClone for ClientOrder {
 
 impl TryClone for Client {
     fn try_clone(&self, alloc: Global) -> Result<Client, NoMemory> {
-        Ok(Client {
-            name: self.name.try_clone(alloc)?,
-            orders: try_clone_all(alloc, self.orders.as_slice())?,
-        })
+        let mut room = Room::new(alloc);
+        let copy = Client {
+            name: room.slice(self.name.as_slice()),
+            orders: room.all(self.orders.as_slice()),
+        };
+        room.done(copy)
     }
 }
 
 impl TryClone for Heads {
     fn try_clone(&self, alloc: Global) -> Result<Heads, NoMemory> {
-        Ok(Heads {
-            schedulers: try_clone_all(alloc, self.schedulers.as_slice())?,
-            events: try_clone_all(alloc, self.events.as_slice())?,
-            shared: try_clone_all(alloc, self.shared.as_slice())?,
-            modules: try_clone_all(alloc, self.modules.as_slice())?,
-            starts: try_clone_all(alloc, self.starts.as_slice())?,
-            clients: try_clone_all(alloc, self.clients.as_slice())?,
-            items: Sequence::from_slice(alloc, self.items.as_slice())?,
-        })
+        let mut room = Room::new(alloc);
+        let copy = Heads {
+            schedulers: room.all(self.schedulers.as_slice()),
+            events: room.all(self.events.as_slice()),
+            shared: room.all(self.shared.as_slice()),
+            modules: room.all(self.modules.as_slice()),
+            starts: room.all(self.starts.as_slice()),
+            clients: room.all(self.clients.as_slice()),
+            items: room.slice(self.items.as_slice()),
+        };
+        room.done(copy)
     }
 }
