@@ -14,7 +14,7 @@ ghost use Rattle.loft_words.specs.Ranges.{AreInRange};
 ghost use Rattle.loft_commands.specs.Written.{Appends, IsPrefix};
 ghost use Rattle.loft_refusal.specs.Input.{ASource, AListing};
 ghost use Rattle.loft_commands.specs.Promise.{IsReport};
-ghost use Rattle.loft_commands.specs.Answer.{Does};
+ghost use Rattle.loft_commands.specs.Doing.{Does};
 
 use crate::code_run::{RunError, run_code};
 use loft_base::{Gate, NoMemory, Sink, write_lines};

@@ -4,11 +4,11 @@ use Rattle.loft_words.specs.Command.{file_of}
 use Rattle.loft_words.specs.CommandView.{command_of}
 use Rattle.loft_commands.specs.Written.{Appends, IsLine, IsPrefix}
 use Rattle.loft_commands.specs.Asks.{Refuses, IsRefusal}
-use Rattle.loft_commands.specs.Status.{IsRefused}
+use Rattle.loft_top.specs.Status.{IsRefused}
 use Rattle.loft_commands.specs.Promise.{IsAnswer}
-use Rattle.loft_commands.specs.Answer.{IsText}
+use Rattle.loft_top.specs.Answer.{IsText}
 use Rattle.loft_commands.proofs.Written.{appends, begun, of_command}
-use Rattle.loft_commands.proofs.top_call.loft_main.Goals as goal
+use Rattle.loft_top.proofs.top_call.loft_main.Goals as goal
 
 pub answer-requires-clause-ranges : goal.answer-requires-clause-ranges
 answer-requires-clause-ranges g c κs within = c.in-Some.ensures.in_range (command_of c.in-Some.command) (sym c.in-Some.ensures.meant)

@@ -1,12 +1,12 @@
 use Rattle.std.proofs.Common.{◌≡◌, ◌∙◌, ap, subst, Err, Result, inl, inr, refl}
 use Rattle.loft_refusal.specs.declared.refusal.Stopped.{Stopped}
 use Rattle.loft_refusal.specs.declared.refusal.Stopped.TheVariants as stopped
-use Rattle.loft_commands.specs.declared.status.Status.TheVariants as status
+use Rattle.loft_top.specs.declared.status.Status.TheVariants as status
 use Rattle.loft_words.specs.Command.{file_of}
 use Rattle.loft_words.specs.CommandView.{command_of}
-use Rattle.loft_commands.specs.Answer.{Attempts}
-use Rattle.loft_commands.proofs.AnswerLemmas.{done_answers, broken_answers, file_answers, refused_answers}
-use Rattle.loft_commands.proofs.top_call.answer.Goals as goal
+use Rattle.loft_commands.specs.Doing.{Attempts}
+use Rattle.loft_top.proofs.AnswerLemmas.{done_answers, broken_answers, file_answers, refused_answers}
+use Rattle.loft_top.proofs.top_call.answer.Goals as goal
 
 pub returns-in-Ok-clause-answers : goal.returns-in-Ok-clause-answers
 returns-in-Ok-clause-answers g c =

@@ -1,6 +1,6 @@
 //! The call that the program makes.
 
-ghost use Rattle.std.specs.Prelude.{◌≡◌, ◌≢◌, ◌<◌, ◌≤◌, ◌⊎◌, ◌++◌, ◌∷◌, [], ℕ, List, length, IsTrue, IsSome, Some, None, codes, IsErrOf, Err};
+ghost use Rattle.std.specs.Prelude.{◌≡◌, ◌≢◌, ◌<◌, ◌⊎◌, ◌++◌, ◌∷◌, [], ℕ, List, length, IsTrue, IsSome, Some, None, codes};
 ghost use Rattle.loft_base.specs.Outside.{Rose, appended, GrowsByPrefix};
 ghost use Rattle.loft_refusal.specs.Input.{Input};
 ghost use Rattle.loft_words.specs.Command.{Command as PlainCommand, command, file_of};
@@ -11,17 +11,17 @@ ghost use Rattle.loft_commands.specs.Written.{Appends, IsLine, IsPrefix};
 ghost use Rattle.loft_refusal.specs.Refusals.{IsTextOf, line_of};
 ghost use Rattle.loft_commands.specs.Asks.{Refuses, IsRefusal, Takes};
 ghost use Rattle.loft_commands.specs.Promise.{IsAnswer};
-ghost use Rattle.loft_commands.specs.Status.{IsRefused, IsAccepted};
-ghost use Rattle.loft_commands.specs.Answer.{IsText, Attempts, Answers};
+ghost use Rattle.loft_top.specs.Status.{IsRefused, IsAccepted};
+ghost use Rattle.loft_top.specs.Answer.{IsText, Answers};
 
-use crate::command::{check, exec, list_code, run, show_text};
 use crate::status::Status;
 use loft_base::{Files, Gate, Sink};
 use loft_code::code_is_decided;
+use loft_commands::attempt;
 use loft_names::names_are_decided;
 use loft_parse::texts_are_decided;
 use loft_place::links_are_decided;
-use loft_refusal::{Refusal, Stopped, read_code, read_program};
+use loft_refusal::{Refusal, Stopped};
 use loft_roundtrip::texts_have_one_answer;
 use loft_words::{Command, read_words};
 use std::alloc::Global;
@@ -58,48 +58,6 @@ fn refuse<S: Sink>(alloc: Global, sink: &mut S, refusal: &Refusal) -> Status
     match refusal.line(alloc) {
         Ok(line) => tell(sink, line.as_slice(), Status::Source),
         Err(_) => Status::NoMemory,
-    }
-}
-
-/// Does what a command says with the source or the listing in its file.
-fn attempt<R: Threads + Wait + Sync, F: Files, S: Sink, G: Gate>(
-    rt: &R,
-    alloc: Global,
-    command: Command,
-    files: &mut F,
-    sink: &mut S,
-    gate: &G,
-) -> Result<(), Stopped>
-    requires file { IsTrue (F.may_ask files.old (file_of (command_of command))) }
-    requires ranges { KeepsRanges (command_of command) }
-    ensures attempts { Attempts (command_of command.entry)
-        (F.contents files.old (file_of (command_of command.entry))) result
-        (S.written sink.old) (S.written sink.new) }
-    ensures file_fault { IsErrOf result Stopped.FileFault → Rose (F.faults files.old) (F.faults files.new) }
-    ensures sink_fault { IsErrOf result Stopped.SinkFault → Rose (S.faults sink.old) (S.faults sink.new) }
-    ensures never_falls { S.faults sink.old ≤ S.faults sink.new }
-{
-    match command {
-        Command::Run { file, options } => {
-            let program = read_program(alloc, files, file)?;
-            run(rt, alloc, program, &options, sink, gate)
-        }
-        Command::Exec { file, options } => {
-            let code = read_code(alloc, files, file)?;
-            exec(rt, alloc, &code, &options, sink, gate)
-        }
-        Command::Show(file) => {
-            let program = read_program(alloc, files, file)?;
-            show_text(alloc, &program, sink)
-        }
-        Command::Check(file) => {
-            let program = read_program(alloc, files, file)?;
-            check(alloc, program, sink)
-        }
-        Command::Compile(file) => {
-            let program = read_program(alloc, files, file)?;
-            list_code(alloc, program, sink)
-        }
     }
 }
 

@@ -1,8 +1,8 @@
 -- From what a command did to what it promises of its answer.
 use Rattle.std.proofs.Common.{◌≡◌, ℕ, ◌⊎◌, inl, inr, List, [], ◌∷◌, ◌++◌, refl, sym, ◌∙◌, subst, Option, Some, Ok, Err, codes}
 use Rattle.loft_base.specs.Outside.{appended, GrowsByPrefix, Rose}
-use Rattle.loft_commands.specs.declared.status.Status.{Status}
-use Rattle.loft_commands.specs.declared.status.Status.TheVariants as status
+use Rattle.loft_top.specs.declared.status.Status.{Status}
+use Rattle.loft_top.specs.declared.status.Status.TheVariants as status
 use Rattle.loft_refusal.specs.declared.refusal.Refusal.{Refusal}
 use Rattle.loft_refusal.specs.declared.refusal.Stopped.TheVariants as stopped
 use Rattle.loft_words.specs.Command.{Command}
@@ -10,9 +10,10 @@ use Rattle.loft_commands.specs.Written.{Appends, IsLine, IsPrefix}
 use Rattle.loft_refusal.specs.Refusals.{line_of}
 use Rattle.loft_commands.specs.Asks.{IsRefusal}
 use Rattle.loft_commands.specs.Promise.{IsAnswer}
-use Rattle.loft_commands.specs.Status.{IsRefused, IsAccepted}
-use Rattle.loft_commands.specs.Answer.{Attempts, IsText, Answers}
-use Rattle.loft_commands.proofs.Deciding.{Decided, taken_not_refused}
+use Rattle.loft_top.specs.Status.{IsRefused, IsAccepted}
+use Rattle.loft_commands.specs.Doing.{Attempts}
+use Rattle.loft_top.specs.Answer.{IsText, Answers}
+use Rattle.loft_top.proofs.Deciding.{Decided, taken_not_refused}
 use Rattle.loft_commands.proofs.Written.{appends, begun, not_begun, part_of}
 
 -- the answer is whole

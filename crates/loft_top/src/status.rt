@@ -1,7 +1,7 @@
 //! How the program ends.
 
 ghost use Rattle.std.specs.Prelude.{◌≡◌};
-ghost use Rattle.loft_commands.specs.Status.{code_of};
+ghost use Rattle.loft_top.specs.Status.{code_of};
 
 /// How the program ends (docs/COMMANDS.md, "Statuses").
 #[derive(Clone, Copy, Debug, PartialEq, Eq)]

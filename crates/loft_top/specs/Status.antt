@@ -1,7 +1,7 @@
 -- How the program may end (docs/COMMANDS.md, "Statuses").
 use Rattle.std.specs.Prelude.{ℕ}
-use Rattle.loft_commands.specs.declared.status.Status.{Status}
-use Rattle.loft_commands.specs.declared.status.Status.TheVariants.{Done, Usage, Source, Log, FileFault, SinkFault, NoMemory}
+use Rattle.loft_top.specs.declared.status.Status.{Status}
+use Rattle.loft_top.specs.declared.status.Status.TheVariants.{Done, Usage, Source, Log, FileFault, SinkFault, NoMemory}
 
 -- the number with which the program ends
 abbrev pub code_of : Status → ℕ
