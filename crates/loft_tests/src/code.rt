@@ -3,11 +3,10 @@
 
 mod calls;
 
-use loft_base::ModuleId;
+use loft_base::{ModuleId, NoMemory};
 use loft_code::{CodeError, OpAt, validate};
 use loft_reading::read;
 use std::alloc::Global;
-use std::test::Fail;
 
 /// What stands before the operations of the module `m`.
 const HEAD: &[u8] = b"loft-listing 1
@@ -34,13 +33,45 @@ module q() in unlinked to B
 end
 ";
 
-/// The error of code whose first module has these operations.
-fn error(alloc: Global, operations: &[u8]) -> Result<Option<CodeError>, Fail> {
+/// The listing with these operations in its first module.
+fn listing(alloc: Global, operations: &[u8]) -> Result<Vec<u8>, NoMemory> {
     let mut text = Vec::from_slice(alloc, HEAD)?;
     text.extend_from_slice(operations)?;
     text.extend_from_slice(TAIL)?;
-    let raw = read(alloc, text.as_slice()).map_err(|_| "it is no listing")?;
-    Ok(validate(alloc, raw).err())
+    Ok(text)
+}
+
+/// Whether code whose first module has these operations has this error, or none.
+fn is_answered(alloc: Global, operations: &[u8], wanted: Option<CodeError>) -> bool {
+    let Ok(text) = listing(alloc, operations) else {
+        return false;
+    };
+    match read(alloc, text.as_slice()) {
+        Ok(raw) => validate(alloc, raw).err() == wanted,
+        Err(_) => false,
+    }
+}
+
+/// The same error at another operation of the first module.
+fn error_at(error: CodeError, op: u32) -> CodeError {
+    match error {
+        CodeError::JumpOut(_) => CodeError::JumpOut(at(op)),
+        CodeError::BadStop(_) => CodeError::BadStop(at(op)),
+        CodeError::BadPlace(_) => CodeError::BadPlace(at(op)),
+        CodeError::BadCount(_) => CodeError::BadCount(at(op)),
+        CodeError::KindMismatch(_) => CodeError::KindMismatch(at(op)),
+        other => other,
+    }
+}
+
+/// The index of the first row that is answered otherwise than by this error, at its operation.
+fn first_other(alloc: Global, rows: &[(&'static [u8], u32)], wanted: CodeError) -> Option<usize> {
+    for (index, (operations, op)) in rows.iter().enumerate() {
+        if !is_answered(alloc, operations, Some(error_at(wanted, *op))) {
+            return Some(index);
+        }
+    }
+    None
 }
 
 /// An operation of the first module.
@@ -84,14 +115,6 @@ static VALID: [&'static [u8]; 7] = [
     b"0 A 0 jump 2\n1 A 0 enter\n2 A 0 end\n",
 ];
 
-#[test]
-fn valid_code_is_not_refused(rt: HostRuntime) -> Result<(), Fail> {
-    for operations in VALID {
-        assert_eq!(rt; error(rt.alloc(), operations)?, None);
-    }
-    Ok(())
-}
-
 static JUMPS: [(&'static [u8], u32); 15] = [
     // a target isn't there
     (b"0 A 0 branch 2 1\n1 A 0 end\n", 0),
@@ -118,17 +141,6 @@ static JUMPS: [(&'static [u8], u32); 15] = [
     (b"", 0),
 ];
 
-#[test]
-fn jumps_out(rt: HostRuntime) -> Result<(), Fail> {
-    for (operations, op) in JUMPS {
-        assert_eq!(rt;
-            error(rt.alloc(), operations)?,
-            Some(CodeError::JumpOut(at(op)))
-        );
-    }
-    Ok(())
-}
-
 static STOPS: [(&'static [u8], u32); 5] = [
     (b"0 A 0 @0 halt;\n1 A 0 end\n", 0),
     (b"0 A 0 @2 halt;\n1 A 0 @1 cooperate;\n2 A 0 end\n", 0),
@@ -144,17 +156,6 @@ static STOPS: [(&'static [u8], u32); 5] = [
         2,
     ),
 ];
-
-#[test]
-fn has_bad_stops(rt: HostRuntime) -> Result<(), Fail> {
-    for (operations, op) in STOPS {
-        assert_eq!(rt;
-            error(rt.alloc(), operations)?,
-            Some(CodeError::BadStop(at(op)))
-        );
-    }
-    Ok(())
-}
 
 static PLACES: [(&'static [u8], u32); 28] = [
     // only a linked thread may do it
@@ -233,17 +234,6 @@ static PLACES: [(&'static [u8], u32); 28] = [
     (b"0 A 0 jump 1\n1 unlinked 0 @1 link A;\n2 A 0 end\n", 0),
 ];
 
-#[test]
-fn has_bad_places(rt: HostRuntime) -> Result<(), Fail> {
-    for (operations, op) in PLACES {
-        assert_eq!(rt;
-            error(rt.alloc(), operations)?,
-            Some(CodeError::BadPlace(at(op)))
-        );
-    }
-    Ok(())
-}
-
 static COUNTS: [(&'static [u8], u32); 10] = [
     // the module begins or ends with counts
     (b"0 A 1 turn 1\n1 A 0 end\n", 0),
@@ -272,17 +262,6 @@ static COUNTS: [(&'static [u8], u32); 10] = [
         1,
     ),
 ];
-
-#[test]
-fn has_bad_counts(rt: HostRuntime) -> Result<(), Fail> {
-    for (operations, op) in COUNTS {
-        assert_eq!(rt;
-            error(rt.alloc(), operations)?,
-            Some(CodeError::BadCount(at(op)))
-        );
-    }
-    Ok(())
-}
 
 static KINDS: [(&'static [u8], u32); 24] = [
     // operators
@@ -326,17 +305,6 @@ static KINDS: [(&'static [u8], u32); 24] = [
     ),
 ];
 
-#[test]
-fn has_bad_kinds(rt: HostRuntime) -> Result<(), Fail> {
-    for (operations, op) in KINDS {
-        assert_eq!(rt;
-            error(rt.alloc(), operations)?,
-            Some(CodeError::KindMismatch(at(op)))
-        );
-    }
-    Ok(())
-}
-
 static FIRST: [(&'static [u8], CodeError); 6] = [
     (
         b"0 A 0 @2 get f at 1 into k;\n1 A 0 end\n",
@@ -359,11 +327,30 @@ static FIRST: [(&'static [u8], CodeError); 6] = [
     ),
 ];
 
+/// The index of the first row of valid code that is refused.
+fn first_refused(alloc: Global) -> Option<usize> {
+    VALID
+        .iter()
+        .position(|operations| !is_answered(alloc, operations, None))
+}
+
+/// The index of the first row with two causes that is answered otherwise than by its first.
+fn first_later(alloc: Global) -> Option<usize> {
+    FIRST.iter().position(|(operations, first)| !is_answered(alloc, operations, Some(*first)))
+}
+
 /// Of two causes at one operation the one that is asked first counts, and of two operations the first.
 #[test]
-fn the_first_error_counts(rt: HostRuntime) -> Result<(), Fail> {
-    for (operations, first) in FIRST {
-        assert_eq!(rt; error(rt.alloc(), operations)?, Some(first), "{first:?}");
-    }
-    Ok(())
+fn errors_are_the_first(rt: HostRuntime) {
+    let alloc = rt.alloc();
+    let others = [
+        first_refused(alloc),
+        first_other(alloc, JUMPS.as_slice(), CodeError::JumpOut(OP_0)),
+        first_other(alloc, STOPS.as_slice(), CodeError::BadStop(OP_0)),
+        first_other(alloc, PLACES.as_slice(), CodeError::BadPlace(OP_0)),
+        first_other(alloc, COUNTS.as_slice(), CodeError::BadCount(OP_0)),
+        first_other(alloc, KINDS.as_slice(), CodeError::KindMismatch(OP_0)),
+        first_later(alloc),
+    ];
+    assert_eq!(rt; others, [None; 7]);
 }

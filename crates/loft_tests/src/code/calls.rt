@@ -75,17 +75,22 @@ fn an_end_is_enough(rt: HostRuntime) -> Result<(), Fail> {
     Ok(())
 }
 
-#[test]
-fn a_module_has_an_end(rt: HostRuntime) -> Result<(), Fail> {
-    let refused = validate(rt.alloc(), code(rt.alloc(), Vec::new(rt.alloc()))?);
-    assert_eq!(rt; refused.err(), Some(CodeError::JumpOut(at(0))));
-    Ok(())
+/// The error of code of that module.
+fn error(alloc: Global, lines: Vec<CodeLine>) -> Result<Option<CodeError>, NoMemory>
+    requires { LinesFit (lines_of (record { lines = lines })) }
+{
+    let raw = code(alloc, lines)?;
+    Ok(validate(alloc, raw).err())
+}
+
+/// A module has an end.
+fn without_an_end(alloc: Global) -> Result<Option<CodeError>, NoMemory> {
+    error(alloc, Vec::new(alloc))
 }
 
 /// A number that nothing declares is asked after targets.
-#[test]
-fn a_target_is_asked_before_names(rt: HostRuntime) -> Result<(), Fail> {
-    let mut lines = Vec::new(rt.alloc());
+fn with_a_target_and_a_name(alloc: Global) -> Result<Option<CodeError>, NoMemory> {
+    let mut lines = Vec::new(alloc);
     lines.push(CodeLine {
         place: Place::Unlinked,
         depth: 0,
@@ -94,15 +99,12 @@ fn a_target_is_asked_before_names(rt: HostRuntime) -> Result<(), Fail> {
             test: NamedExpr::Slot(0),
         },
     })?;
-    let refused = validate(rt.alloc(), code(rt.alloc(), lines)?);
-    assert_eq!(rt; refused.err(), Some(CodeError::JumpOut(at(0))));
-    Ok(())
+    error(alloc, lines)
 }
 
 /// It is asked before the numbers of stops.
-#[test]
-fn names_are_asked_before_stops(rt: HostRuntime) -> Result<(), Fail> {
-    let mut lines = Vec::new(rt.alloc());
+fn with_a_name_and_a_stop(alloc: Global) -> Result<Option<CodeError>, NoMemory> {
+    let mut lines = Vec::new(alloc);
     lines.push(CodeLine {
         place: Place::Unlinked,
         depth: 0,
@@ -116,7 +118,21 @@ fn names_are_asked_before_stops(rt: HostRuntime) -> Result<(), Fail> {
         depth: 0,
         op: Op::End,
     })?;
-    let refused = validate(rt.alloc(), code(rt.alloc(), lines)?);
-    assert_eq!(rt; refused.err(), Some(CodeError::BadName(at(0))));
-    Ok(())
+    error(alloc, lines)
+}
+
+#[test]
+fn names_are_asked_after_targets_and_before_stops(rt: HostRuntime) {
+    let alloc = rt.alloc();
+    let errors = [
+        without_an_end(alloc),
+        with_a_target_and_a_name(alloc),
+        with_a_name_and_a_stop(alloc),
+    ];
+    let wanted = [
+        Ok(Some(CodeError::JumpOut(at(0)))),
+        Ok(Some(CodeError::JumpOut(at(0)))),
+        Ok(Some(CodeError::BadName(at(0)))),
+    ];
+    assert_eq!(rt; errors, wanted);
 }
