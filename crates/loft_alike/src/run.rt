@@ -9,15 +9,15 @@ ghost use Rattle.loft_sense.specs.Passes.{run_of};
 ghost use Rattle.loft_sense.specs.Stands.{Stands};
 ghost use Rattle.loft_effect.specs.View.{around_of, steps_left};
 ghost use Rattle.loft_effect.specs.Outcomes.{gone_of};
-ghost use Rattle.loft_compile.specs.Compiled.{compiled};
+ghost use Rattle.loft_translation.specs.Compiled.{compiled};
 
 use loft_base::NoMemory;
 use loft_code::Code;
-use loft_compile::compiled_code_implements;
 use loft_effect::{Around, Gone, Outcome};
 use loft_place::Placed;
 use loft_sense::{Stop, Thread};
 use loft_step::{Steps, go as step};
+use loft_translation::compiled_code_implements;
 use loft_walk::go as walk;
 use std::alloc::Global;
 use std::sync::ledger::Ledger;

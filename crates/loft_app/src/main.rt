@@ -2,7 +2,7 @@
 #![tactic(auto)]
 
 use loft_base::{Failed, HostFiles, HostSink, OpenGate};
-use loft_commands::{Status, loft_main};
+use loft_top::{Status, loft_main};
 use std::process::ExitCode;
 use std::rt::Env;
 use std::{env, io};

@@ -18,7 +18,7 @@ use Rattle.loft_refusal.specs.Refusals.{IsTextOf, IsRefusedFor, IsCause}
 use Rattle.loft_commands.specs.Asks.{Asks, Takes}
 use Rattle.loft_commands.specs.Promise.{IsAnswerFor, IsAnswer}
 use Rattle.loft_refusal.specs.Found.{IsFault, IsUnlisted}
-use Rattle.loft_commands.specs.Answer.{Does, Attempts}
+use Rattle.loft_commands.specs.Doing.{Does, Attempts}
 use Rattle.loft_commands.proofs.Written.{not_begun, part_of, whole_of}
 
 -- what is read is refused for, its text is refused for

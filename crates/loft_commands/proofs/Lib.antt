@@ -1,5 +1,3 @@
 pub mod Written
-pub mod Deciding
-pub mod AnswerLemmas
 pub mod Doing
 pub mod Reported

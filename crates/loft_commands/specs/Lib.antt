@@ -3,5 +3,4 @@ pub mod Asks
 pub mod RunStops
 pub mod Promise
 pub mod Options
-pub mod Status
-pub mod Answer
+pub mod Doing

@@ -13,7 +13,7 @@ use Rattle.loft_sense.specs.History.{Choice, hist, HasEnded}
 use Rattle.loft_sense.specs.Legal.{IsLegal}
 use Rattle.loft_sense.specs.Lines.{text_of}
 use Rattle.loft_sense.specs.Report.{head_lines, report}
-use Rattle.loft_compile.specs.Compiled.{compiled}
+use Rattle.loft_translation.specs.Compiled.{compiled}
 use Rattle.loft_listing.specs.Listing.{listing_text}
 use Rattle.loft_words.specs.Command.{Command, Run, Exec, Show, Check, Compile}
 use Rattle.loft_refusal.specs.Input.{Input, ASource, AListing}

@@ -1,11 +1,9 @@
-//! The commands, and `loft_main`, the call that the program makes.
+//! The commands: what each does with the source or the listing in its file (`attempt`), and a run of code with its report.
 #![tactic(auto)]
 
 mod code_run;
 mod command;
-mod status;
-mod top_call;
+mod doing;
 
 pub use code_run::{RunError, run_code};
-pub use status::Status;
-pub use top_call::loft_main;
+pub use doing::attempt;

@@ -15,7 +15,7 @@ use Rattle.loft_tree.specs.NamedView.{statement_layer, statement_of}
 use Rattle.loft_tree.specs.Resolved.{Step, Do, Hold, Call, Choose, Loop, Times, step_of}
 use Rattle.loft_code.specs.Operations.{Operation, Line}
 use Rattle.loft_sense.specs.Stands.{leads_step}
-use Rattle.loft_compile.specs.Compiled.{line, step_lines}
+use Rattle.loft_translation.specs.Compiled.{line, step_lines}
 use Rattle.loft_compile.specs.Targets.{first_operation, place_past}
 
 -- a statement that has no body

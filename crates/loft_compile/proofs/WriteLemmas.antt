@@ -18,7 +18,7 @@ use Rattle.loft_code.specs.declared.raw.ModuleCode.{ModuleCode}
 use Rattle.loft_code.specs.Operations.{Operation, Line, Branch, Enter, Count, Turn, Jump}
 use Rattle.loft_code.specs.View.{operation_of, line_of, lines_of, code_of}
 use Rattle.loft_sense.specs.Stands.{leads}
-use Rattle.loft_compile.specs.Compiled.{line, if_lines, else_lines, step_lines, body_lines, modules_from, compiled}
+use Rattle.loft_translation.specs.Compiled.{line, if_lines, else_lines, step_lines, body_lines, modules_from, compiled}
 use Rattle.loft_compile.specs.Targets.{first_operation, with_target, line_with_target, lines_with_target}
 
 target_seam : (a : List Line) (l : Line) (b : List Line) (n : ℕ) → lines_with_target (a ++ l ∷ b) (length a) n ≡ a ++ line_with_target n l ∷ b

@@ -1,4 +1,1 @@
-pub mod Compiled
 pub mod Targets
-pub mod Implements
-pub mod Whole

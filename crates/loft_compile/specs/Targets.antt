@@ -6,7 +6,7 @@ use Rattle.loft_tree.specs.Resolved.{Step, Do, Hold, Call, Choose, Loop, Times}
 use Rattle.loft_code.specs.Operations.{Operation, Line}
 use Rattle.loft_code.specs.Operations as op
 use Rattle.loft_sense.specs.Stands.{place_after, end_of}
-use Rattle.loft_compile.specs.Compiled.{line}
+use Rattle.loft_translation.specs.Compiled.{line}
 
 -- the operation with which a statement begins; the target of a `branch` is 0 so far
 abbrev pub first_operation : Step → Operation

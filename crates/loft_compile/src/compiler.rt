@@ -7,15 +7,15 @@ ghost use Rattle.loft_tree.specs.Resolved.{step_of, body_of, resolved_of};
 ghost use Rattle.loft_code.specs.Operations.{Jump};
 ghost use Rattle.loft_code.specs.View.{operation_of, line_of, lines_of, automata_of};
 ghost use Rattle.loft_sense.specs.Stands.{begin_of, end_of, leads_step, leads};
-ghost use Rattle.loft_compile.specs.Compiled.{line, step_lines, body_lines, module_lines, modules_from, compiled};
+ghost use Rattle.loft_translation.specs.Compiled.{line, step_lines, body_lines, module_lines, modules_from, compiled};
 ghost use Rattle.loft_compile.specs.Targets.{lines_with_target, place_past};
 
 use crate::copy;
-use crate::laws::compiled_code_is_valid;
 use crate::operation::{first_operation, set_target};
 use loft_base::{ModuleId, NoMemory, TryClone};
 use loft_code::{Code, CodeLine, CodeProgram, ModuleCode, Op, Pause, RawCode};
 use loft_place::Placed;
+use loft_translation::compiled_code_is_valid;
 use loft_tree::{Heads, Module, NamedStmt, Place};
 use std::alloc::Global;
 
@@ -144,7 +144,7 @@ impl Writer {
             }
             NamedStmt::While { test, body, .. } => {
                 let again = self.lines.len();
-                let test = copy::expression(self.alloc, test)?;
+                let test = copy::whole_expression(self.alloc, test)?;
                 self.put(here, depth, Op::Branch { target: 0, test })?;
                 let there = self.body(heads, body.as_slice(), here, depth)?;
                 self.go_back(again, there, depth)?;

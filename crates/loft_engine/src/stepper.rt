@@ -10,7 +10,7 @@ ghost use Rattle.loft_effect.specs.Outcomes.{outcome_of};
 use loft_base::NoMemory;
 use loft_code::Code;
 use loft_effect::Around;
-use loft_instant::Interpreter;
+use loft_passes::Interpreter;
 use loft_sense::{Stop, Thread};
 use loft_step::{Steps, go};
 use loft_tree::Heads;

@@ -7,8 +7,9 @@ use Rattle.loft_sense.specs.declared.note.Standing.{Standing}
 use Rattle.loft_sense.specs.declared.order.Mark.TheVariants as mark
 use Rattle.loft_sense.specs.Apply.{Applied, marked, is_linked, unlink, suspend}
 use Rattle.loft_sense.specs.CanGo.{same_thread}
-use Rattle.loft_instant.specs.declared.runner.Runner.{Runner}
-use Rattle.loft_instant.specs.View.{standing_of, standings_of, suspended_by}
+use Rattle.loft_passes.specs.declared.runner.Runner.{Runner}
+use Rattle.loft_passes.specs.View.{standing_of, standings_of}
+use Rattle.loft_instant.specs.Batches.{suspended_by}
 use Rattle.loft_instant.specs.Positions.{Stands}
 
 not_first : (a b : Bool) → a || b ≡ false → a ≡ false

@@ -2,8 +2,8 @@
 use Rattle.std.specs.Prelude.{◌≡◌, ℕ, ◌+◌, ◌<◌, Bool, true, false, List, ◌++◌, take, drop, length, Option, Some, None, slice_get, slice_set}
 use Rattle.loft_base.specs.declared.ids.ThreadId.{ThreadId}
 use Rattle.loft_sense.specs.Apply.{is_linked, unlink, suspend}
-use Rattle.loft_instant.specs.declared.runner.Runner.{Runner}
-use Rattle.loft_instant.specs.View.{standing_of, standings_of}
+use Rattle.loft_passes.specs.declared.runner.Runner.{Runner}
+use Rattle.loft_passes.specs.View.{standing_of, standings_of}
 
 -- the first thread with the id stands at this index
 pub record Stands (i : ℕ) (t : ThreadId) (rs : List Runner) : Type 0 where

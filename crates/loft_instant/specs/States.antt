@@ -8,7 +8,7 @@ use Rattle.loft_sense.specs.Apply.{Applied}
 use Rattle.loft_sense.specs.Passes.{Walk, passes}
 use Rattle.loft_sense.specs.Instant.{runner_of, around_of}
 use Rattle.loft_instant.specs.declared.instant.State.{State}
-use Rattle.loft_instant.specs.View.{standings_of}
+use Rattle.loft_passes.specs.View.{standings_of}
 
 abbrev pub machine_with : SchedId → State → Mach
 machine_with s e = record { s = s; linked = standings_of e.linked.items; shared = e.shared; known = e.known; made = e.made; number = e.number }

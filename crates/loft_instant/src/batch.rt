@@ -6,11 +6,11 @@ ghost use Rattle.loft_sense.specs.declared.order.Mark.TheVariants as mark;
 ghost use Rattle.loft_sense.specs.Apply.{marked, link, ended_by, apply_order, apply_orders, new_thread as new_thread_of};
 ghost use Rattle.loft_instant.specs.Positions.{IsPosition};
 
-use crate::runner::Runner;
 use crate::told::tell_end;
 use loft_base::{EventId, ModuleId, NoMemory, SchedId, Sequence, ThreadId, TryClone, Values};
 use loft_board::Board;
 use loft_effect::{first_values, same_thread};
+use loft_passes::Runner;
 use loft_sense::{End, Ended, Ends, Frame, MAX_LINKED, Mark, Marks, Order, Sents, Thread, Wait};
 use loft_tree::Heads;
 use std::alloc::Global;
@@ -70,8 +70,8 @@ fn new_thread(
 }
 
 impl Batch {
-    ghost use Rattle.loft_instant.specs.View.{standings_of, suspended_by};
-    ghost use Rattle.loft_instant.specs.Batches.{applied_of};
+    ghost use Rattle.loft_passes.specs.View.{standings_of};
+    ghost use Rattle.loft_instant.specs.Batches.{applied_of, suspended_by};
     ghost use Rattle.loft_sense.specs.declared.order.Order.TheVariants as order;
 
     /// A scheduler with these threads, before the first order.

@@ -7,10 +7,10 @@ ghost use Rattle.loft_instant.specs.declared.instant.State.{State as StateOf};
 ghost use Rattle.loft_instant.specs.States.{machine_of, IsReady};
 
 use crate::instant::{Setting, State};
-use crate::interpreter::Interpreter;
 use crate::rest::{all_rest, standings};
 use crate::shared::own_of;
 use loft_base::{NoMemory, SchedId, Sequence};
+use loft_passes::Interpreter;
 use loft_sense::{Engine, FinalState, InstantNote, Limits, Orders};
 use std::alloc::Global;
 

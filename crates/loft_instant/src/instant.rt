@@ -12,15 +12,12 @@ ghost use Rattle.loft_sense.specs.Instant.{closed, closed_thread, stays, has_run
 ghost use Rattle.loft_sense.specs.Instant.{sent_by, leavers, changes as changes_in};
 
 use crate::batch::Batch;
-use crate::close::close_all;
-use crate::interpreter::Interpreter;
-use crate::pass::{begin_all, passes};
-use crate::runner::Runner;
 use crate::shared::{changes, keep_values, shared_values};
 use crate::told::tell_all;
 use loft_base::{NoMemory, SchedId, Sequence, SharedId, ThreadId};
 use loft_board::Board;
 use loft_effect::Around;
+use loft_passes::{Interpreter, Runner, begin_all, close_all, passes};
 use loft_sense::{Changes, InstantNote, Limits, Numbers, Order, Sents, Threads};
 use loft_tree::{Place, SharedHead};
 use std::alloc::Global;
@@ -89,7 +86,7 @@ impl State {
 
 impl<I: Interpreter> Setting<I> {
     ghost use Rattle.loft_effect.specs.View.{around_of};
-    ghost use Rattle.loft_instant.specs.View.{standings_of, runners_of, walk_of};
+    ghost use Rattle.loft_passes.specs.View.{standings_of, runners_of, walk_of};
     ghost use Rattle.loft_instant.specs.Batches.{applied_of};
     ghost use Rattle.loft_instant.specs.States.{machine_with, machine_before, walk_from};
 

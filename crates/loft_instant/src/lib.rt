@@ -2,16 +2,10 @@
 #![tactic(auto)]
 
 mod batch;
-mod close;
 mod engine;
 mod instant;
-mod interpreter;
-mod leavers;
-mod pass;
 mod rest;
-mod runner;
 mod shared;
 mod told;
 
 pub use engine::InstantEngine;
-pub use interpreter::Interpreter;

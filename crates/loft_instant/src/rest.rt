@@ -2,11 +2,11 @@
 
 ghost use Rattle.std.specs.Prelude.{◌≡◌, IfOk};
 ghost use Rattle.loft_sense.specs.Rest.{waits_for_ever as waits_for_ever_in, all_rest as all_rest_in};
-ghost use Rattle.loft_instant.specs.View.{standings_of};
+ghost use Rattle.loft_passes.specs.View.{standings_of};
 
-use crate::runner::Runner;
 use loft_base::{NoMemory, Sequence, ThreadId, TryClone};
 use loft_effect::is_known;
+use loft_passes::Runner;
 use loft_sense::{Standing, Standings, Wait};
 use std::alloc::Global;
 

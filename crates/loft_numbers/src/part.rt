@@ -1,49 +1,55 @@
 //! Parts of declarations.
 
-ghost use Rattle.std.specs.Prelude.{◌≡◌, IfOk, map};
+ghost use Rattle.std.specs.Prelude.{◌≡◌, true, map};
 ghost use Rattle.loft_tree.specs.View.{argument_of as argument_in, head_of, named_of, order_of, place_name_of};
 ghost use Rattle.loft_numbers.specs.Numbers.{argument_of, arguments_of, client_order, client_orders, name_text, place_of, signature_of, slots_of};
 ghost use Rattle.loft_tree.specs.Source.{AName};
 ghost use Rattle.loft_base.specs.declared.ids.Value.TheVariants.{Thread};
 
 use crate::name::{event, module, number, scheduler};
-use loft_base::{Maker, NoMemory, Sequence, ThreadId, Value};
+use loft_base::{Maker, Room, Sequence, ThreadId, Value};
 use loft_scopes::{Scope, Table};
 use loft_tree::{
     Argument, Arguments, ClientOrder, Ident, ModuleHead, Name, OutsideOrder, Place, PlaceName,
     Signature, SlotHead, Slots, Variable,
 };
-use std::alloc::Global;
 
 /// The text of a name.
-pub fn text(alloc: Global, name: &Ident) -> Result<Name, NoMemory>
-    ensures { IfOk result (λ text. text ≡ name.now.text) }
+pub fn text(room: &mut Room, name: &Ident) -> Name
+    ensures before { room.new.is_whole ≡ true → room.old.is_whole ≡ true }
+    ensures value { room.new.is_whole ≡ true → result ≡ name.now.text }
 {
-    Sequence::from_slice(alloc, name.text())
+    room.slice(name.text())
 }
 
 /// The same, if there is one.
-pub fn text_if(alloc: Global, name: &Option<Ident>) -> Result<Option<Name>, NoMemory>
-    ensures { IfOk result (λ text. text ≡ name_text name.now) }
+pub fn text_if(room: &mut Room, name: &Option<Ident>) -> Option<Name>
+    ensures before { room.new.is_whole ≡ true → room.old.is_whole ≡ true }
+    ensures value { room.new.is_whole ≡ true → result ≡ name_text name.now }
 {
     match name {
-        Some(name) => Ok(Some(text(alloc, name)?)),
-        None => Ok(None),
+        Some(name) => Some(text(room, name)),
+        None => None,
     }
 }
 
 /// Parameters or local variables.
-fn slots(alloc: Global, variables: &[Variable]) -> Result<Slots, NoMemory>
-    ensures { IfOk result (λ slots. slots ≡ slots_of (map named_of variables.now)) }
+fn slots(room: &mut Room, variables: &[Variable]) -> Slots
+    ensures before { room.new.is_whole ≡ true → room.old.is_whole ≡ true }
+    ensures value { room.new.is_whole ≡ true → result ≡ slots_of (map named_of variables.now) }
 {
-    let mut all = Sequence::new(alloc);
+    let mut all = Sequence::new(room.alloc);
     for variable in variables {
-        all.push(SlotHead {
-            kind: variable.kind,
-            name: text(alloc, &variable.name)?,
-        })?;
+        let name = text(room, &variable.name);
+        room.push(
+            &mut all,
+            SlotHead {
+                kind: variable.kind,
+                name,
+            },
+        );
     }
-    Ok(all)
+    all
 }
 
 /// A place where threads are linked, with a number in place of a name (docs/LANGUAGE.md, "Numbers of
@@ -59,26 +65,27 @@ pub fn place(table: &Table, scope: Scope, name: &PlaceName) -> Place
 
 /// What the module with this number declares.
 pub fn signature(
-    alloc: Global,
+    room: &mut Room,
     table: &Table,
     number: u32,
     head: &ModuleHead,
     locals: &[Variable],
-) -> Result<Signature, NoMemory>
-    ensures { IfOk result (λ signature. signature
-        ≡ signature_of table.now number (head_of head.now) (map named_of locals.now)) }
+) -> Signature
+    ensures before { room.new.is_whole ≡ true → room.old.is_whole ≡ true }
+    ensures value { room.new.is_whole ≡ true → result
+        ≡ signature_of table.now number (head_of head.now) (map named_of locals.now) }
 {
     let scope = Scope::Within(number);
-    Ok(Signature {
-        name: text(alloc, &head.name)?,
-        parameters: slots(alloc, head.parameters.as_slice())?,
-        locals: slots(alloc, locals)?,
+    Signature {
+        name: text(room, &head.name),
+        parameters: slots(room, head.parameters.as_slice()),
+        locals: slots(room, locals),
         begin: place(table, scope, &head.begin),
         end: match &head.end {
             Some(end) => place(table, scope, end),
             None => place(table, scope, &head.begin),
         },
-    })
+    }
 }
 
 /// The thread that a start names so.
@@ -102,68 +109,62 @@ fn argument(table: &Table, scope: Scope, value: &Argument) -> Value
 }
 
 /// The values of arguments.
-pub fn arguments(
-    alloc: Global,
-    table: &Table,
-    scope: Scope,
-    values: &[Argument],
-) -> Result<Arguments, NoMemory>
-    ensures { IfOk result (λ all. all ≡ arguments_of table.now scope (map argument_in values.now)) }
+pub fn arguments(room: &mut Room, table: &Table, scope: Scope, values: &[Argument]) -> Arguments
+    ensures before { room.new.is_whole ≡ true → room.old.is_whole ≡ true }
+    ensures value { room.new.is_whole ≡ true → result ≡ arguments_of table.now scope (map argument_in values.now) }
 {
-    let mut all = Sequence::new(alloc);
+    let mut all = Sequence::new(room.alloc);
     for value in values {
-        all.push(argument(table, scope, value))?;
+        room.push(&mut all, argument(table, scope, value));
     }
-    Ok(all)
+    all
 }
 
 /// An order.
-fn order(
-    alloc: Global,
-    table: &Table,
-    scope: Scope,
-    ordered: &OutsideOrder,
-) -> Result<ClientOrder, NoMemory>
-    ensures { IfOk result (λ order. order ≡ client_order table.now scope (order_of ordered.now)) }
+fn order(room: &mut Room, table: &Table, scope: Scope, ordered: &OutsideOrder) -> ClientOrder
+    ensures before { room.new.is_whole ≡ true → room.old.is_whole ≡ true }
+    ensures value { room.new.is_whole ≡ true → result ≡ client_order table.now scope (order_of ordered.now) }
 {
     match ordered {
         OutsideOrder::Create {
             scheduler: there,
             called,
             arguments: values,
-        } => Ok(ClientOrder::Create {
+        } => ClientOrder::Create {
             scheduler: scheduler(table, scope, there),
             module: module(table, scope, called),
-            arguments: arguments(alloc, table, scope, values.as_slice())?,
-        }),
+            arguments: arguments(room, table, scope, values.as_slice()),
+        },
         OutsideOrder::Control {
             control,
             thread: name,
             scheduler: there,
-        } => Ok(ClientOrder::Control {
+        } => ClientOrder::Control {
             control: *control,
             thread: thread(table, scope, name),
             scheduler: scheduler(table, scope, there),
-        }),
-        OutsideOrder::Broadcast { event: name, value } => Ok(ClientOrder::Broadcast {
+        },
+        OutsideOrder::Broadcast { event: name, value } => ClientOrder::Broadcast {
             event: event(table, scope, name),
             value: *value,
-        }),
+        },
     }
 }
 
 /// Orders.
 pub fn orders(
-    alloc: Global,
+    room: &mut Room,
     table: &Table,
     scope: Scope,
     ordered: &[OutsideOrder],
-) -> Result<Sequence<ClientOrder>, NoMemory>
-    ensures { IfOk result (λ all. all ≡ client_orders table.now scope (map order_of ordered.now)) }
+) -> Sequence<ClientOrder>
+    ensures before { room.new.is_whole ≡ true → room.old.is_whole ≡ true }
+    ensures value { room.new.is_whole ≡ true → result ≡ client_orders table.now scope (map order_of ordered.now) }
 {
-    let mut all = Sequence::new(alloc);
+    let mut all = Sequence::new(room.alloc);
     for one in ordered {
-        all.push(order(alloc, table, scope, one)?)?;
+        let order = order(room, table, scope, one);
+        room.push(&mut all, order);
     }
-    Ok(all)
+    all
 }

@@ -6,7 +6,7 @@ ghost use Rattle.loft_sense.specs.Machine.{Tree};
 
 use loft_base::NoMemory;
 use loft_effect::{Around, take_around, take_thread};
-use loft_instant::Interpreter;
+use loft_passes::Interpreter;
 use loft_place::Placed;
 use loft_sense::{Stop, Thread};
 use loft_tree::Heads;

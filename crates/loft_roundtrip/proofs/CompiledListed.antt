@@ -11,8 +11,8 @@ use Rattle.loft_names.proofs.HoldsPrograms.{uses_agree}
 use Rattle.loft_names.proofs.NumberedFits.{numbered_fits}
 use Rattle.loft_place.specs.Links.{IsPlaced}
 use Rattle.loft_code.specs.Operations.{Automata}
-use Rattle.loft_compile.specs.Compiled.{compiled}
-use Rattle.loft_compile.proofs.ProgramLemmas.{code_fits, code_valid}
+use Rattle.loft_translation.specs.Compiled.{compiled}
+use Rattle.loft_translation.proofs.ProgramLemmas.{code_fits, code_valid}
 use Rattle.loft_listing.specs.Listing.{listing_text}
 use Rattle.loft_reading.specs.Lists.{Lists}
 use Rattle.loft_roundtrip.proofs.Canonical.{names_threads}

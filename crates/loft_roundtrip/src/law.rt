@@ -4,7 +4,7 @@ ghost use Rattle.std.specs.Prelude.{◌≡◌, ℕ, List};
 ghost use Rattle.loft_code.specs.Fits.{RawFits};
 ghost use Rattle.loft_code.specs.Operations.{Automata};
 ghost use Rattle.loft_code.specs.Valid.{Valid};
-ghost use Rattle.loft_compile.specs.Compiled.{compiled};
+ghost use Rattle.loft_translation.specs.Compiled.{compiled};
 ghost use Rattle.loft_listing.specs.Listing.{listing_text};
 ghost use Rattle.loft_scopes.specs.Faults.{NamesFit};
 ghost use Rattle.loft_numbers.specs.Numbers.{numbered};

@@ -1,13 +1,13 @@
 //! Expressions.
 
-ghost use Rattle.std.specs.Prelude.{◌≡◌, ◌++◌, OnOk};
+ghost use Rattle.std.specs.Prelude.{◌≡◌, ◌++◌, true};
 ghost use Rattle.loft_tree.specs.Levels.{operator_level, level, left_bracketed, right_bracketed, sign_bracketed};
 ghost use Rattle.loft_tree.specs.View.{expression_of};
 ghost use Rattle.loft_show.specs.Canon.{builtin_word, unary_sign, binary_sign, held, expression_pieces, pieces_text};
 
 use crate::list::Listed;
 use crate::pieces::{put_name, put_number, put_sign, put_word};
-use loft_base::NoMemory;
+use loft_base::Out;
 use loft_lex::{Sign, Word};
 use loft_tree::{BinaryOperator, Builtin, Expr, UnaryOperator};
 
@@ -115,15 +115,12 @@ fn binary_sign(operator: BinaryOperator) -> Sign
 }
 
 /// Appends blanks and an expression.
-///
-/// # Errors
-///
-/// `NoMemory` where there was no memory for the text.
 #[cycle(expression)]
 #[tactic(auto, using(crate::proofs::Texts::texts))]
-pub fn put_expression(out: &mut Vec<u8>, gap: &[u8], expression: &Expr) -> Result<(), NoMemory>
-    ensures { OnOk result (out.new.items ≡ out.old.items ++ pieces_text
-        (expression_pieces (expression_of expression.now) gap.now)) }
+pub fn put_expression(out: &mut Out, gap: &[u8], expression: &Expr)
+    ensures before { out.new.is_whole ≡ true → out.old.is_whole ≡ true }
+    ensures text { out.new.is_whole ≡ true → out.new.text.items ≡ out.old.text.items ++ pieces_text
+        (expression_pieces (expression_of expression.now) gap.now) }
 {
     match expression {
         Expr::Number { value, .. } => put_number(out, gap, *value),
@@ -134,7 +131,7 @@ pub fn put_expression(out: &mut Vec<u8>, gap: &[u8], expression: &Expr) -> Resul
             operand,
             ..
         } => {
-            put_sign(out, gap, unary_sign(*operator))?;
+            put_sign(out, gap, unary_sign(*operator));
             put_operand(out, b"", operand, sign_bracketed(operand))
         }
         Expr::Binary {
@@ -142,8 +139,8 @@ pub fn put_expression(out: &mut Vec<u8>, gap: &[u8], expression: &Expr) -> Resul
             left,
             right,
         } => {
-            put_operand(out, gap, left, left_bracketed(*operator, left))?;
-            put_sign(out, b" ", binary_sign(*operator))?;
+            put_operand(out, gap, left, left_bracketed(*operator, left));
+            put_sign(out, b" ", binary_sign(*operator));
             put_operand(out, b" ", right, right_bracketed(*operator, right))
         }
     }
@@ -152,27 +149,23 @@ pub fn put_expression(out: &mut Vec<u8>, gap: &[u8], expression: &Expr) -> Resul
 /// Appends blanks and an operand, with brackets or without.
 #[cycle(expression)]
 #[tactic(auto, using(crate::proofs::Texts::texts))]
-fn put_operand(
-    out: &mut Vec<u8>,
-    gap: &[u8],
-    operand: &Expr,
-    bracketed: bool,
-) -> Result<(), NoMemory>
-    ensures { OnOk result (out.new.items ≡ out.old.items ++ pieces_text
-        (held bracketed (expression_pieces (expression_of operand.now)) gap.now)) }
+fn put_operand(out: &mut Out, gap: &[u8], operand: &Expr, bracketed: bool)
+    ensures before { out.new.is_whole ≡ true → out.old.is_whole ≡ true }
+    ensures text { out.new.is_whole ≡ true → out.new.text.items ≡ out.old.text.items ++ pieces_text
+        (held bracketed (expression_pieces (expression_of operand.now)) gap.now) }
 {
     if !bracketed {
         return put_expression(out, gap, operand);
     }
-    put_sign(out, gap, Sign::Open)?;
-    put_expression(out, b"", operand)?;
+    put_sign(out, gap, Sign::Open);
+    put_expression(out, b"", operand);
     put_sign(out, b"", Sign::Close)
 }
 
 impl Listed for Expr {
     ghost pieces = { λ e. expression_pieces (expression_of e) };
 
-    fn put(&self, out: &mut Vec<u8>, gap: &[u8]) -> Result<(), NoMemory> {
+    fn put(&self, out: &mut Out, gap: &[u8]) {
         put_expression(out, gap, self)
     }
 }

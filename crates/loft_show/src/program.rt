@@ -5,7 +5,7 @@ ghost use Rattle.loft_tree.specs.View.{source_of};
 ghost use Rattle.loft_show.specs.Canon.{Canon};
 
 use crate::item::put_item;
-use loft_base::NoMemory;
+use loft_base::{NoMemory, Out};
 use loft_tree::Program;
 use std::alloc::Global;
 
@@ -17,9 +17,9 @@ use std::alloc::Global;
 pub fn show(alloc: Global, p: &Program) -> Result<Vec<u8>, NoMemory>
     ensures { IfOk result (λ text. text.items ≡ Canon (source_of p.now)) }
 {
-    let mut out = Vec::new(alloc);
+    let mut out = Out::new(alloc);
     for item in p.items() {
-        put_item(&mut out, item)?;
+        put_item(&mut out, item);
     }
-    Ok(out)
+    out.done()
 }

@@ -1,6 +1,6 @@
 //! Statements, with the bodies in them.
 
-ghost use Rattle.std.specs.Prelude.{◌≡◌, ◌++◌, ◌+◌, ◌-◌, ◌*◌, ◌<◌, OnOk};
+ghost use Rattle.std.specs.Prelude.{◌≡◌, ◌++◌, ◌+◌, ◌-◌, ◌*◌, ◌<◌, true};
 ghost use Rattle.loft_tree.specs.View.{statement_of, statements_of};
 ghost use Rattle.loft_tree.specs.Fits.{StatementFits, StatementsFit};
 ghost use Rattle.loft_show.specs.Canon.{statement_lines, body_lines, else_lines, lines_text};
@@ -11,7 +11,7 @@ use crate::simple::{
     put_assign, put_assign_create, put_await, put_control, put_cooperate, put_create, put_event,
     put_get, put_join, put_print_text, put_print_value, put_run, put_select,
 };
-use loft_base::NoMemory;
+use loft_base::Out;
 use loft_lex::Word;
 use loft_tree::Stmt;
 
@@ -20,19 +20,12 @@ use loft_tree::Stmt;
 pub const DEEPEST: u8 = 33;
 
 /// Appends the line of a statement without bodies.
-///
-/// # Errors
-///
-/// `NoMemory` where there was no memory for the text.
 #[tactic(auto, using(crate::proofs::Texts::bodies))]
-pub fn put_statement_line(
-    out: &mut Vec<u8>,
-    indent: usize,
-    statement: &Stmt,
-) -> Result<(), NoMemory>
+pub fn put_statement_line(out: &mut Out, indent: usize, statement: &Stmt)
     requires { IsOneLine (statement_of statement.now) }
-    ensures { OnOk result (out.new.items ≡ out.old.items ++ lines_text
-        (statement_lines (statement_of statement.now) indent)) }
+    ensures before { out.new.is_whole ≡ true → out.old.is_whole ≡ true }
+    ensures text { out.new.is_whole ≡ true → out.new.text.items ≡ out.old.text.items ++ lines_text
+        (statement_lines (statement_of statement.now) indent) }
 {
     match statement {
         Stmt::Assign { target, value } => put_assign(out, indent, target, value),
@@ -81,10 +74,11 @@ pub fn put_statement_line(
 /// A statement that stands so deep.
 #[cycle(statement)]
 #[tactic(auto, using(crate::proofs::Texts::bodies))]
-fn put_statement(out: &mut Vec<u8>, statement: &Stmt, depth: u8) -> Result<(), NoMemory>
+fn put_statement(out: &mut Out, statement: &Stmt, depth: u8)
     requires { StatementFits (statement_of statement.now) (DEEPEST - depth) }
-    ensures { OnOk result (out.new.items ≡ out.old.items ++ lines_text
-        (statement_lines (statement_of statement.now) (2 * depth))) }
+    ensures before { out.new.is_whole ≡ true → out.old.is_whole ≡ true }
+    ensures text { out.new.is_whole ≡ true → out.new.text.items ≡ out.old.text.items ++ lines_text
+        (statement_lines (statement_of statement.now) (2 * depth)) }
 {
     let indent = 2 * usize::from(depth);
     match statement {
@@ -94,19 +88,19 @@ fn put_statement(out: &mut Vec<u8>, statement: &Stmt, depth: u8) -> Result<(), N
             second,
             ..
         } => {
-            put_test_line(out, indent, Word::If, test, Word::Then)?;
-            put_body(out, first.as_slice(), depth + 1)?;
-            put_else(out, second.as_slice(), depth)?;
+            put_test_line(out, indent, Word::If, test, Word::Then);
+            put_body(out, first.as_slice(), depth + 1);
+            put_else(out, second.as_slice(), depth);
             put_bare_line(out, indent, Word::End)
         }
         Stmt::While { test, body, .. } => {
-            put_test_line(out, indent, Word::While, test, Word::Do)?;
-            put_body(out, body.as_slice(), depth + 1)?;
+            put_test_line(out, indent, Word::While, test, Word::Do);
+            put_body(out, body.as_slice(), depth + 1);
             put_bare_line(out, indent, Word::End)
         }
         Stmt::Repeat { count, body, .. } => {
-            put_test_line(out, indent, Word::Repeat, count, Word::Do)?;
-            put_body(out, body.as_slice(), depth + 1)?;
+            put_test_line(out, indent, Word::Repeat, count, Word::Do);
+            put_body(out, body.as_slice(), depth + 1);
             put_bare_line(out, indent, Word::End)
         }
         _ => put_statement_line(out, indent, statement),
@@ -116,29 +110,30 @@ fn put_statement(out: &mut Vec<u8>, statement: &Stmt, depth: u8) -> Result<(), N
 /// The statements of a body that stand so deep.
 #[cycle(statement)]
 #[tactic(auto, using(crate::proofs::Texts::bodies))]
-pub fn put_body(out: &mut Vec<u8>, body: &[Stmt], depth: u8) -> Result<(), NoMemory>
+pub fn put_body(out: &mut Out, body: &[Stmt], depth: u8)
     requires { StatementsFit (statements_of body.now) (DEEPEST - depth) }
-    ensures { OnOk result (out.new.items ≡ out.old.items ++ lines_text
-        (body_lines (statements_of body.now) (2 * depth))) }
+    ensures before { out.new.is_whole ≡ true → out.old.is_whole ≡ true }
+    ensures text { out.new.is_whole ≡ true → out.new.text.items ≡ out.old.text.items ++ lines_text
+        (body_lines (statements_of body.now) (2 * depth)) }
 {
     for statement in body {
-        put_statement(out, statement, depth)?;
+        put_statement(out, statement, depth);
     }
-    Ok(())
 }
 
 /// The `else` of an `if` that stands so deep, and what stands after it, where there is anything.
 #[cycle(statement)]
 #[tactic(auto, using(crate::proofs::Texts::bodies))]
-fn put_else(out: &mut Vec<u8>, body: &[Stmt], depth: u8) -> Result<(), NoMemory>
+fn put_else(out: &mut Out, body: &[Stmt], depth: u8)
     requires deeper { depth < DEEPEST }
     requires fits { StatementsFit (statements_of body.now) (DEEPEST - (depth + 1)) }
-    ensures { OnOk result (out.new.items ≡ out.old.items ++ lines_text
-        (else_lines (statements_of body.now) (2 * depth))) }
+    ensures before { out.new.is_whole ≡ true → out.old.is_whole ≡ true }
+    ensures text { out.new.is_whole ≡ true → out.new.text.items ≡ out.old.text.items ++ lines_text
+        (else_lines (statements_of body.now) (2 * depth)) }
 {
     if body.is_empty() {
-        return Ok(());
+        return;
     }
-    put_bare_line(out, 2 * usize::from(depth), Word::Else)?;
+    put_bare_line(out, 2 * usize::from(depth), Word::Else);
     put_body(out, body, depth + 1)
 }

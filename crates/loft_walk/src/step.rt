@@ -1,8 +1,9 @@
 //! One step of a thread (docs/SEMANTICS.md, "Run").
 
 ghost use Rattle.std.specs.Prelude.{◌≡◌, ◌∷◌, IfOk};
+ghost use Rattle.std.specs.Prelude.{map};
 ghost use Rattle.loft_tree.specs.NamedView.{term_of};
-ghost use Rattle.loft_tree.specs.Resolved.{exp_of};
+ghost use Rattle.loft_tree.specs.Resolved.{exp_of, exps_of, Call, Choose, Times};
 ghost use Rattle.loft_sense.specs.Tree.{Again, Turns, next_begin, next_work, next_turn};
 ghost use Rattle.loft_walk.specs.Pieces.{body_from, step_from, work_of, work_of_task};
 
@@ -43,6 +44,73 @@ impl<'a> Running<'a> {
             Effect::Leaves(to) => Move::Leave(to),
             Effect::Dies(end) => Move::End(end),
         }
+    }
+
+    /// A module is run in a further frame.
+    #[tactic(auto, using(crate::proofs::Onto::onto))]
+    fn begin_run(
+        &mut self,
+        alloc: Global,
+        heads: &Heads,
+        beside: &mut Beside,
+        stop: u32,
+        module: ModuleId,
+        arguments: &[NamedExpr],
+    ) -> Result<Move, NoMemory>
+        ensures steps { IfOk result (λ move. Steps heads.now (next_begin (Call stop «module» (exps_of (map term_of arguments.now))) (work_of self.old.work.items))
+            self.old beside.old move self.new beside.new) }
+        ensures bound { IfOk result (λ move. beside.new.around.bound ≡ beside.old.around.bound) }
+    {
+        self.scope.at.stop = stop;
+        match self.scope.values(alloc, heads, beside, arguments)? {
+            Ok(values) => Ok(Move::Enter(module, values)),
+            Err(_) => Ok(Move::End(End::Div(self.scope.at))),
+        }
+    }
+
+    /// One of two bodies begins.
+    #[tactic(auto, using(crate::proofs::Onto::onto))]
+    fn begin_if(
+        &mut self,
+        heads: &Heads,
+        beside: &mut Beside,
+        test: &NamedExpr,
+        first: &'a [NamedStmt],
+        second: &'a [NamedStmt],
+    ) -> Result<Move, NoMemory>
+        ensures steps { IfOk result (λ move. Steps heads.now (next_begin (Choose (exp_of (term_of test.now)) (body_from first.now) (body_from second.now)) (work_of self.old.work.items))
+            self.old beside.old move self.new beside.new) }
+        ensures bound { IfOk result (λ move. beside.new.around.bound ≡ beside.old.around.bound) }
+    {
+        let Ok(value) = self.scope.value(heads, beside, test) else {
+            return Ok(Move::End(End::Div(self.scope.at)));
+        };
+        if is_true(number_of(value)) {
+            self.work.push(Piece::Rest(first))?;
+        } else {
+            self.work.push(Piece::Rest(second))?;
+        }
+        Ok(Move::GoOn)
+    }
+
+    /// Turns of a body are counted.
+    #[tactic(auto, using(crate::proofs::Onto::onto))]
+    fn begin_repeat(
+        &mut self,
+        heads: &Heads,
+        beside: &mut Beside,
+        count: &NamedExpr,
+        body: &'a [NamedStmt],
+    ) -> Result<Move, NoMemory>
+        ensures steps { IfOk result (λ move. Steps heads.now (next_begin (Times (exp_of (term_of count.now)) (body_from body.now)) (work_of self.old.work.items))
+            self.old beside.old move self.new beside.new) }
+        ensures bound { IfOk result (λ move. beside.new.around.bound ≡ beside.old.around.bound) }
+    {
+        let Ok(value) = self.scope.value(heads, beside, count) else {
+            return Ok(Move::End(End::Div(self.scope.at)));
+        };
+        self.work.push(Piece::Turns(number_of(value), body))?;
+        Ok(Move::GoOn)
     }
 
     /// A statement begins.
@@ -86,43 +154,19 @@ impl<'a> Running<'a> {
                 called: _,
                 module,
                 arguments,
-            } => {
-                self.scope.at.stop = *stop;
-                match self
-                    .scope
-                    .values(alloc, heads, beside, arguments.as_slice())?
-                {
-                    Ok(values) => Ok(Move::Enter(*module, values)),
-                    Err(_) => Ok(Move::End(End::Div(self.scope.at))),
-                }
-            }
+            } => { self.begin_run(alloc, heads, beside, *stop, *module, arguments.as_slice()) }
             NamedStmt::If {
                 at: _,
                 test,
                 first,
                 second,
-            } => {
-                let Ok(value) = self.scope.value(heads, beside, test) else {
-                    return Ok(Move::End(End::Div(self.scope.at)));
-                };
-                if is_true(number_of(value)) {
-                    self.work.push(Piece::Rest(first.as_slice()))?;
-                } else {
-                    self.work.push(Piece::Rest(second.as_slice()))?;
-                }
-                Ok(Move::GoOn)
-            }
+            } => { self.begin_if(heads, beside, test, first.as_slice(), second.as_slice()) }
             NamedStmt::While { at: _, test, body } => {
                 self.work.push(Piece::Again(test, body.as_slice()))?;
                 Ok(Move::GoOn)
             }
             NamedStmt::Repeat { at: _, count, body } => {
-                let Ok(value) = self.scope.value(heads, beside, count) else {
-                    return Ok(Move::End(End::Div(self.scope.at)));
-                };
-                self.work
-                    .push(Piece::Turns(number_of(value), body.as_slice()))?;
-                Ok(Move::GoOn)
+                self.begin_repeat(heads, beside, count, body.as_slice())
             }
         }
     }

@@ -3,7 +3,7 @@
 ghost use Rattle.std.specs.Prelude.{None};
 
 use loft_base::{Failed, Gate, MemFiles, OpenGate, SchedId, Sink, Turn};
-use loft_commands::loft_main;
+use loft_top::loft_main;
 use std::alloc::{AllocError, Global};
 use std::sync::Wait;
 use std::sync::atomic::{AtomicU64, Ordering};

@@ -12,8 +12,8 @@ use Rattle.loft_sense.specs.Run.{Outcome}
 use Rattle.loft_sense.specs.Passes.{run_of}
 use Rattle.loft_sense.specs.Stands.{Stands}
 use Rattle.loft_effect.specs.View.{around_of, steps_left}
-use Rattle.loft_compile.specs.Compiled.{compiled}
-use Rattle.loft_compile.specs.Implements.{Implements}
+use Rattle.loft_translation.specs.Compiled.{compiled}
+use Rattle.loft_translation.specs.Implements.{Implements}
 use Rattle.loft_alike.proofs.run.both_ways.Goals as goal
 
 -- equal threads end alike in a program and in code that implements it

@@ -3,7 +3,7 @@ use Rattle.std.proofs.lemmas.Result.{err_from_is_err_and}
 use Rattle.loft_tree.specs.NamedTree.{NamedProgram}
 use Rattle.loft_tree.specs.Resolved.{resolved_of}
 use Rattle.loft_tree.specs.View.{source_of}
-use Rattle.loft_compile.specs.Compiled.{compiled}
+use Rattle.loft_translation.specs.Compiled.{compiled}
 use Rattle.loft_listing.specs.Listing.{listing_text}
 use Rattle.loft_refusal.specs.declared.refusal.Stopped.{Stopped}
 use Rattle.loft_refusal.specs.Stops.{stop_of_write}

@@ -4,7 +4,7 @@ use Rattle.loft_tree.specs.ProgramView.{module_of, program_of}
 use Rattle.loft_code.specs.Fits.{RawFits}
 use Rattle.loft_code.specs.Valid.{Valid}
 use Rattle.loft_code.specs.View.{automata_of}
-use Rattle.loft_compile.proofs.ProgramLemmas.{few_modules}
+use Rattle.loft_translation.proofs.ProgramLemmas.{few_modules}
 use Rattle.loft_compile.proofs.WriteLemmas.{code_is}
 use Rattle.loft_compile.proofs.compiler.compile.Goals as goal
 

@@ -2,7 +2,7 @@ use Rattle.std.proofs.Common.{◌≡◌, ◌++◌, map, drop}
 use Rattle.loft_tree.specs.ProgramView.{module_of}
 use Rattle.loft_tree.specs.Resolved.{body_of}
 use Rattle.loft_code.specs.View.{lines_of}
-use Rattle.loft_compile.specs.Compiled.{modules_from}
+use Rattle.loft_translation.specs.Compiled.{modules_from}
 use Rattle.loft_compile.proofs.compiler.modules_code.Given as goal
 
 -- the code of the modules that are left makes that of all whole

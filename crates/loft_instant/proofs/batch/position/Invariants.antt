@@ -1,6 +1,6 @@
 use Rattle.std.proofs.Common.{◌≡◌, false, take}
 use Rattle.loft_sense.specs.Apply.{is_linked}
-use Rattle.loft_instant.specs.View.{standings_of}
+use Rattle.loft_passes.specs.View.{standings_of}
 use Rattle.loft_instant.proofs.batch.position.Given as goal
 
 -- it isn't one of the first

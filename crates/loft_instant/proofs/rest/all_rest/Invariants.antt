@@ -1,6 +1,6 @@
 use Rattle.std.proofs.Common.{◌≡◌, drop}
 use Rattle.loft_sense.specs.Rest.{all_rest}
-use Rattle.loft_instant.specs.View.{standings_of}
+use Rattle.loft_passes.specs.View.{standings_of}
 use Rattle.loft_instant.proofs.rest.all_rest.Given as goal
 
 -- it turns on the rest

@@ -1,5 +1,5 @@
 use Rattle.std.proofs.Common.{◌≡◌, take}
-use Rattle.loft_instant.specs.View.{standings_of}
+use Rattle.loft_passes.specs.View.{standings_of}
 use Rattle.loft_instant.proofs.rest.standings.Given as goal
 
 -- the first of them are there

@@ -12,9 +12,8 @@ put_item-requires c =
     item_fits c.items-item-items.result.now c.loop-item.item-index c.item-item.result c.loop-item-test.true c.item-item.is fits.each
 
 pub loop-item-preserved : goal.loop-item-preserved
-loop-item-preserved c =
-    rw c.in_ok-put_item.ensures
+loop-item-preserved c = λ w. rw (c.put_item.ensures.text w)
     (one_more (λ xs. Canon (source_of xs)) (λ x. lines_text (declaration_lines (declaration_of x)))
-    c.loop-item.out.items c.items-item-items.result.now c.loop-item.item-index c.item-item.result _
+    c.loop-item.out.text.items c.items-item-items.result.now c.loop-item.item-index c.item-item.result _
     (λ x xs. lines_text-append (declaration_lines (declaration_of x)) (source_lines (source_of xs)))
-    c.loop-item-test.true c.item-item.is c.loop-item.invariant)
+    c.loop-item-test.true c.item-item.is (c.loop-item.invariant (c.put_item.ensures.before w)))

@@ -1,6 +1,5 @@
-use Rattle.std.proofs.Common.{◌≡◌, ◌++◌, ◌∷◌, ◌-◌, ◌≤◌, ◌<◌, ℕ, [], List, Option, ◌∙◌, ap, sym, refl, length, get_or, map, take, drop, drop-cons, append_assoc, append-nil, arith}
+use Rattle.std.proofs.Common.{true, ◌≡◌, ◌++◌, ◌∷◌, ◌-◌, ◌≤◌, ◌<◌, ℕ, [], List, Option, ◌∙◌, ap, sym, refl, length, get_or, map, take, drop, drop-cons, append_assoc, append-nil, arith}
 use Rattle.std.proofs.lemmas.Grind.{common_steps}
-use Rattle.std.proofs.lemmas.Result.{on_ok_weaker}
 use Rattle.std.specs.Prelude.{replicate, codes}
 use Rattle.loft_lex.specs.declared.word.Word.TheVariants as w
 use Rattle.loft_tree.specs.Source.{EventName, Expression, Select}
@@ -9,7 +8,7 @@ use Rattle.loft_tree.specs.declared.statement.EventName.{EventName as EventNameI
 use Rattle.loft_show.specs.Canon.{Piece, for_part, event_pieces, further_pieces, lines_text, name, pieces_text, spaced, statement_lines, word_line}
 use Rattle.loft_show.proofs.Texts.{further_pieces-map, pieces_text-append}
 use Rattle.loft_show.proofs.simple.put_select.Goals as goal
-use Rattle.loft_show.proofs.simple.put_select.Goals.{in_default, in-len1-up+in_ok-put_name+in_ok-put_further}
+use Rattle.loft_show.proofs.simple.put_select.Goals.{in_default, in-len1-up}
 
 -- the events, as they stand after the word
 choice_pieces : List EventName → List Piece
@@ -57,14 +56,22 @@ some_chosen out events first some is =
     ∙ ap (λ es. out ++ pieces_text (choice_pieces (map event_name_of es))) (sym split)
 
 -- what the branches leave
-chosen : (c : goal.After-end_statement) → c.if-events-lt1.out.items ≡ c.begin_line.new.out.items ++ pieces_text (choice_pieces (map event_name_of c.args.events.now))
-chosen c = elim c.if-events-lt1.branch [
-  | in_default w ↦ rw w.out-is (none_chosen c.begin_line.new.out.items c.args.events.now w.in_default.len_below)
-  | in-len1-up+in_ok-put_name+in_ok-put_further w ↦ rw (w.out-is, w.in_ok-put_further.ensures, w.in_ok-put_name.ensures) (some_chosen c.begin_line.new.out.items c.args.events.now w.first-item.result w.in-len1-up.len_at_least w.first-item.is)
+kept : (c : goal.After-end_statement) → c.if-events-lt1.out.is_whole ≡ true → c.begin_line.new.out.is_whole ≡ true
+kept c = elim c.if-events-lt1.branch [
+  | in_default w ↦ λ h. rw (← w.out-is) h
+  | in-len1-up w ↦ λ h. w.put_name.ensures.before (w.put_further.ensures.before (rw (← w.out-is) h))
 ]
 
-pub returns : goal.returns
-returns c =
-    on_ok_weaker c.end_statement.result
-    (λ ended. select_shown _ _ _ _ _ c.args.indent (map event_name_of c.args.events.now) (value_of c.args.limit.now) c.in_ok-begin_line.ensures (chosen c) c.in_ok-put_limit_part.ensures ended)
-    c.end_statement.ensures
+chosen : (c : goal.After-end_statement) → c.if-events-lt1.out.is_whole ≡ true → c.if-events-lt1.out.text.items ≡ c.begin_line.new.out.text.items ++ pieces_text (choice_pieces (map event_name_of c.args.events.now))
+chosen c = elim c.if-events-lt1.branch [
+  | in_default w ↦ λ h. rw w.out-is (none_chosen c.begin_line.new.out.text.items c.args.events.now w.in_default.len_below)
+  | in-len1-up w ↦ λ h.
+      let further : w.put_further.new.out.is_whole ≡ true = rw (← w.out-is) h in
+      rw (w.out-is, w.put_further.ensures.text further, w.put_name.ensures.text (w.put_further.ensures.before further)) (some_chosen c.begin_line.new.out.text.items c.args.events.now w.first-item.result w.in-len1-up.len_at_least w.first-item.is)
+]
+
+pub returns-clause-text : goal.returns-clause-text
+returns-clause-text c = λ ended.
+    let limited = c.end_statement.ensures.before ended in
+    let joined = c.put_limit_part.ensures.before limited in
+    select_shown _ _ _ _ _ c.args.indent (map event_name_of c.args.events.now) (value_of c.args.limit.now) (c.begin_line.ensures.text (kept c joined)) (chosen c joined) (c.put_limit_part.ensures.text limited) (c.end_statement.ensures.text ended)

@@ -15,9 +15,11 @@ put_body-put_statement-requires t c =
     (omega arith, statement_fits c.args.body.now _ c.loop-statement.statement-index c.statement-item.result c.loop-statement-test.true c.statement-item.is c.requires)
 
 pub put_body-loop-statement-preserved : goal.put_body-loop-statement-preserved
-put_body-loop-statement-preserved t c =
-    rw c.in_ok-put_statement.ensures
-    (one_more (λ ss. lines_text (body_lines (statements_of ss) (2 * c.args.depth))) (λ s. lines_text (statement_lines (statement_of s) (2 * c.args.depth)))
-    c.loop-statement.out.items c.args.body.now c.loop-statement.statement-index c.statement-item.result _
-    (λ s ss. lines_text-append (statement_lines (statement_of s) (2 * c.args.depth)) (body_lines (statements_of ss) (2 * c.args.depth)))
-    c.loop-statement-test.true c.statement-item.is c.loop-statement.invariant)
+put_body-loop-statement-preserved t c = record {
+  whole = λ w. c.loop-statement.invariant.whole (c.put_statement.ensures.before w);
+  text = λ w. rw (c.put_statement.ensures.text w)
+      (one_more (λ ss. lines_text (body_lines (statements_of ss) (2 * c.args.depth))) (λ s. lines_text (statement_lines (statement_of s) (2 * c.args.depth)))
+      c.loop-statement.out.text.items c.args.body.now c.loop-statement.statement-index c.statement-item.result _
+      (λ s ss. lines_text-append (statement_lines (statement_of s) (2 * c.args.depth)) (body_lines (statements_of ss) (2 * c.args.depth)))
+      c.loop-statement-test.true c.statement-item.is (c.loop-statement.invariant.text (c.put_statement.ensures.before w)));
+}

@@ -3,7 +3,7 @@ use Rattle.loft_tree.specs.NamedView.{statements_of}
 use Rattle.loft_tree.specs.Resolved.{body_of}
 use Rattle.loft_code.specs.View.{line_of}
 use Rattle.loft_sense.specs.Stands.{leads}
-use Rattle.loft_compile.specs.Compiled.{body_lines}
+use Rattle.loft_translation.specs.Compiled.{body_lines}
 use Rattle.loft_compile.proofs.compiler.Writer.+write.Given as goal
 
 -- the code of the statements that are left makes that of the body whole

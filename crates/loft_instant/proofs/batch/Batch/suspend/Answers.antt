@@ -1,7 +1,7 @@
 use Rattle.std.proofs.Common.{◌≡◌, List, refl, subst}
 use Rattle.std.specs.Prelude.{OnOk}
 use Rattle.loft_sense.specs.Apply.{Applied}
-use Rattle.loft_instant.specs.declared.runner.Runner.{Runner}
+use Rattle.loft_passes.specs.declared.runner.Runner.{Runner}
 use Rattle.loft_instant.specs.Batches.{applied_of}
 use Rattle.loft_instant.specs.Positions.{Stands}
 use Rattle.loft_instant.proofs.PositionLemmas.{suspended_there}

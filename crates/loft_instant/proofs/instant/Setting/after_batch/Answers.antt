@@ -3,7 +3,7 @@ use Rattle.loft_tree.specs.declared.heads.Place.TheVariants.{Sched}
 use Rattle.loft_sense.specs.Machine.{heads}
 use Rattle.loft_sense.specs.Heads.{shared_of}
 use Rattle.loft_sense.specs.Instant.{around_of, runner_of, sent_by, changes}
-use Rattle.loft_instant.specs.View.{standings_of, walk_of}
+use Rattle.loft_passes.specs.View.{standings_of, walk_of}
 use Rattle.loft_instant.specs.Batches.{applied_of}
 use Rattle.loft_instant.specs.States.{machine_before, walk_from}
 use Rattle.loft_instant.proofs.InstantLemmas.{machine_so, note_so}

@@ -1,5 +1,5 @@
 use Rattle.std.proofs.Common.{ap}
-use Rattle.loft_instant.specs.View.{standings_of}
+use Rattle.loft_passes.specs.View.{standings_of}
 use Rattle.loft_instant.proofs.instant.State.first.Goals as goal
 
 pub returns-clause-machine : goal.returns-clause-machine

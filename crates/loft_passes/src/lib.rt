@@ -1,0 +1,14 @@
+//! The linked threads of an instant, over whatever runs one thread of their program: the passes over
+//! them, and how they stand as the instant closes (docs/SEMANTICS.md, "Passes" and "Instant").
+#![tactic(auto)]
+
+mod close;
+mod interpreter;
+mod leavers;
+mod pass;
+mod runner;
+
+pub use close::close_all;
+pub use interpreter::Interpreter;
+pub use pass::{begin_all, passes};
+pub use runner::Runner;

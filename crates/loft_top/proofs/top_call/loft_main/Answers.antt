@@ -1,0 +1,48 @@
+use Rattle.std.proofs.Common.{◌≡◌, ◌++◌, ◌∷◌, [], refl, sym, List, ℕ, Some}
+use Rattle.std.specs.Prelude.{codes}
+use Rattle.loft_words.specs.Command.{file_of}
+use Rattle.loft_words.specs.CommandView.{command_of}
+use Rattle.loft_commands.specs.Written.{Appends, IsLine, IsPrefix}
+use Rattle.loft_commands.specs.Asks.{Refuses, IsRefusal}
+use Rattle.loft_top.specs.Status.{IsRefused}
+use Rattle.loft_commands.specs.Promise.{IsAnswer}
+use Rattle.loft_top.specs.Answer.{IsText}
+use Rattle.loft_commands.proofs.Written.{appends, begun, of_command}
+use Rattle.loft_top.proofs.top_call.loft_main.Goals as goal
+
+pub answer-requires-clause-ranges : goal.answer-requires-clause-ranges
+answer-requires-clause-ranges g c κs within = c.in-Some.ensures.in_range (command_of c.in-Some.command) (sym c.in-Some.ensures.meant)
+
+pub returns-in-Some-clause-done : goal.returns-in-Some-clause-done
+returns-in-Some-clause-done g c = λ k contents is known done.
+    of_command (λ k. g.F.Files.contents c.args.files.now (file_of k) ≡ Some contents
+    → Appends (g.S.Sink.written c.args.sink.now) (g.S.Sink.written c.answer.new.sink) (IsAnswer k contents))
+    c.in-Some.ensures.meant is (λ t. c.answer.ensures.answers.done contents t done) known
+
+pub returns-in-Some-clause-source : goal.returns-in-Some-clause-source
+returns-in-Some-clause-source g c = λ k contents is known source.
+    of_command (λ k. g.F.Files.contents c.args.files.now (file_of k) ≡ Some contents
+    → Appends (g.S.Sink.written c.args.sink.now) (g.S.Sink.written c.answer.new.sink) (IsRefusal k contents))
+    c.in-Some.ensures.meant is (λ t. c.answer.ensures.answers.source contents t source) known
+
+pub returns-in-Some-clause-refused : goal.returns-in-Some-clause-refused
+returns-in-Some-clause-refused g c = λ k contents line is known refuses.
+    of_command (λ k. g.F.Files.contents c.args.files.now (file_of k) ≡ Some contents → Refuses k contents line → IsRefused c.answer.result)
+    c.in-Some.ensures.meant is (λ t r. c.answer.ensures.answers.refused contents line t r) known refuses
+
+pub returns-in-Some-clause-prefix : goal.returns-in-Some-clause-prefix
+returns-in-Some-clause-prefix g c = λ k contents is known cut.
+    of_command (λ k. g.F.Files.contents c.args.files.now (file_of k) ≡ Some contents
+    → Appends (g.S.Sink.written c.args.sink.now) (g.S.Sink.written c.answer.new.sink)
+    (IsPrefix (IsText k contents (g.F.Files.faults c.args.files.now) (g.F.Files.faults c.answer.new.files))))
+    c.in-Some.ensures.meant is (λ t. c.answer.ensures.answers.prefix contents t cut) known
+
+pub returns-in-None-clause-usage_line : goal.returns-in-None-clause-usage_line
+returns-in-None-clause-usage_line g c = λ is_usage.
+    let line : List ℕ = codes "loft: usage" in
+    appends {P = IsLine line} (line ++ 10 ∷ []) (c.tell.ensures.written is_usage (λ e. cc)) refl
+
+pub returns-in-None-clause-usage_prefix : goal.returns-in-None-clause-usage_prefix
+returns-in-None-clause-usage_prefix g c = λ none cut.
+    let line : List ℕ = codes "loft: usage" in
+    begun (IsLine line) (line ++ 10 ∷ []) (c.tell.ensures.cut (λ e. cc) cut) refl

@@ -1,0 +1,34 @@
+-- How the program may end (docs/COMMANDS.md, "Statuses").
+use Rattle.std.specs.Prelude.{ℕ}
+use Rattle.loft_top.specs.declared.status.Status.{Status}
+use Rattle.loft_top.specs.declared.status.Status.TheVariants.{Done, Usage, Source, Log, FileFault, SinkFault, NoMemory}
+
+-- the number with which the program ends
+abbrev pub code_of : Status → ℕ
+code_of Done = 0
+code_of Usage = 2
+code_of Source = 3
+code_of Log = 4
+code_of FileFault = 5
+code_of SinkFault = 6
+code_of NoMemory = 7
+
+-- a source is refused, unless a file or the sink fails or the program is out of memory
+abbrev pub IsRefused : Status → Type 0
+IsRefused Done = ⊥
+IsRefused Usage = ⊥
+IsRefused Source = Unit {0}
+IsRefused Log = ⊥
+IsRefused FileFault = Unit {0}
+IsRefused SinkFault = Unit {0}
+IsRefused NoMemory = Unit {0}
+
+-- a source is answered, unless a file or the sink fails or the program is out of memory
+abbrev pub IsAccepted : Status → Type 0
+IsAccepted Done = Unit {0}
+IsAccepted Usage = ⊥
+IsAccepted Source = ⊥
+IsAccepted Log = ⊥
+IsAccepted FileFault = Unit {0}
+IsAccepted SinkFault = Unit {0}
+IsAccepted NoMemory = Unit {0}

@@ -1,0 +1,8 @@
+//! The call that the program makes (`loft_main`), with its status.
+#![tactic(auto)]
+
+mod status;
+mod top_call;
+
+pub use status::Status;
+pub use top_call::loft_main;

@@ -1,0 +1,153 @@
+//! The call that the program makes.
+
+ghost use Rattle.std.specs.Prelude.{◌≡◌, ◌≢◌, ◌<◌, ◌⊎◌, ◌++◌, ◌∷◌, [], ℕ, List, length, IsTrue, IsSome, Some, None, codes};
+ghost use Rattle.loft_base.specs.Outside.{Rose, appended, GrowsByPrefix};
+ghost use Rattle.loft_refusal.specs.Input.{Input};
+ghost use Rattle.loft_words.specs.Command.{Command as PlainCommand, command, file_of};
+ghost use Rattle.loft_words.specs.Ranges.{KeepsRanges};
+ghost use Rattle.loft_words.specs.Words.{words_of};
+ghost use Rattle.loft_words.specs.CommandView.{command_of};
+ghost use Rattle.loft_commands.specs.Written.{Appends, IsLine, IsPrefix};
+ghost use Rattle.loft_refusal.specs.Refusals.{IsTextOf, line_of};
+ghost use Rattle.loft_commands.specs.Asks.{Refuses, IsRefusal, Takes};
+ghost use Rattle.loft_commands.specs.Promise.{IsAnswer};
+ghost use Rattle.loft_top.specs.Status.{IsRefused, IsAccepted};
+ghost use Rattle.loft_top.specs.Answer.{IsText, Answers};
+
+use crate::status::Status;
+use loft_base::{Files, Gate, Sink};
+use loft_code::code_is_decided;
+use loft_commands::attempt;
+use loft_names::names_are_decided;
+use loft_parse::texts_are_decided;
+use loft_place::links_are_decided;
+use loft_refusal::{Refusal, Stopped};
+use loft_roundtrip::texts_have_one_answer;
+use loft_words::{Command, read_words};
+use std::alloc::Global;
+use std::sync::Wait;
+use std::thread::Threads;
+
+/// Writes a line, whose status is the answer unless the sink fails.
+fn tell<S: Sink>(sink: &mut S, line: &[u8], status: Status) -> Status
+    requires { 0 < length line.now }
+    ensures told { result ≡ status ⊎ result ≡ Status.SinkFault }
+    ensures written { result ≡ status → status ≢ Status.SinkFault
+        → S.written sink.new ≡ appended (S.written sink.old) line.now }
+    ensures cut { status ≢ Status.SinkFault → result ≡ Status.SinkFault
+        → GrowsByPrefix (S.written sink.old) (S.written sink.new) line.now }
+    ensures cause { status ≢ Status.SinkFault → result ≡ Status.SinkFault
+        → Rose (S.faults sink.old) (S.faults sink.new) }
+{
+    match sink.put(line) {
+        Ok(()) => status,
+        Err(_) => Status::SinkFault,
+    }
+}
+
+/// Writes the line of a refusal.
+fn refuse<S: Sink>(alloc: Global, sink: &mut S, refusal: &Refusal) -> Status
+    ensures told { result ≡ Status.Source ⊎ (result ≡ Status.SinkFault ⊎ result ≡ Status.NoMemory) }
+    ensures written { result ≡ Status.Source
+        → S.written sink.new ≡ appended (S.written sink.old) (line_of refusal.now ++ 10 ∷ []) }
+    ensures cut { result ≡ Status.SinkFault
+        → GrowsByPrefix (S.written sink.old) (S.written sink.new) (line_of refusal.now ++ 10 ∷ []) }
+    ensures no_memory { result ≡ Status.NoMemory → S.written sink.new ≡ S.written sink.old }
+    ensures cause { result ≡ Status.SinkFault → Rose (S.faults sink.old) (S.faults sink.new) }
+{
+    match refusal.line(alloc) {
+        Ok(line) => tell(sink, line.as_slice(), Status::Source),
+        Err(_) => Status::NoMemory,
+    }
+}
+
+/// The answer of a command.
+fn answer<R: Threads + Wait + Sync, F: Files, S: Sink, G: Gate>(
+    rt: &R,
+    alloc: Global,
+    command: Command,
+    files: &mut F,
+    sink: &mut S,
+    gate: &G,
+) -> Status
+    requires file { IsTrue (F.may_ask files.old (file_of (command_of command))) }
+    requires ranges { KeepsRanges (command_of command) }
+    ensures answers { Answers (command_of command.entry)
+        (F.contents files.old (file_of (command_of command.entry))) result
+        (S.written sink.old) (S.written sink.new) (F.faults files.old) (F.faults files.new) }
+    ensures file_fault { result ≡ Status.FileFault → Rose (F.faults files.old) (F.faults files.new) }
+    ensures sink_fault { result ≡ Status.SinkFault → Rose (S.faults sink.old) (S.faults sink.new) }
+{
+    texts_are_decided();
+    names_are_decided();
+    links_are_decided();
+    texts_have_one_answer();
+    code_is_decided();
+    match attempt(rt, alloc, command, files, sink, gate) {
+        Ok(()) => Status::Done,
+        Err(Stopped::Refused(refusal)) => refuse(alloc, sink, &refusal),
+        Err(Stopped::FileFault) => tell(sink, b"files: fault\n", Status::FileFault),
+        Err(Stopped::SinkFault) => Status::SinkFault,
+        Err(Stopped::NoMemory) => Status::NoMemory,
+    }
+}
+
+/// Does what the words after the program's name ask for: reads, answers, and says how it ended.
+pub fn loft_main<R: Threads + Wait + Sync, F: Files, S: Sink, G: Gate>(
+    rt: &R,
+    alloc: Global,
+    words: &[String],
+    files: &mut F,
+    sink: &mut S,
+    gate: &G,
+) -> Status
+    // The file of the command may be asked.
+    requires { (c : PlainCommand) → command (words_of words.now) ≡ Some c
+        → IsTrue (F.may_ask files.old (file_of c)) }
+
+    // The promise of each command: the report of a run of a source or a listing, the canonical text, `ok`, the listing.
+    ensures done { (c : PlainCommand) (contents : List ℕ) → command (words_of words.now) ≡ Some c
+        → F.contents files.old (file_of c) ≡ Some contents → result ≡ Status.Done
+        → Appends (S.written sink.old) (S.written sink.new) (IsAnswer c contents) }
+    ensures done_runs { result ≡ Status.Done → IsSome (command (words_of words.now)) }
+
+    // Usage comes exactly where the words are no command, unless the sink fails.
+    ensures usage { result ≡ Status.Usage → command (words_of words.now) ≡ None }
+    ensures usage_line { result ≡ Status.Usage
+        → Appends (S.written sink.old) (S.written sink.new) (IsLine (codes "loft: usage")) }
+    ensures no_command { command (words_of words.now) ≡ None
+        → result ≡ Status.Usage ⊎ result ≡ Status.SinkFault }
+
+    // Source comes exactly where the contents are refused, unless a file or the sink fails or the program is out of memory.
+    ensures source_runs { result ≡ Status.Source → IsSome (command (words_of words.now)) }
+    ensures source { (c : PlainCommand) (contents : List ℕ) → command (words_of words.now) ≡ Some c
+        → F.contents files.old (file_of c) ≡ Some contents → result ≡ Status.Source
+        → Appends (S.written sink.old) (S.written sink.new) (IsRefusal c contents) }
+    ensures refused { (c : PlainCommand) (contents line : List ℕ) → command (words_of words.now) ≡ Some c
+        → F.contents files.old (file_of c) ≡ Some contents → Refuses c contents line
+        → IsRefused result }
+    ensures accepted { (c : PlainCommand) (contents : List ℕ) (x : Input)
+        → command (words_of words.now) ≡ Some c → F.contents files.old (file_of c) ≡ Some contents
+        → IsTextOf contents x → Takes c x → IsAccepted result }
+    ensures never_log { result ≢ Status.Log }
+
+    // Where the sink fails or the program is out of memory, a prefix of what is to be written stands there.
+    ensures prefix { (c : PlainCommand) (contents : List ℕ) → command (words_of words.now) ≡ Some c
+        → F.contents files.old (file_of c) ≡ Some contents
+        → result ≡ Status.SinkFault ⊎ result ≡ Status.NoMemory
+        → Appends (S.written sink.old) (S.written sink.new)
+        (IsPrefix (IsText c contents (F.faults files.old) (F.faults files.new))) }
+    ensures usage_prefix { command (words_of words.now) ≡ None → result ≡ Status.SinkFault
+        → Appends (S.written sink.old) (S.written sink.new) (IsPrefix (IsLine (codes "loft: usage"))) }
+
+    // A failure has its cause in this call.
+    ensures file_fault { result ≡ Status.FileFault → Rose (F.faults files.old) (F.faults files.new) }
+    ensures file_line { result ≡ Status.FileFault
+        → Appends (S.written sink.old) (S.written sink.new) (IsLine (codes "files: fault")) }
+    ensures sink_fault { result ≡ Status.SinkFault → Rose (S.faults sink.old) (S.faults sink.new) }
+{
+    match read_words(words) {
+        Some(command) => answer(rt, alloc, command, files, sink, gate),
+        None => tell(sink, b"loft: usage\n", Status::Usage),
+    }
+}

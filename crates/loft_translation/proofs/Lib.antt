@@ -1,0 +1,17 @@
+pub mod Same
+pub mod Simulation
+pub mod Resume
+pub mod Modules
+pub mod StandLemmas
+pub mod ImplementsLaw
+pub mod Placed
+pub mod OperandLemmas
+pub mod OperationLemmas
+pub mod StepLemmas
+pub mod LineLemmas
+pub mod OrderLemmas
+pub mod FlowLemmas
+pub mod SizeLemmas
+pub mod ValidLemmas
+pub mod ProgramLemmas
+pub mod SameHistories

@@ -1,0 +1,3 @@
+pub mod Compiled
+pub mod Implements
+pub mod Whole
