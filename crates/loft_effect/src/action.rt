@@ -65,9 +65,9 @@ fn line_with(
     ensures { IfOk result (λ line. line ≡ text.now ++ text_of heads.now (Some value)) }
 {
     let mut line = LineBuffer::new(alloc);
-    line.bytes(text.bytes())?;
-    value.push_to(&mut line, heads)?;
-    Ok(line.into_line())
+    line.bytes(text.bytes());
+    value.push_to(&mut line, heads);
+    line.into_line()
 }
 
 impl Scope {
@@ -157,8 +157,8 @@ impl Scope {
             return Ok(Effect::Dies(End::Div(self.at)));
         };
         let mut line = LineBuffer::new(alloc);
-        value.push_to(&mut line, heads)?;
-        self.print(beside, line.into_line())
+        value.push_to(&mut line, heads);
+        self.print(beside, line.into_line()?)
     }
 
     /// `generate e;` or `generate e, E;`

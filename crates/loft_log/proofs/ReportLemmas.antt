@@ -11,13 +11,16 @@ use Rattle.loft_base.specs.declared.ids.SharedId.{SharedId}
 use Rattle.loft_tree.specs.declared.heads.SharedHead.{SharedHead}
 use Rattle.loft_tree.specs.declared.heads.Heads.{Heads}
 use Rattle.loft_sense.specs.declared.order.Order.{Order}
+use Rattle.loft_sense.specs.declared.order.Order.TheVariants.{Arrive}
+use Rattle.loft_sense.specs.declared.order.To.{To}
+use Rattle.loft_sense.specs.declared.thread.Thread.{Thread}
 use Rattle.loft_sense.specs.declared.order.Mark.{Mark}
 use Rattle.loft_sense.specs.declared.order.Sent.{Sent}
 use Rattle.loft_sense.specs.declared.note.Ended.{Ended}
 use Rattle.loft_sense.specs.Heads.{shared_from}
 use Rattle.loft_sense.specs.History.{choice_of, log, waiting}
-use Rattle.loft_sense.specs.Text.{space, name_of_shared, order_text}
-use Rattle.loft_sense.specs.Lines.{text_of, end_line, mark_word, ends_at, batch_lines, leave_line, leave_lines, instant_lines}
+use Rattle.loft_sense.specs.Text.{space, name_of_shared, id_text, order_text}
+use Rattle.loft_sense.specs.Lines.{text_of, end_line, mark_word, ends_at, batch_lines, leave_line, leave_lines, to_text, instant_lines}
 use Rattle.loft_sense.specs.Report.{choice_line, instants_lines, shared_lines, left_line, schedulers_from}
 use Rattle.loft_sense.specs.declared.entry.Entry.{Entry}
 use Rattle.loft_sense.specs.declared.note.FinalState.{FinalState}
@@ -25,7 +28,7 @@ use Rattle.loft_sense.specs.declared.note.InstantNote.{InstantNote}
 use Rattle.loft_sense.proofs.HistoryLemmas.{log-append}
 use Rattle.loft_world.specs.State.{scheduler}
 use Rattle.loft_log.specs.WorldReport.{world_block, world_blocks, left_of_each}
-use Rattle.loft_log.proofs.LineLemmas.{text_of-append, drop-at}
+use Rattle.loft_log.proofs.LineLemmas.{text_of-append, text_of-one, drop-at}
 
 ends_at-by : (h : Heads) (k : ℕ) (e : Ended) (es : List Ended) (here : Bool) → (if here then end_line h e.thread e.end ∷ ends_at h k es else ends_at h k es) ≡ (if here then end_line h e.thread e.end ∷ [] else []) ++ ends_at h k es
 ends_at-by h k e es true = refl
@@ -34,6 +37,17 @@ ends_at-by h k e es false = refl
 -- one end, and the others
 pub text-ends_at : (h : Heads) (k : ℕ) (e : Ended) (es : List Ended) → text_of (ends_at h k (e ∷ es)) ≡ text_of (ends_at h k (e ∷ [])) ++ text_of (ends_at h k es)
 text-ends_at h k e es = ap text_of (ends_at-by h k e es (e.index == k)) ∙ text_of-append (ends_at h k (e ∷ [])) (ends_at h k es)
+
+-- the end that the order with this index made
+pub end-written : (h : Heads) (k : ℕ) (e : Ended) → e.index ≡ k → text_of (ends_at h k (e ∷ [])) ≡ end_line h e.thread e.end ++ 10 ∷ []
+end-written h k e is = ap (λ b. text_of (if b then end_line h e.thread e.end ∷ [] else [])) (eq-eqb e.index k is) ∙ text_of-one (end_line h e.thread e.end)
+
+-- the thread that an order moves
+pub leaver-written : (h : Heads) (to : To) (o : Order) (t read : Thread) → o ≡ Arrive t → read ≡ t → text_of (leave_line h to o) ≡ (codes "leave " ++ (id_text h read.id ++ (space ++ to_text h to))) ++ 10 ∷ []
+leaver-written h to o t read is same =
+    ap (λ x. text_of (leave_line h to x)) is
+    ∙ (text_of-one (codes "leave " ++ (id_text h t.id ++ (space ++ to_text h to)))
+    ∙ ap (λ r. (codes "leave " ++ (id_text h r.id ++ (space ++ to_text h to))) ++ 10 ∷ []) (sym same))
 
 -- the element at an index is the same, whatever stands for one past the end
 same_at : {A : Type 0} (xs : List A) (i : ℕ) (d e : A) → i < length xs → get_or xs i d ≡ get_or xs i e

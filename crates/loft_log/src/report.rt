@@ -7,7 +7,7 @@ mod lines;
 mod order_text;
 mod thread_text;
 
-ghost use Rattle.std.specs.Prelude.{◌≡◌, ◌≤◌, ◌++◌, [], ◌∷◌, map, OnOk, OnErr, IfOk, IsErrOf};
+ghost use Rattle.std.specs.Prelude.{◌≡◌, ◌≤◌, ◌++◌, [], ◌∷◌, ℕ, List, map, OnOk, OnErr, IfOk, IsErrOf};
 ghost use Rattle.std.specs.Fmt.{decimal};
 ghost use Rattle.loft_base.specs.Outside.{Rose, appended, GrowsByPrefix};
 ghost use Rattle.loft_world.specs.State.{scheduler};
@@ -16,13 +16,14 @@ ghost use Rattle.loft_sense.specs.History.{choice_of};
 ghost use Rattle.loft_sense.specs.Text.{scheduler_name};
 ghost use Rattle.loft_sense.specs.Lines.{text_of};
 ghost use Rattle.loft_sense.specs.Report.{head_lines, shared_lines, final_lines, schedulers_from};
+ghost use Rattle.loft_text.specs.Buffer.{Holds};
 ghost use Rattle.loft_log.specs.WorldReport.{world_block, world_blocks, world_report};
 ghost use Rattle.loft_base.specs.Writing.{WritesTo};
 
 use self::lines::{
     InOneLine, make_number_line, make_scheduler_line, make_text_line, make_value_line,
 };
-use loft_base::{NoMemory, SchedId, Sink, WriteError};
+use loft_base::{NoMemory, SchedId, Sink, WriteError, write_piece};
 use loft_sense::{FinalState, InstantNote, RunOptions};
 use loft_text::LineBuffer;
 use loft_tree::Heads;
@@ -190,7 +191,7 @@ impl ReportWriter<'_> {
                 let Some((value, rest)) = left.split_first() else {
                     return Ok(());
                 };
-                make_value_line(line, head.name.as_slice(), *value)?;
+                make_value_line(line, head.name.as_slice(), *value);
                 write_line(line, sink)?;
                 left = rest;
             }
@@ -209,7 +210,7 @@ impl ReportWriter<'_> {
             (text_of (map (T.text self.now.heads.now) items.now)) }
     {
         for item in items {
-            item.make_line(line, self.heads)?;
+            item.make_line(line, self.heads);
             write_line(line, sink)?;
         }
         Ok(())
@@ -225,7 +226,7 @@ impl ReportWriter<'_> {
         ensures { WritesTo S.written S.faults sink.old sink.new result
             (text.now ++ 10 ∷ []) }
     {
-        make_text_line(line, text)?;
+        make_text_line(line, text);
         write_line(line, sink)
     }
 
@@ -240,7 +241,7 @@ impl ReportWriter<'_> {
         ensures { WritesTo S.written S.faults sink.old sink.new result
             ((word.now ++ decimal number) ++ 10 ∷ []) }
     {
-        make_number_line(line, word, number)?;
+        make_number_line(line, word, number);
         write_line(line, sink)
     }
 
@@ -255,17 +256,16 @@ impl ReportWriter<'_> {
         ensures { WritesTo S.written S.faults sink.old sink.new result
             ((word.now ++ scheduler_name self.now.heads.now s) ++ 10 ∷ []) }
     {
-        make_scheduler_line(line, self.heads, word, s)?;
+        make_scheduler_line(line, self.heads, word, s);
         write_line(line, sink)
     }
 }
 
-/// Writes a line and its line feed.
+/// Writes a line and its line feed, if memory was enough for the line.
 fn write_line<S: Sink>(line: &mut LineBuffer, sink: &mut S) -> Result<(), WriteError>
-    ensures { WritesTo S.written S.faults sink.old sink.new result
-        (line.old ++ 10 ∷ []) }
+    ensures { (text : List ℕ) → Holds line.old text
+        → WritesTo S.written S.faults sink.old sink.new result (text ++ 10 ∷ []) }
 {
-    line.byte(b'\n')?;
-    sink.put(line.as_slice())?;
-    Ok(())
+    line.byte(b'\n');
+    write_piece(line.whole()?, sink)
 }

@@ -1,52 +1,48 @@
 //! The text of a frame.
 
-ghost use Rattle.std.specs.Prelude.{◌≡◌, ◌++◌, OnOk, codes};
+ghost use Rattle.std.specs.Prelude.{◌++◌, codes};
 ghost use Rattle.std.specs.Fmt.{signed_decimal};
+ghost use Rattle.loft_text.specs.Buffer.{Adds};
 ghost use Rattle.loft_sense.specs.Text.{separated, value_text, frame_text};
 
 use crate::line::LineBuffer;
 use crate::text::{Item, push_module_name, push_separated};
-use loft_base::{NoMemory, Value};
+use loft_base::Value;
 use loft_sense::Frame;
 use loft_tree::Heads;
 
 /// A frame.
-fn push_frame(line: &mut LineBuffer, heads: &Heads, frame: &Frame) -> Result<(), NoMemory>
-    ensures { OnOk result (line.new ≡ line.old ++ frame_text heads.now frame.now) }
+fn push_frame(line: &mut LineBuffer, heads: &Heads, frame: &Frame)
+    ensures { Adds line.old line.new (frame_text heads.now frame.now) }
 {
-    push_module_name(line, heads, frame.module)?;
-    line.byte(b':')?;
-    line.number(u64::from(frame.stop))?;
+    push_module_name(line, heads, frame.module);
+    line.byte(b':');
+    line.number(u64::from(frame.stop));
     push_kept(
         line,
         heads,
         frame.counts.as_slice(),
         frame.values.as_slice(),
-    )
+    );
 }
 
 /// What a frame keeps: its counts and its values.
-fn push_kept(
-    line: &mut LineBuffer,
-    heads: &Heads,
-    counts: &[i64],
-    values: &[Value],
-) -> Result<(), NoMemory>
-    ensures { OnOk result (line.new ≡ line.old
-        ++ (codes "[" ++ (separated signed_decimal counts.now
-        ++ (codes "](" ++ (separated (value_text heads.now) values.now ++ codes ")"))))) }
+fn push_kept(line: &mut LineBuffer, heads: &Heads, counts: &[i64], values: &[Value])
+    ensures { Adds line.old line.new
+        (codes "[" ++ (separated signed_decimal counts.now ++ (codes "]("
+        ++ (separated (value_text heads.now) values.now ++ codes ")")))) }
 {
-    line.byte(b'[')?;
-    push_separated(line, heads, counts)?;
-    line.text("](")?;
-    push_separated(line, heads, values)?;
-    line.byte(b')')
+    line.byte(b'[');
+    push_separated(line, heads, counts);
+    line.text("](");
+    push_separated(line, heads, values);
+    line.byte(b')');
 }
 
 impl Item for Frame {
     ghost text = { frame_text };
 
-    fn push_to(&self, line: &mut LineBuffer, heads: &Heads) -> Result<(), NoMemory> {
-        push_frame(line, heads, self)
+    fn push_to(&self, line: &mut LineBuffer, heads: &Heads) {
+        push_frame(line, heads, self);
     }
 }

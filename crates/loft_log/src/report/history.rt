@@ -70,7 +70,7 @@ impl ReportWriter<'_> {
         ensures { WritesTo S.written S.faults sink.old sink.new result
             (choice_line self.now.heads.now (ClientBy c) ++ 10 ∷ []) }
     {
-        make_client_line(line, self.heads, c)?;
+        make_client_line(line, self.heads, c);
         write_line(line, sink)
     }
 }

@@ -97,7 +97,7 @@ impl ReportWriter<'_> {
         ensures { WritesTo S.written S.faults sink.old sink.new result
             (text_of ((mark_word mark ++ order_text self.now.heads.now order.now) ∷ ends_at self.now.heads.now index stopped.now)) }
     {
-        make_order_line(line, self.heads, mark, order)?;
+        make_order_line(line, self.heads, mark, order);
         write_line(line, sink)?;
         self.write_ends(index as u64, stopped, line, sink)
     }
@@ -131,10 +131,11 @@ impl ReportWriter<'_> {
             (text_of (ends_at self.now.heads.now index (ended ∷ []))) }
     {
         if ended.index == index {
-            make_end_line(line, self.heads, ended.thread, ended.end)?;
-            write_line(line, sink)?;
+            make_end_line(line, self.heads, ended.thread, ended.end);
+            write_line(line, sink)
+        } else {
+            Ok(())
         }
-        Ok(())
     }
 
     /// Writes who left.
@@ -164,9 +165,10 @@ impl ReportWriter<'_> {
             (text_of (leave_line self.now.heads.now sent.now.to sent.now.order)) }
     {
         if let Order::Arrive(thread) = &sent.order {
-            make_leaver_line(line, self.heads, thread.as_thread().id, sent.to)?;
-            write_line(line, sink)?;
+            make_leaver_line(line, self.heads, thread.as_thread().id, sent.to);
+            write_line(line, sink)
+        } else {
+            Ok(())
         }
-        Ok(())
     }
 }

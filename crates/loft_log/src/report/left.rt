@@ -73,7 +73,7 @@ impl ReportWriter<'_> {
             (text_of (map (left_line self.now.heads.now s) orders.now)) }
     {
         for order in orders {
-            make_left_order_line(line, self.heads, s, order)?;
+            make_left_order_line(line, self.heads, s, order);
             write_line(line, sink)?;
         }
         Ok(())

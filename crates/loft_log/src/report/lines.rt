@@ -1,16 +1,17 @@
 //! The lines of a report, each made whole before any of it is written. One buffer serves for all: each function makes a
 //! line in place of what stands there.
 
-ghost use Rattle.std.specs.Prelude.{◌≡◌, ◌++◌, ℕ, List, OnOk, codes};
+ghost use Rattle.std.specs.Prelude.{◌++◌, ℕ, List, codes};
 ghost use Rattle.std.specs.Fmt.{decimal, signed_decimal};
 ghost use Rattle.loft_tree.specs.declared.heads.Heads.{Heads};
+ghost use Rattle.loft_text.specs.Buffer.{Adds, Holds};
 ghost use Rattle.loft_sense.specs.Text.{space, client_name, scheduler_name, event_name, sent_value, id_text, order_text};
 ghost use Rattle.loft_sense.specs.Lines.{end_line, mark_word, to_text, act_line, at_line, shared_line};
 ghost use Rattle.loft_sense.specs.Report.{left_line, standing_line};
 
 use super::order_text::{push_order, push_sent_value};
 use super::thread_text::push_thread;
-use loft_base::{EventId, NoMemory, SchedId, ThreadId};
+use loft_base::{EventId, SchedId, ThreadId};
 use loft_sense::{Act, Change, End, Mark, Order, Sent, Standing, Thread, To};
 use loft_text::{
     LineBuffer, push_client_name, push_end, push_event_name, push_id, push_scheduler_name,
@@ -24,69 +25,59 @@ pub trait InOneLine {
     ghost text: { Heads → Self → List ℕ };
 
     /// Makes its line.
-    fn make_line(&self, line: &mut LineBuffer, heads: &Heads) -> Result<(), NoMemory>
-        ensures { OnOk result (line.new ≡ text heads.now self.now) };
+    fn make_line(&self, line: &mut LineBuffer, heads: &Heads)
+        ensures { Holds line.new (text heads.now self.now) };
 }
 
 /// Makes the line of a text alone.
-pub fn make_text_line(line: &mut LineBuffer, text: &str) -> Result<(), NoMemory>
-    ensures { OnOk result (line.new ≡ text.now) }
+pub fn make_text_line(line: &mut LineBuffer, text: &str)
+    ensures { Holds line.new text.now }
 {
     line.clear();
-    line.text(text)
+    line.text(text);
 }
 
 /// Makes the line of a word and a number.
-pub fn make_number_line(line: &mut LineBuffer, word: &str, number: u64) -> Result<(), NoMemory>
-    ensures { OnOk result (line.new ≡ word.now ++ decimal number) }
+pub fn make_number_line(line: &mut LineBuffer, word: &str, number: u64)
+    ensures { Holds line.new (word.now ++ decimal number) }
 {
     line.clear();
-    line.text(word)?;
-    line.number(number)
+    line.text(word);
+    line.number(number);
 }
 
 /// Makes the line of a word and the name of a scheduler.
-pub fn make_scheduler_line(
-    line: &mut LineBuffer,
-    heads: &Heads,
-    word: &str,
-    s: SchedId,
-) -> Result<(), NoMemory>
-    ensures { OnOk result (line.new ≡ word.now ++ scheduler_name heads.now s) }
+pub fn make_scheduler_line(line: &mut LineBuffer, heads: &Heads, word: &str, s: SchedId)
+    ensures { Holds line.new (word.now ++ scheduler_name heads.now s) }
 {
     line.clear();
-    line.text(word)?;
-    push_scheduler_name(line, heads, s)
+    line.text(word);
+    push_scheduler_name(line, heads, s);
 }
 
 /// Makes the line of a client's choice.
-pub fn make_client_line(line: &mut LineBuffer, heads: &Heads, c: u32) -> Result<(), NoMemory>
-    ensures { OnOk result (line.new ≡ codes "client " ++ client_name heads.now c) }
+pub fn make_client_line(line: &mut LineBuffer, heads: &Heads, c: u32)
+    ensures { Holds line.new (codes "client " ++ client_name heads.now c) }
 {
     line.clear();
-    line.text("client ")?;
-    push_client_name(line, heads, c)
+    line.text("client ");
+    push_client_name(line, heads, c);
 }
 
 /// Makes the line of an end.
-pub fn make_end_line(
-    line: &mut LineBuffer,
-    heads: &Heads,
-    thread: ThreadId,
-    end: End,
-) -> Result<(), NoMemory>
-    ensures { OnOk result (line.new ≡ end_line heads.now thread end) }
+pub fn make_end_line(line: &mut LineBuffer, heads: &Heads, thread: ThreadId, end: End)
+    ensures { Holds line.new (end_line heads.now thread end) }
 {
     line.clear();
-    line.text("end ")?;
-    push_id(line, heads, thread)?;
-    line.byte(b' ')?;
-    push_end(line, heads, end)
+    line.text("end ");
+    push_id(line, heads, thread);
+    line.byte(b' ');
+    push_end(line, heads, end);
 }
 
 /// What became of an order.
-fn push_mark(line: &mut LineBuffer, mark: Mark) -> Result<(), NoMemory>
-    ensures { OnOk result (line.new ≡ line.old ++ mark_word mark) }
+fn push_mark(line: &mut LineBuffer, mark: Mark)
+    ensures { Adds line.old line.new (mark_word mark) }
 {
     match mark {
         Mark::Done => line.text("in "),
@@ -96,60 +87,45 @@ fn push_mark(line: &mut LineBuffer, mark: Mark) -> Result<(), NoMemory>
 }
 
 /// Makes the line of an order of a batch.
-pub fn make_order_line(
-    line: &mut LineBuffer,
-    heads: &Heads,
-    mark: Mark,
-    order: &Order,
-) -> Result<(), NoMemory>
-    ensures { OnOk result (line.new ≡ mark_word mark ++ order_text heads.now order.now) }
+pub fn make_order_line(line: &mut LineBuffer, heads: &Heads, mark: Mark, order: &Order)
+    ensures { Holds line.new (mark_word mark ++ order_text heads.now order.now) }
 {
     line.clear();
-    push_mark(line, mark)?;
-    push_order(line, heads, order)
+    push_mark(line, mark);
+    push_order(line, heads, order);
 }
 
 /// Makes the line of an order that is left over at a scheduler.
-pub fn make_left_order_line(
-    line: &mut LineBuffer,
-    heads: &Heads,
-    s: SchedId,
-    order: &Order,
-) -> Result<(), NoMemory>
-    ensures { OnOk result (line.new ≡ left_line heads.now s order.now) }
+pub fn make_left_order_line(line: &mut LineBuffer, heads: &Heads, s: SchedId, order: &Order)
+    ensures { Holds line.new (left_line heads.now s order.now) }
 {
     line.clear();
-    push_scheduler_name(line, heads, s)?;
-    line.byte(b' ')?;
-    push_order(line, heads, order)
+    push_scheduler_name(line, heads, s);
+    line.byte(b' ');
+    push_order(line, heads, order);
 }
 
 /// Where an order goes.
-fn push_to(line: &mut LineBuffer, heads: &Heads, to: To) -> Result<(), NoMemory>
-    ensures { OnOk result (line.new ≡ line.old ++ to_text heads.now to) }
+fn push_to(line: &mut LineBuffer, heads: &Heads, to: To)
+    ensures { Adds line.old line.new (to_text heads.now to) }
 {
     match to {
         To::Sched(s) => push_scheduler_name(line, heads, s),
-        To::Others(_) | To::All => Ok(()),
+        To::Others(_) | To::All => {}
         To::Workers => line.text("unlinked"),
     }
 }
 
 /// Makes the line of a printed line.
-fn make_print_line(
-    line: &mut LineBuffer,
-    heads: &Heads,
-    thread: ThreadId,
-    printed: &[u8],
-) -> Result<(), NoMemory>
-    ensures { OnOk result
-        (line.new ≡ codes "print " ++ (id_text heads.now thread ++ (space ++ printed.now))) }
+fn make_print_line(line: &mut LineBuffer, heads: &Heads, thread: ThreadId, printed: &[u8])
+    ensures { Holds line.new
+        (codes "print " ++ (id_text heads.now thread ++ (space ++ printed.now))) }
 {
     line.clear();
-    line.text("print ")?;
-    push_id(line, heads, thread)?;
-    line.byte(b' ')?;
-    line.bytes(printed)
+    line.text("print ");
+    push_id(line, heads, thread);
+    line.byte(b' ');
+    line.bytes(printed);
 }
 
 /// Makes the line of a generated event.
@@ -159,72 +135,61 @@ fn make_event_line(
     thread: ThreadId,
     event: EventId,
     value: Option<i64>,
-) -> Result<(), NoMemory>
-    ensures { OnOk result
-        (line.new ≡ codes "gen " ++ (id_text heads.now thread
-        ++ (space ++ (event_name heads.now event ++ sent_value value)))) }
+)
+    ensures { Holds line.new
+        (codes "gen " ++ (id_text heads.now thread ++ (space ++ (event_name heads.now event
+        ++ sent_value value)))) }
 {
     line.clear();
-    line.text("gen ")?;
-    push_id(line, heads, thread)?;
-    line.byte(b' ')?;
-    push_event_name(line, heads, event)?;
-    push_sent_value(line, value)
+    line.text("gen ");
+    push_id(line, heads, thread);
+    line.byte(b' ');
+    push_event_name(line, heads, event);
+    push_sent_value(line, value);
 }
 
 /// Makes the line of an order that a thread sent.
-fn make_sent_line(
-    line: &mut LineBuffer,
-    heads: &Heads,
-    thread: ThreadId,
-    sent: &Sent,
-) -> Result<(), NoMemory>
-    ensures { OnOk result
-        (line.new ≡ codes "out " ++ (id_text heads.now thread
-        ++ (space ++ (to_text heads.now sent.now.to ++ (space ++ order_text heads.now sent.now.order))))) }
+fn make_sent_line(line: &mut LineBuffer, heads: &Heads, thread: ThreadId, sent: &Sent)
+    ensures { Holds line.new
+        (codes "out " ++ (id_text heads.now thread ++ (space ++ (to_text heads.now sent.now.to
+        ++ (space ++ order_text heads.now sent.now.order))))) }
 {
     line.clear();
-    line.text("out ")?;
-    push_id(line, heads, thread)?;
-    line.byte(b' ')?;
-    push_to(line, heads, sent.to)?;
-    line.byte(b' ')?;
-    push_order(line, heads, &sent.order)
+    line.text("out ");
+    push_id(line, heads, thread);
+    line.byte(b' ');
+    push_to(line, heads, sent.to);
+    line.byte(b' ');
+    push_order(line, heads, &sent.order);
 }
 
 /// Makes the line of a thread that leaves.
-pub fn make_leaver_line(
-    line: &mut LineBuffer,
-    heads: &Heads,
-    thread: ThreadId,
-    to: To,
-) -> Result<(), NoMemory>
-    ensures { OnOk result
-        (line.new ≡ codes "leave " ++ (id_text heads.now thread ++ (space ++ to_text heads.now to))) }
+pub fn make_leaver_line(line: &mut LineBuffer, heads: &Heads, thread: ThreadId, to: To)
+    ensures { Holds line.new
+        (codes "leave " ++ (id_text heads.now thread ++ (space ++ to_text heads.now to))) }
 {
     line.clear();
-    line.text("leave ")?;
-    push_id(line, heads, thread)?;
-    line.byte(b' ')?;
-    push_to(line, heads, to)
+    line.text("leave ");
+    push_id(line, heads, thread);
+    line.byte(b' ');
+    push_to(line, heads, to);
 }
 
 /// Makes the line of a shared variable with this name.
-pub fn make_value_line(line: &mut LineBuffer, name: &[u8], value: i64) -> Result<(), NoMemory>
-    ensures { OnOk result
-        (line.new ≡ codes "shared " ++ (name.now ++ (space ++ signed_decimal value))) }
+pub fn make_value_line(line: &mut LineBuffer, name: &[u8], value: i64)
+    ensures { Holds line.new (codes "shared " ++ (name.now ++ (space ++ signed_decimal value))) }
 {
     line.clear();
-    line.text("shared ")?;
-    line.bytes(name)?;
-    line.byte(b' ')?;
-    line.signed(value)
+    line.text("shared ");
+    line.bytes(name);
+    line.byte(b' ');
+    line.signed(value);
 }
 
 impl InOneLine for Act {
     ghost text = { act_line };
 
-    fn make_line(&self, line: &mut LineBuffer, heads: &Heads) -> Result<(), NoMemory> {
+    fn make_line(&self, line: &mut LineBuffer, heads: &Heads) {
         match self {
             Act::Print {
                 thread,
@@ -245,35 +210,35 @@ impl InOneLine for Act {
 impl InOneLine for Thread {
     ghost text = { at_line };
 
-    fn make_line(&self, line: &mut LineBuffer, heads: &Heads) -> Result<(), NoMemory> {
+    fn make_line(&self, line: &mut LineBuffer, heads: &Heads) {
         line.clear();
-        line.text("at ")?;
-        push_thread(line, heads, self)
+        line.text("at ");
+        push_thread(line, heads, self);
     }
 }
 
 impl InOneLine for Standing {
     ghost text = { standing_line };
 
-    fn make_line(&self, line: &mut LineBuffer, heads: &Heads) -> Result<(), NoMemory> {
+    fn make_line(&self, line: &mut LineBuffer, heads: &Heads) {
         line.clear();
         line.text(if self.suspended {
             "suspended "
         } else {
             "linked "
-        })?;
-        push_thread(line, heads, &self.thread)
+        });
+        push_thread(line, heads, &self.thread);
     }
 }
 
 impl InOneLine for Change {
     ghost text = { λ h change. shared_line h change.shared change.value };
 
-    fn make_line(&self, line: &mut LineBuffer, heads: &Heads) -> Result<(), NoMemory> {
+    fn make_line(&self, line: &mut LineBuffer, heads: &Heads) {
         line.clear();
-        line.text("shared ")?;
-        push_shared_name(line, heads, self.shared)?;
-        line.byte(b' ')?;
-        line.signed(self.value)
+        line.text("shared ");
+        push_shared_name(line, heads, self.shared);
+        line.byte(b' ');
+        line.signed(self.value);
     }
 }

@@ -1,23 +1,23 @@
 //! The texts of orders: each function appends one to a line.
 
-ghost use Rattle.std.specs.Prelude.{◌≡◌, ◌++◌, OnOk, codes};
+ghost use Rattle.std.specs.Prelude.{◌++◌, codes};
+ghost use Rattle.loft_text.specs.Buffer.{Adds};
 ghost use Rattle.loft_sense.specs.Text.{space, separated, module_name, event_name, id_text, value_text, end_text, sent_value, order_text};
 
 use super::thread_text::push_thread;
-use loft_base::{EventId, ModuleId, NoMemory, ThreadId, Value};
+use loft_base::{EventId, ModuleId, ThreadId, Value};
 use loft_sense::{End, Order};
 use loft_text::{LineBuffer, push_end, push_event_name, push_id, push_module_name, push_separated};
 use loft_tree::Heads;
 
 /// A value after the name of an event, where there is one.
-pub fn push_sent_value(line: &mut LineBuffer, value: Option<i64>) -> Result<(), NoMemory>
-    ensures { OnOk result (line.new ≡ line.old ++ sent_value value) }
+pub fn push_sent_value(line: &mut LineBuffer, value: Option<i64>)
+    ensures { Adds line.old line.new (sent_value value) }
 {
     if let Some(number) = value {
-        line.byte(b' ')?;
-        line.signed(number)?;
+        line.byte(b' ');
+        line.signed(number);
     }
-    Ok(())
 }
 
 /// A create.
@@ -27,36 +27,32 @@ fn push_create(
     thread: ThreadId,
     module: ModuleId,
     args: &[Value],
-) -> Result<(), NoMemory>
-    ensures { OnOk result (line.new ≡ line.old
-        ++ (codes "create " ++ (id_text heads.now thread
-        ++ (space ++ (module_name heads.now «module» ++ (codes "(" ++ (separated (value_text heads.now) args.now ++ codes ")"))))))) }
+)
+    ensures { Adds line.old line.new
+        (codes "create " ++ (id_text heads.now thread ++ (space
+        ++ (module_name heads.now «module» ++ (codes "("
+        ++ (separated (value_text heads.now) args.now ++ codes ")")))))) }
 {
-    line.text("create ")?;
-    push_id(line, heads, thread)?;
-    line.byte(b' ')?;
-    push_module_name(line, heads, module)?;
-    line.byte(b'(')?;
-    push_separated(line, heads, args)?;
-    line.byte(b')')
+    line.text("create ");
+    push_id(line, heads, thread);
+    line.byte(b' ');
+    push_module_name(line, heads, module);
+    line.byte(b'(');
+    push_separated(line, heads, args);
+    line.byte(b')');
 }
 
 /// A word, and the name of a thread.
-fn push_word_and_id(
-    line: &mut LineBuffer,
-    heads: &Heads,
-    word: &str,
-    thread: ThreadId,
-) -> Result<(), NoMemory>
-    ensures { OnOk result (line.new ≡ line.old ++ (word.now ++ id_text heads.now thread)) }
+fn push_word_and_id(line: &mut LineBuffer, heads: &Heads, word: &str, thread: ThreadId)
+    ensures { Adds line.old line.new (word.now ++ id_text heads.now thread) }
 {
-    line.text(word)?;
-    push_id(line, heads, thread)
+    line.text(word);
+    push_id(line, heads, thread);
 }
 
 /// An order.
-pub fn push_order(line: &mut LineBuffer, heads: &Heads, order: &Order) -> Result<(), NoMemory>
-    ensures { OnOk result (line.new ≡ line.old ++ order_text heads.now order.now) }
+pub fn push_order(line: &mut LineBuffer, heads: &Heads, order: &Order)
+    ensures { Adds line.old line.new (order_text heads.now order.now) }
 {
     match order {
         Order::Create {
@@ -65,8 +61,8 @@ pub fn push_order(line: &mut LineBuffer, heads: &Heads, order: &Order) -> Result
             args,
         } => push_create(line, heads, *thread, *module, args.as_slice()),
         Order::Arrive(thread) => {
-            line.text("arrive ")?;
-            push_thread(line, heads, thread.as_thread())
+            line.text("arrive ");
+            push_thread(line, heads, thread.as_thread());
         }
         Order::Stop(thread) => push_word_and_id(line, heads, "stop ", *thread),
         Order::Suspend(thread) => push_word_and_id(line, heads, "suspend ", *thread),
@@ -77,31 +73,21 @@ pub fn push_order(line: &mut LineBuffer, heads: &Heads, order: &Order) -> Result
 }
 
 /// A broadcast.
-fn push_broadcast(
-    line: &mut LineBuffer,
-    heads: &Heads,
-    event: EventId,
-    value: Option<i64>,
-) -> Result<(), NoMemory>
-    ensures { OnOk result (line.new ≡ line.old
-        ++ (codes "broadcast " ++ (event_name heads.now event ++ sent_value value))) }
+fn push_broadcast(line: &mut LineBuffer, heads: &Heads, event: EventId, value: Option<i64>)
+    ensures { Adds line.old line.new
+        (codes "broadcast " ++ (event_name heads.now event ++ sent_value value)) }
 {
-    line.text("broadcast ")?;
-    push_event_name(line, heads, event)?;
-    push_sent_value(line, value)
+    line.text("broadcast ");
+    push_event_name(line, heads, event);
+    push_sent_value(line, value);
 }
 
 /// The order that tells of an end.
-fn push_ended(
-    line: &mut LineBuffer,
-    heads: &Heads,
-    thread: ThreadId,
-    end: End,
-) -> Result<(), NoMemory>
-    ensures { OnOk result (line.new ≡ line.old
-        ++ (codes "ended " ++ (id_text heads.now thread ++ (space ++ end_text heads.now end)))) }
+fn push_ended(line: &mut LineBuffer, heads: &Heads, thread: ThreadId, end: End)
+    ensures { Adds line.old line.new
+        (codes "ended " ++ (id_text heads.now thread ++ (space ++ end_text heads.now end))) }
 {
-    push_word_and_id(line, heads, "ended ", thread)?;
-    line.byte(b' ')?;
-    push_end(line, heads, end)
+    push_word_and_id(line, heads, "ended ", thread);
+    line.byte(b' ');
+    push_end(line, heads, end);
 }

@@ -1,18 +1,19 @@
 //! The texts of waits and threads: each function appends one to a line.
 
-ghost use Rattle.std.specs.Prelude.{◌≡◌, ◌++◌, OnOk, codes};
+ghost use Rattle.std.specs.Prelude.{◌++◌, codes};
 ghost use Rattle.std.specs.Fmt.{signed_decimal};
+ghost use Rattle.loft_text.specs.Buffer.{Adds};
 ghost use Rattle.loft_sense.specs.declared.thread.Wait.TheVariants.{Events};
 ghost use Rattle.loft_sense.specs.Text.{space, colon, id_text, left_text, events_word, wait_text, thread_text};
 
-use loft_base::{EventId, NoMemory, ThreadId};
+use loft_base::{EventId, ThreadId};
 use loft_sense::{Thread, Wait};
 use loft_text::{LineBuffer, push_id, push_separated, push_separated_by};
 use loft_tree::Heads;
 
 /// The instants that are left of a wait, or a sign that there is no number.
-fn push_left(line: &mut LineBuffer, left: Option<i64>) -> Result<(), NoMemory>
-    ensures { OnOk result (line.new ≡ line.old ++ left_text left) }
+fn push_left(line: &mut LineBuffer, left: Option<i64>)
+    ensures { Adds line.old line.new (left_text left) }
 {
     match left {
         Some(number) => line.signed(number),
@@ -21,8 +22,8 @@ fn push_left(line: &mut LineBuffer, left: Option<i64>) -> Result<(), NoMemory>
 }
 
 /// The word of a wait for an event and for these others.
-fn push_events_word(line: &mut LineBuffer, others: &[EventId]) -> Result<(), NoMemory>
-    ensures { OnOk result (line.new ≡ line.old ++ events_word others.now) }
+fn push_events_word(line: &mut LineBuffer, others: &[EventId])
+    ensures { Adds line.old line.new (events_word others.now) }
 {
     match others {
         [] => line.text("await:"),
@@ -31,51 +32,41 @@ fn push_events_word(line: &mut LineBuffer, others: &[EventId]) -> Result<(), NoM
 }
 
 /// A wait for events.
-fn push_events(
-    line: &mut LineBuffer,
-    heads: &Heads,
-    events: &[EventId],
-    left: Option<i64>,
-) -> Result<(), NoMemory>
-    ensures { OnOk result (line.new ≡ line.old ++ wait_text heads.now (Events events.now left)) }
+fn push_events(line: &mut LineBuffer, heads: &Heads, events: &[EventId], left: Option<i64>)
+    ensures { Adds line.old line.new (wait_text heads.now (Events events.now left)) }
 {
     let [_, others @ ..] = events else {
-        return Ok(());
+        return;
     };
-    push_events_word(line, others)?;
-    push_left(line, left)?;
-    line.byte(b':')?;
-    push_separated(line, heads, events)
+    push_events_word(line, others);
+    push_left(line, left);
+    line.byte(b':');
+    push_separated(line, heads, events);
 }
 
 /// A wait for the end of a thread.
-fn push_join(
-    line: &mut LineBuffer,
-    heads: &Heads,
-    thread: ThreadId,
-    left: Option<i64>,
-) -> Result<(), NoMemory>
-    ensures { OnOk result (line.new ≡ line.old
-        ++ (codes "join:" ++ (left_text left ++ (colon ++ id_text heads.now thread)))) }
+fn push_join(line: &mut LineBuffer, heads: &Heads, thread: ThreadId, left: Option<i64>)
+    ensures { Adds line.old line.new
+        (codes "join:" ++ (left_text left ++ (colon ++ id_text heads.now thread))) }
 {
-    line.text("join:")?;
-    push_left(line, left)?;
-    line.byte(b':')?;
-    push_id(line, heads, thread)
+    line.text("join:");
+    push_left(line, left);
+    line.byte(b':');
+    push_id(line, heads, thread);
 }
 
 /// What a thread waits for.
-fn push_wait(line: &mut LineBuffer, heads: &Heads, wait: &Wait) -> Result<(), NoMemory>
-    ensures { OnOk result (line.new ≡ line.old ++ wait_text heads.now wait.now) }
+fn push_wait(line: &mut LineBuffer, heads: &Heads, wait: &Wait)
+    ensures { Adds line.old line.new (wait_text heads.now wait.now) }
 {
     match wait {
         Wait::New => line.text("new"),
         Wait::Coop(left) => {
-            line.text("coop:")?;
-            line.signed(*left)
+            line.text("coop:");
+            line.signed(*left);
         }
         Wait::Events { events, left } => push_events(line, heads, events.as_slice(), *left),
-        Wait::Index { .. } => Ok(()),
+        Wait::Index { .. } => {}
         Wait::Next => line.text("next"),
         Wait::Join { thread, left } => push_join(line, heads, *thread, *left),
         Wait::Halt => line.text("halt"),
@@ -83,24 +74,24 @@ fn push_wait(line: &mut LineBuffer, heads: &Heads, wait: &Wait) -> Result<(), No
 }
 
 /// A thread that waits.
-pub fn push_thread(line: &mut LineBuffer, heads: &Heads, thread: &Thread) -> Result<(), NoMemory>
-    ensures { OnOk result (line.new ≡ line.old ++ thread_text heads.now thread.now) }
+pub fn push_thread(line: &mut LineBuffer, heads: &Heads, thread: &Thread)
+    ensures { Adds line.old line.new (thread_text heads.now thread.now) }
 {
-    push_id(line, heads, thread.id)?;
-    push_code_and_mask(line, thread.code, thread.mask)?;
-    line.byte(b' ')?;
-    push_wait(line, heads, &thread.wait)?;
-    line.byte(b' ')?;
-    push_separated_by(line, heads, " ", thread.frames.as_slice())
+    push_id(line, heads, thread.id);
+    push_code_and_mask(line, thread.code, thread.mask);
+    line.byte(b' ');
+    push_wait(line, heads, &thread.wait);
+    line.byte(b' ');
+    push_separated_by(line, heads, " ", thread.frames.as_slice());
 }
 
 /// The last code and mask of a thread, each after a blank.
-fn push_code_and_mask(line: &mut LineBuffer, code: i64, mask: i64) -> Result<(), NoMemory>
-    ensures { OnOk result (line.new ≡ line.old
-        ++ (space ++ (signed_decimal code ++ (space ++ signed_decimal mask)))) }
+fn push_code_and_mask(line: &mut LineBuffer, code: i64, mask: i64)
+    ensures { Adds line.old line.new
+        (space ++ (signed_decimal code ++ (space ++ signed_decimal mask))) }
 {
-    line.byte(b' ')?;
-    line.signed(code)?;
-    line.byte(b' ')?;
-    line.signed(mask)
+    line.byte(b' ');
+    line.signed(code);
+    line.byte(b' ');
+    line.signed(mask);
 }

@@ -1,22 +1,15 @@
 use Rattle.std.proofs.Common.{◌≡◌, map, Err, refl, ap}
 use Rattle.std.proofs.lemmas.Result.{err_from_is_err_and}
-use Rattle.loft_base.specs.declared.writing.WriteError.TheVariants.{NoMemory}
 use Rattle.loft_log.proofs.LineLemmas.{drop-at}
-use Rattle.loft_base.proofs.WritesLemmas.{goes_on, fails, lacks_memory, rest_is}
+use Rattle.loft_base.proofs.WritesLemmas.{goes_on, fails, rest_is}
 use Rattle.loft_sense.specs.Lines.{text_of}
 use Rattle.loft_log.proofs.report.ReportWriter.write_lines.Goals as goal
 
-pub returns-in_err-make_line : goal.returns-in_err-make_line
-returns-in_err-make_line g c =
-    let p = err_from_is_err_and c.from_residual.result c.from_residual.ensures.1 in
-    let is : c.from_residual.result ≡ Err NoMemory = rw (p.1, p.2) refl in
-    lacks_memory is c.loop-item.invariant
-
 pub returns-in_err-write_line : goal.returns-in_err-write_line
 returns-in_err-write_line g c =
-    let p = err_from_is_err_and c.from_residual-in_err-write_line.result c.from_residual-in_err-write_line.ensures.1 in
-    let is : c.from_residual-in_err-write_line.result ≡ Err c.in_err-write_line.field-0.0 = rw (p.1, p.2) refl in
-    fails _ is (rw c.in_ok-make_line.ensures at c.in_err-write_line.ensures) (rest_is (ap (λ items. text_of (map (g.T.InOneLine.text c.args.self.now.heads.now) items)) (drop-at c.args.items.now c.loop-item.item-index c.item-item.result c.loop-item-test.true c.item-item.is)) c.loop-item.invariant)
+    let p = err_from_is_err_and c.from_residual.result c.from_residual.ensures.1 in
+    let is : c.from_residual.result ≡ Err c.in_err-write_line.field-0.0 = rw (p.1, p.2) refl in
+    fails _ is (c.in_err-write_line.ensures _ c.make_line.ensures) (rest_is (ap (λ items. text_of (map (g.T.InOneLine.text c.args.self.now.heads.now) items)) (drop-at c.args.items.now c.loop-item.item-index c.item-item.result c.loop-item-test.true c.item-item.is)) c.loop-item.invariant)
 
 pub loop-item-preserved : goal.loop-item-preserved
-loop-item-preserved g c = goes_on _ (rw c.in_ok-make_line.ensures at c.in_ok-write_line.ensures) (rest_is (ap (λ items. text_of (map (g.T.InOneLine.text c.args.self.now.heads.now) items)) (drop-at c.args.items.now c.loop-item.item-index c.item-item.result c.loop-item-test.true c.item-item.is)) c.loop-item.invariant)
+loop-item-preserved g c = goes_on _ (c.in_ok-write_line.ensures _ c.make_line.ensures) (rest_is (ap (λ items. text_of (map (g.T.InOneLine.text c.args.self.now.heads.now) items)) (drop-at c.args.items.now c.loop-item.item-index c.item-item.result c.loop-item-test.true c.item-item.is)) c.loop-item.invariant)
