@@ -7,7 +7,7 @@ use Rattle.loft_grammar.specs.Symbols.{text, bytes_of}
 use Rattle.loft_grammar.specs.View.{symbols_at, state_at}
 use Rattle.loft_grammar.proofs.Leaves.{counting_is}
 use Rattle.loft_grammar.proofs.Firsts.{no_symbol, stopped_counting, read_counting}
-use Rattle.loft_grammar.proofs.token.text.Goals as goal
+use Rattle.loft_grammar.proofs.token.text_at.Goals as goal
 
 pub returns-in-empty : goal.returns-in-empty
 returns-in-empty g c = counting_is _ None text (symbols_at c.args.at) (state_at c.args.at) ∙ no_symbol _ _ _ _ _ _ c.in-empty.len_below
