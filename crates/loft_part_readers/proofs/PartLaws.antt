@@ -1,5 +1,5 @@
 -- What is read of a text by a form is what the text spells, both ways.
-use Rattle.std.proofs.Common.{◌≡◌, ℕ, List, [], ◌∷◌, map, Option, Some, None, Result, Ok, Err, refl, sym, ap, subst, ◌∙◌}
+use Rattle.std.proofs.Common.{◌≡◌, ℕ, List, [], ◌∷◌, map, Option, Some, None, Result, Ok, Err, ◌⊎◌, inl, inr, refl, sym, ap, subst, ◌∙◌}
 use Rattle.std.specs.Prelude.{IfOk, IfSome}
 use Rattle.std.specs.Option.{option_map}
 use Rattle.loft_base.specs.declared.errors.NoMemory.{NoMemory}
@@ -17,17 +17,19 @@ use Rattle.loft_form.specs.declared.stop.Stop.{Stop}
 use Rattle.loft_form.specs.declared.stop.Stop.TheVariants as stop
 use Rattle.loft_form.specs.Form.{Limits}
 use Rattle.loft_form.specs.Faults.{SpellsWhole}
-use Rattle.loft_form.specs.Reading.{read, with_rest, all_of, Gives}
+use Rattle.loft_form.specs.Reading.{Read, read, with_rest, all_of, Gives}
 use Rattle.loft_form.proofs.Checked.{Checked}
 use Rattle.loft_form.proofs.Whole.{whole_found, spelled_whole}
 use Rattle.loft_grammar.specs.declared.cursor.Cursor.{Cursor}
+use Rattle.loft_grammar.specs.declared.reader.Reader.{Reader}
 use Rattle.loft_grammar.specs.Language.{Language}
 use Rattle.loft_grammar.specs.Symbols.{Form}
 use Rattle.loft_grammar.specs.Statements.{rules}
 use Rattle.loft_grammar.specs.Limits.{nesting, beginning}
 use Rattle.loft_grammar.specs.Texts.{SpellsPart}
-use Rattle.loft_parse.specs.Parts.{IsCut, unless_more, ComesOf}
-use Rattle.loft_grammar.specs.View.{symbols_at, state_at, reads, viewed}
+use Rattle.loft_part_readers.specs.Parts.{IsCut, unless_more, ComesOf, outcome}
+use Rattle.loft_grammar.specs.Readers.{Takes}
+use Rattle.loft_grammar.specs.View.{symbols_at, state_at, place_of, reads, viewed}
 use Rattle.loft_parts.proofs.Checked.{known}
 use Rattle.loft_parts.proofs.fits.Counting.{none_within}
 use Rattle.loft_parts.proofs.fits.Parts as fits
@@ -58,6 +60,21 @@ comes_is view lim f ss (Ok x) result gives comes =
 comes_is view lim f ss (Err (stop.Fault e)) result gives comes = found_as view result None _ (ap (λ q. good (all_of q)) (sym gives)) comes
 comes_is view lim f ss (Err stop.NoMemory) (Ok found) gives comes = absurd cc
 comes_is view lim f ss (Err stop.NoMemory) (Err e) gives comes = tt
+
+-- what a reader has taken
+pub taken : {A X : Type 0} (view : X → A) (first at : Reader) (x : X) (found : Read Language A) → first.stopped ≡ None → Takes first at (view x) found → Gives (viewed view) (outcome at.stopped x at.cursor) found
+taken view first at x found going takes = each at.stopped takes.0 takes.1
+  where
+    fault_is : (f : Fault) {P : Type 0} → (first.stopped ≡ Some (stop.Fault f)) ⊎ ((first.stopped ≡ None) × P) → P
+    fault_is f (inl e) = absurd (let g : None ≡ Some (stop.Fault f) = sym going ∙ e in cc)
+    fault_is f (inr p) = p.1
+
+    each : (o : Option Stop) → (o ≡ None → (first.stopped ≡ None) × (found ≡ Ok (view x, place_of at.cursor)))
+        → ((f : Fault) → o ≡ Some (stop.Fault f) → (first.stopped ≡ Some (stop.Fault f)) ⊎ ((first.stopped ≡ None) × (found ≡ Err f)))
+        → Gives (viewed view) (outcome o x at.cursor) found
+    each None p q = (p refl).1
+    each (Some stop.NoMemory) p q = tt
+    each (Some (stop.Fault f)) p q = fault_is f (q f refl)
 
 -- at the cursor before all of the symbols
 pub started : {A X : Type 0} (view : X → A) (lim : Limits Language) (n : ℕ) (f : Form A) (at : Cursor) (ss : List Symbol) (r : Result (X × Cursor) Stop)

@@ -1,6 +1,6 @@
 //! Reading a part of a source that is a text by itself.
 
-ghost use Rattle.std.specs.Prelude.{◌≡◌, ◌≤◌, Some, IfOk, IfSome, length};
+ghost use Rattle.std.specs.Prelude.{◌≡◌, ◌≤◌, Some, None, IfOk, IfSome, length};
 ghost use Rattle.std.specs.Option.{option_map};
 ghost use Rattle.loft_lex.specs.TextSymbols.{symbols_seen};
 ghost use Rattle.loft_tree.specs.Source.{Expression, Statement, Named, ModuleHead as Head, Order, Declaration};
@@ -12,12 +12,12 @@ ghost use Rattle.loft_grammar.specs.Statements.{statement};
 ghost use Rattle.loft_grammar.specs.Items.{head, local, order, item};
 ghost use Rattle.loft_grammar.specs.Texts.{SpellsPart};
 ghost use Rattle.loft_grammar.specs.PartsFit.{NamedFits, HeadFits, LineFits};
-ghost use Rattle.loft_parse.specs.Parts.{IsCut, ComesOf};
+ghost use Rattle.loft_part_readers.specs.Parts.{IsCut, ComesOf, outcome};
 ghost use Rattle.loft_grammar.specs.View.{symbols_at, state_at};
 
 use loft_base::NoMemory;
 use loft_form::Stop;
-use loft_grammar::{Counts, Cursor, LineLimits, SourceLimits};
+use loft_grammar::{LineLimits, Reader, SourceLimits};
 use loft_lex::{LexError, MAX_TEXT_LEN, Symbol, read_symbols};
 use loft_parts::body::statement;
 use loft_parts::expression::whole;
@@ -46,25 +46,26 @@ fn symbols_of<'a>(alloc: Global, text: &'a [u8]) -> Result<Option<Vec<Symbol<'a>
     }
 }
 
-/// The cursor before these symbols, where nothing is counted.
-fn start<'a>(symbols: &'a [Symbol<'a>]) -> Cursor<'a>
-    ensures symbols { symbols_at result ≡ symbols_seen symbols.entry.now }
-    ensures state { state_at result ≡ beginning }
+/// The reader before these symbols, where nothing is counted.
+fn start<'a>(alloc: Global, symbols: &'a [Symbol<'a>]) -> Reader<'a>
+    ensures symbols { symbols_at result.cursor ≡ symbols_seen symbols.entry.now }
+    ensures state { state_at result.cursor ≡ beginning }
+    ensures going { result.stopped ≡ None }
 {
-    Cursor::after(symbols, Counts::none())
+    Reader::new(alloc, symbols)
 }
 
 /// What was read, if no symbol is left.
-fn all_of<'a, T: Drop>(read: Result<(T, Cursor<'a>), Stop>) -> Result<Option<T>, NoMemory>
-    ensures { ComesOf read.entry result }
+fn all_of<'a, T: Drop>(part: T, at: Reader<'a>) -> Result<Option<T>, NoMemory>
+    ensures { ComesOf (outcome at.entry.stopped part at.entry.cursor) result }
 {
-    match read {
-        Ok((part, at)) => match at.symbols {
+    match &at.stopped {
+        None => match at.cursor.symbols {
             [] => Ok(Some(part)),
             _ => Ok(None),
         },
-        Err(Stop::Fault(_)) => Ok(None),
-        Err(Stop::NoMemory) => Err(NoMemory),
+        Some(Stop::Fault(_)) => Ok(None),
+        Some(Stop::NoMemory) => Err(NoMemory),
     }
 }
 
@@ -83,7 +84,11 @@ pub fn read_statement(alloc: Global, text: &[u8]) -> Result<Option<Stmt>, NoMemo
     ensures fits { IfOk result (λ found. IfSome found (λ v. LineFits (statement_of v))) }
 {
     match symbols_of(alloc, text)? {
-        Some(found) => all_of(statement::<LineLimits>(alloc, NESTING, start(found.as_slice()))),
+        Some(found) => {
+            let mut at = start(alloc, found.as_slice());
+            let part = statement::<LineLimits>(NESTING, &mut at);
+            all_of(part, at)
+        }
         None => Ok(None),
     }
 }
@@ -104,7 +109,11 @@ pub fn read_expression(alloc: Global, text: &[u8]) -> Result<Option<Expr>, NoMem
         ExpressionFits nesting (expression_of v))) }
 {
     match symbols_of(alloc, text)? {
-        Some(found) => all_of(whole::<SourceLimits>(alloc, NESTING, start(found.as_slice()))),
+        Some(found) => {
+            let mut at = start(alloc, found.as_slice());
+            let part = whole::<SourceLimits>(NESTING, &mut at);
+            all_of(part, at)
+        }
         None => Ok(None),
     }
 }
@@ -124,7 +133,11 @@ pub fn read_declaration(alloc: Global, text: &[u8]) -> Result<Option<Item>, NoMe
     ensures fits { IfOk result (λ found. IfSome found (λ v. DeclarationFits (declaration_of v))) }
 {
     match symbols_of(alloc, text)? {
-        Some(found) => all_of(item(alloc, start(found.as_slice()))),
+        Some(found) => {
+            let mut at = start(alloc, found.as_slice());
+            let part = item(&mut at);
+            all_of(part, at)
+        }
         None => Ok(None),
     }
 }
@@ -144,7 +157,11 @@ pub fn read_head(alloc: Global, text: &[u8]) -> Result<Option<ModuleHead>, NoMem
     ensures fits { IfOk result (λ found. IfSome found (λ v. HeadFits (head_of v))) }
 {
     match symbols_of(alloc, text)? {
-        Some(found) => all_of(head(alloc, start(found.as_slice()))),
+        Some(found) => {
+            let mut at = start(alloc, found.as_slice());
+            let part = head(&mut at);
+            all_of(part, at)
+        }
         None => Ok(None),
     }
 }
@@ -164,7 +181,11 @@ pub fn read_local(alloc: Global, text: &[u8]) -> Result<Option<Variable>, NoMemo
     ensures fits { IfOk result (λ found. IfSome found (λ v. NamedFits (named_of v))) }
 {
     match symbols_of(alloc, text)? {
-        Some(found) => all_of(local(alloc, start(found.as_slice()))),
+        Some(found) => {
+            let mut at = start(alloc, found.as_slice());
+            let part = local(&mut at);
+            all_of(part, at)
+        }
         None => Ok(None),
     }
 }
@@ -184,7 +205,11 @@ pub fn read_order(alloc: Global, text: &[u8]) -> Result<Option<OutsideOrder>, No
     ensures fits { IfOk result (λ found. IfSome found (λ v. OrderFits (order_of v))) }
 {
     match symbols_of(alloc, text)? {
-        Some(found) => all_of(order(alloc, start(found.as_slice()))),
+        Some(found) => {
+            let mut at = start(alloc, found.as_slice());
+            let part = order(&mut at);
+            all_of(part, at)
+        }
         None => Ok(None),
     }
 }

@@ -27,3 +27,8 @@ abbrev pub ComesOf : {X : Type 0} → Result (X × Cursor) Stop → Result (Opti
 ComesOf (Ok x) result = IfOk result (λ found. found ≡ unless_more x.0 x.1.symbols.now)
 ComesOf (Err (stop.Fault f)) result = IfOk result (λ found. found ≡ None)
 ComesOf (Err stop.NoMemory) result = IsErr result
+
+-- what reading a part gave: where the reader stands, or why it stopped
+abbrev pub outcome : {X : Type 0} → Option Stop → X → Cursor → Result (X × Cursor) Stop
+outcome None x at = Ok (x, at)
+outcome (Some e) x at = Err e
