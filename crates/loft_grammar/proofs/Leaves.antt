@@ -67,3 +67,8 @@ pub uncounted_without_place : (lim : Limits Language) (too_deep : Bool) (test : 
 uncounted_without_place lim too_deep test ss c =
     without_place lim too_deep test ss c
     ∙ ap (λ (due : List Counted). unplaced (leaf_at lim too_deep test (λ x. x.at) ss (record { counts = c.counts; due = due }))) (sym (append-nil c.due))
+
+-- nothing more is counted
+pub uncounted : {A : Type 0} (lim : Limits Language) (too_deep : Bool) (test : Kind → Bool) (value : Symbol → A) (ss : List Symbol) (c : State Language) → leaf_at lim too_deep test value ss c ≡ leaf_at lim too_deep test value ss (owed None c)
+uncounted lim too_deep test value ss c =
+    ap (λ (due : List Counted). leaf_at lim too_deep test value ss (record { counts = c.counts; due = due })) (sym (append-nil c.due))

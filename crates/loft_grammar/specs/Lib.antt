@@ -10,3 +10,4 @@ pub mod Limits
 pub mod Texts
 pub mod PartsFit
 pub mod View
+pub mod Readers

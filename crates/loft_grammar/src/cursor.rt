@@ -1,7 +1,6 @@
 //! Where a reader stands.
 
-ghost use Rattle.std.specs.Prelude.{◌≡◌, None, Some};
-ghost use Rattle.loft_grammar.specs.Counts.{put};
+ghost use Rattle.std.specs.Prelude.{◌≡◌, None};
 
 use crate::counts::{Counted, Counts};
 use loft_lex::Symbol;
@@ -26,26 +25,6 @@ impl<'a> Cursor<'a> {
             symbols,
             counts,
             due: None,
-        }
-    }
-
-    /// The cursor where these are counted from 0.
-    pub fn anew(self, what: Counted) -> Cursor<'a>
-        ensures { result ≡ record self.entry { counts = put what 0 self.entry.counts } }
-    {
-        Cursor {
-            counts: self.counts.without(what),
-            ..self
-        }
-    }
-
-    /// The cursor where the next symbol counts as one more of these.
-    pub fn owing(self, what: Counted) -> Cursor<'a>
-        ensures { result ≡ record self.entry { due = Some what } }
-    {
-        Cursor {
-            due: Some(what),
-            ..self
         }
     }
 }

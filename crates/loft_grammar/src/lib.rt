@@ -6,9 +6,11 @@ mod cursor;
 mod limited;
 pub mod lookahead;
 pub mod operator;
+mod reader;
 mod symbol;
 pub mod token;
 
 pub use counts::{Counted, Counts};
 pub use cursor::Cursor;
 pub use limited::{Limited, LineLimits, SourceLimits};
+pub use reader::Reader;

@@ -1,16 +1,15 @@
 //! Reading operators between two operands.
 
 ghost use Rattle.loft_form.specs.Form.{◌∣◌};
-ghost use Rattle.loft_form.specs.Reading.{Gives};
 ghost use Rattle.loft_grammar.specs.Expressions.{operator, multiplying, adding, equality, ordering};
 ghost use Rattle.loft_grammar.specs.Levels.{operator_at};
-ghost use Rattle.loft_grammar.specs.View.{reads_flat, itself};
+ghost use Rattle.loft_grammar.specs.Readers.{Takes};
+ghost use Rattle.loft_grammar.specs.View.{reads_flat};
 
-use crate::cursor::Cursor;
 use crate::limited::Limited;
 use crate::lookahead::{next_equality, next_is_sign};
+use crate::reader::Reader;
 use crate::token::sign;
-use loft_form::Stop;
 use loft_lex::Sign;
 use loft_tree::BinaryOperator;
 
@@ -31,30 +30,30 @@ pub enum Level {
 fn operator<'a, L: Limited>(
     wanted: Sign,
     meaning: BinaryOperator,
-    at: Cursor<'a>,
-) -> Result<(BinaryOperator, Cursor<'a>), Stop>
-    ensures { Gives itself result (reads_flat L.limits (operator wanted meaning) at.entry) }
+    at: &mut Reader<'a>,
+) -> BinaryOperator
+    ensures { Takes at.old at.new result (reads_flat L.limits (operator wanted meaning) at.old.cursor) }
 {
-    let at = sign::<L>(wanted, at)?;
-    Ok((meaning, at))
+    sign::<L>(wanted, at);
+    meaning
 }
 
-fn multiplying<'a, L: Limited>(at: Cursor<'a>) -> Result<(BinaryOperator, Cursor<'a>), Stop>
-    ensures { Gives itself result (reads_flat L.limits multiplying at.entry) }
+fn multiplying<'a, L: Limited>(at: &mut Reader<'a>) -> BinaryOperator
+    ensures { Takes at.old at.new result (reads_flat L.limits multiplying at.old.cursor) }
 {
-    if next_is_sign(Sign::Star, &at) {
+    if next_is_sign(Sign::Star, &at.cursor) {
         operator::<L>(Sign::Star, BinaryOperator::Times, at)
-    } else if next_is_sign(Sign::Slash, &at) {
+    } else if next_is_sign(Sign::Slash, &at.cursor) {
         operator::<L>(Sign::Slash, BinaryOperator::Divide, at)
     } else {
         operator::<L>(Sign::Percent, BinaryOperator::Remainder, at)
     }
 }
 
-fn adding<'a, L: Limited>(at: Cursor<'a>) -> Result<(BinaryOperator, Cursor<'a>), Stop>
-    ensures { Gives itself result (reads_flat L.limits adding at.entry) }
+fn adding<'a, L: Limited>(at: &mut Reader<'a>) -> BinaryOperator
+    ensures { Takes at.old at.new result (reads_flat L.limits adding at.old.cursor) }
 {
-    if next_is_sign(Sign::Plus, &at) {
+    if next_is_sign(Sign::Plus, &at.cursor) {
         operator::<L>(Sign::Plus, BinaryOperator::Plus, at)
     } else {
         operator::<L>(Sign::Minus, BinaryOperator::Minus, at)
@@ -62,10 +61,10 @@ fn adding<'a, L: Limited>(at: Cursor<'a>) -> Result<(BinaryOperator, Cursor<'a>)
 }
 
 #[tactic(auto, unfolding(crate::specs::Expressions::equality))]
-fn equality<'a, L: Limited>(at: Cursor<'a>) -> Result<(BinaryOperator, Cursor<'a>), Stop>
-    ensures { Gives itself result (reads_flat L.limits equality at.entry) }
+fn equality<'a, L: Limited>(at: &mut Reader<'a>) -> BinaryOperator
+    ensures { Takes at.old at.new result (reads_flat L.limits equality at.old.cursor) }
 {
-    if next_is_sign(Sign::Same, &at) {
+    if next_is_sign(Sign::Same, &at.cursor) {
         operator::<L>(Sign::Same, BinaryOperator::Equal, at)
     } else {
         operator::<L>(Sign::Differs, BinaryOperator::Unequal, at)
@@ -73,14 +72,14 @@ fn equality<'a, L: Limited>(at: Cursor<'a>) -> Result<(BinaryOperator, Cursor<'a
 }
 
 #[tactic(auto, unfolding(crate::specs::Expressions::ordering))]
-fn ordering<'a, L: Limited>(at: Cursor<'a>) -> Result<(BinaryOperator, Cursor<'a>), Stop>
-    ensures { Gives itself result (reads_flat L.limits ordering at.entry) }
+fn ordering<'a, L: Limited>(at: &mut Reader<'a>) -> BinaryOperator
+    ensures { Takes at.old at.new result (reads_flat L.limits ordering at.old.cursor) }
 {
-    if next_is_sign(Sign::Less, &at) {
+    if next_is_sign(Sign::Less, &at.cursor) {
         operator::<L>(Sign::Less, BinaryOperator::Less, at)
-    } else if next_is_sign(Sign::LessOrSame, &at) {
+    } else if next_is_sign(Sign::LessOrSame, &at.cursor) {
         operator::<L>(Sign::LessOrSame, BinaryOperator::LessOrEqual, at)
-    } else if next_is_sign(Sign::Greater, &at) {
+    } else if next_is_sign(Sign::Greater, &at.cursor) {
         operator::<L>(Sign::Greater, BinaryOperator::Greater, at)
     } else {
         operator::<L>(Sign::GreaterOrSame, BinaryOperator::GreaterOrEqual, at)
@@ -89,10 +88,10 @@ fn ordering<'a, L: Limited>(at: Cursor<'a>) -> Result<(BinaryOperator, Cursor<'a
 
 /// Reads an operator that compares.
 #[tactic(auto, unfolding(crate::specs::Expressions::equality, crate::specs::Expressions::ordering))]
-pub fn comparing<'a, L: Limited>(at: Cursor<'a>) -> Result<(BinaryOperator, Cursor<'a>), Stop>
-    ensures { Gives itself result (reads_flat L.limits (equality ∣ ordering) at.entry) }
+pub fn comparing<'a, L: Limited>(at: &mut Reader<'a>) -> BinaryOperator
+    ensures { Takes at.old at.new result (reads_flat L.limits (equality ∣ ordering) at.old.cursor) }
 {
-    if next_equality(&at) {
+    if next_equality(&at.cursor) {
         equality::<L>(at)
     } else {
         ordering::<L>(at)
@@ -100,11 +99,8 @@ pub fn comparing<'a, L: Limited>(at: Cursor<'a>) -> Result<(BinaryOperator, Curs
 }
 
 /// Reads an operator of the level.
-pub fn operator_at<'a, L: Limited>(
-    level: Level,
-    at: Cursor<'a>,
-) -> Result<(BinaryOperator, Cursor<'a>), Stop>
-    ensures { Gives itself result (reads_flat L.limits (operator_at level) at.entry) }
+pub fn operator_at<'a, L: Limited>(level: Level, at: &mut Reader<'a>) -> BinaryOperator
+    ensures { Takes at.old at.new result (reads_flat L.limits (operator_at level) at.old.cursor) }
 {
     match level {
         Level::Product => multiplying::<L>(at),

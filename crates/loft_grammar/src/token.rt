@@ -5,11 +5,13 @@ ghost use Rattle.loft_form.specs.Reading.{Gives, tally, leaf_at};
 ghost use Rattle.loft_grammar.specs.Language.{is_word, is_sign};
 ghost use Rattle.loft_grammar.specs.Symbols.{word, sign, sign_place, word_place, opening_sign, first_word, counting, name, numeral, text};
 ghost use Rattle.loft_grammar.specs.Statements.{opens_with};
-ghost use Rattle.loft_grammar.specs.View.{symbols_at, state_at, due_of, owed, reads, reads_flat, itself, mark_view};
+ghost use Rattle.loft_grammar.specs.Readers.{Takes};
+ghost use Rattle.loft_grammar.specs.View.{symbols_at, state_at, due_of, owed, reads, reads_flat, itself};
 
 use crate::counts::{Counted, Counts};
 use crate::cursor::Cursor;
 use crate::limited::Limited;
+use crate::reader::Reader;
 use crate::symbol::{is_sign, is_word};
 use loft_form::{Fault, Stop};
 use loft_lex::{Sign, What, Word};
@@ -115,92 +117,10 @@ fn sign_at<'a, L: Limited>(
     }
 }
 
-/// Reads the word.
-#[tactic(auto, using(crate::proofs::Leaves::counting_is, crate::proofs::Leaves::without_place))]
-pub fn counted_word<'a, L: Limited>(
-    what: Option<Counted>,
-    wanted: Word,
-    at: Cursor<'a>,
-) -> Result<Cursor<'a>, Stop>
-    ensures { Gives mark_view result (reads_flat L.limits (counting what (word wanted)) at.entry) }
-{
-    let (_, at) = word_at::<L>(wanted, false, what, at)?;
-    Ok(at)
-}
-
-/// Reads the word.
-pub fn word<'a, L: Limited>(wanted: Word, at: Cursor<'a>) -> Result<Cursor<'a>, Stop>
-    ensures { Gives mark_view result (reads_flat L.limits (word wanted) at.entry) }
-{
-    counted_word::<L>(None, wanted, at)
-}
-
-/// Reads the word, which isn't counted, with its place.
-#[tactic(auto, using(crate::proofs::Leaves::counting_is))]
-pub fn word_place<'a, L: Limited>(wanted: Word, at: Cursor<'a>) -> Result<(u32, Cursor<'a>), Stop>
-    ensures { Gives itself result (reads_flat L.limits (word_place wanted) at.entry) }
-{
-    word_at::<L>(wanted, false, None, at)
-}
-
-/// Reads the word, which begins one more of these, with its place.
-pub fn first_word<'a, L: Limited>(
-    what: Counted,
-    wanted: Word,
-    at: Cursor<'a>,
-) -> Result<(u32, Cursor<'a>), Stop>
-    ensures { Gives itself result (reads_flat L.limits (first_word what wanted) at.entry) }
-{
-    word_at::<L>(wanted, false, Some(what), at)
-}
-
-/// Reads the word of a statement that opens a nesting, where so many may still be opened, with its place.
-pub fn opening_word<'a, L: Limited>(
-    deeper: u32,
-    wanted: Word,
-    at: Cursor<'a>,
-) -> Result<(u32, Cursor<'a>), Stop>
-    ensures within { OnOk result (0 < deeper) }
-    ensures gives { Gives itself result (reads L.limits deeper (opens_with wanted) at.entry) }
-{
-    word_at::<L>(wanted, deeper == 0, Some(Counted::Statement), at)
-}
-
-/// Reads the sign.
-#[tactic(auto, using(crate::proofs::Leaves::uncounted_without_place))]
-pub fn sign<'a, L: Limited>(wanted: Sign, at: Cursor<'a>) -> Result<Cursor<'a>, Stop>
-    ensures settled { IfOk result (λ next. next.due ≡ None) }
-    ensures gives { Gives mark_view result (reads_flat L.limits (sign wanted) at.entry) }
-{
-    let (_, at) = sign_at::<L>(wanted, false, at)?;
-    Ok(at)
-}
-
-/// Reads the sign, with its place.
-#[tactic(auto, using(crate::proofs::Leaves::counting_is))]
-pub fn sign_place<'a, L: Limited>(wanted: Sign, at: Cursor<'a>) -> Result<(u32, Cursor<'a>), Stop>
-    ensures { Gives itself result (reads_flat L.limits (sign_place wanted) at.entry) }
-{
-    sign_at::<L>(wanted, false, at)
-}
-
-/// Reads the sign, which opens a nesting where so many may still be opened, with its place.
-#[tactic(auto, using(crate::proofs::Leaves::counting_is))]
-pub fn opening_sign<'a, L: Limited>(
-    deeper: u32,
-    wanted: Sign,
-    at: Cursor<'a>,
-) -> Result<(u32, Cursor<'a>), Stop>
-    ensures within { OnOk result (0 < deeper) }
-    ensures gives { Gives itself result (reads L.limits deeper (opening_sign wanted) at.entry) }
-{
-    sign_at::<L>(wanted, deeper == 0, at)
-}
-
-/// Reads a name.
+/// Reads a name from here.
 #[tactic(auto, unfolding(loft_form::specs::Reading::leaf_at), using(crate::proofs::Leaves::counting_is))]
 #[inline(always)]
-pub fn name<'a, L: Limited>(
+fn name_at<'a, L: Limited>(
     alloc: Global,
     what: Option<Counted>,
     at: Cursor<'a>,
@@ -220,10 +140,10 @@ pub fn name<'a, L: Limited>(
     }
 }
 
-/// Reads a number, with its place.
+/// Reads a number from here, with its place.
 #[tactic(auto, unfolding(loft_form::specs::Reading::leaf_at), using(crate::proofs::Leaves::counting_is))]
 #[inline(always)]
-pub fn numeral<'a, L: Limited>(
+fn numeral_at<'a, L: Limited>(
     what: Option<Counted>,
     at: Cursor<'a>,
 ) -> Result<((u32, i64), Cursor<'a>), Stop>
@@ -241,9 +161,9 @@ pub fn numeral<'a, L: Limited>(
     }
 }
 
-/// Reads a text.
+/// Reads a text from here.
 #[tactic(auto, unfolding(loft_form::specs::Reading::leaf_at), using(crate::proofs::Leaves::counting_is))]
-pub fn text<'a, L: Limited>(alloc: Global, at: Cursor<'a>) -> Result<(Text, Cursor<'a>), Stop>
+fn text_at<'a, L: Limited>(alloc: Global, at: Cursor<'a>) -> Result<(Text, Cursor<'a>), Stop>
     ensures { Gives itself result (reads_flat L.limits text at.entry) }
 {
     match at.symbols {
@@ -257,4 +177,91 @@ pub fn text<'a, L: Limited>(alloc: Global, at: Cursor<'a>) -> Result<(Text, Curs
             _ => Err(Stop::Fault(Fault::Expected(rest.len() + 1))),
         },
     }
+}
+
+/// Reads the word.
+#[tactic(auto, using(crate::proofs::Leaves::counting_is, crate::proofs::Leaves::without_place))]
+pub fn counted_word<'a, L: Limited>(what: Option<Counted>, wanted: Word, at: &mut Reader<'a>)
+    ensures { Takes at.old at.new tt (reads_flat L.limits (counting what (word wanted)) at.old.cursor) }
+{
+    at.follow(word_at::<L>(wanted, false, what, at.cursor), 0);
+}
+
+/// Reads the word.
+pub fn word<'a, L: Limited>(wanted: Word, at: &mut Reader<'a>)
+    ensures { Takes at.old at.new tt (reads_flat L.limits (word wanted) at.old.cursor) }
+{
+    counted_word::<L>(None, wanted, at);
+}
+
+/// Reads the word, which isn't counted, with its place.
+pub fn word_place<'a, L: Limited>(wanted: Word, at: &mut Reader<'a>) -> u32
+    ensures { Takes at.old at.new result (reads_flat L.limits (word_place wanted) at.old.cursor) }
+{
+    at.follow(word_at::<L>(wanted, false, None, at.cursor), 0)
+}
+
+/// Reads the word, which begins one more of these, with its place.
+pub fn first_word<'a, L: Limited>(what: Counted, wanted: Word, at: &mut Reader<'a>) -> u32
+    ensures { Takes at.old at.new result (reads_flat L.limits (first_word what wanted) at.old.cursor) }
+{
+    at.follow(word_at::<L>(wanted, false, Some(what), at.cursor), 0)
+}
+
+/// Reads the word of a statement that opens a nesting, where so many may still be opened, with its place.
+pub fn opening_word<'a, L: Limited>(deeper: u32, wanted: Word, at: &mut Reader<'a>) -> u32
+    ensures within { at.new.stopped ≡ None → 0 < deeper }
+    ensures takes { Takes at.old at.new result (reads L.limits deeper (opens_with wanted) at.old.cursor) }
+{
+    at.follow(
+        word_at::<L>(wanted, deeper == 0, Some(Counted::Statement), at.cursor),
+        0,
+    )
+}
+
+/// Reads the sign.
+#[tactic(auto, using(crate::proofs::Leaves::uncounted_without_place))]
+pub fn sign<'a, L: Limited>(wanted: Sign, at: &mut Reader<'a>)
+    ensures settled { at.new.stopped ≡ None → at.new.cursor.due ≡ None }
+    ensures takes { Takes at.old at.new tt (reads_flat L.limits (sign wanted) at.old.cursor) }
+{
+    at.follow(sign_at::<L>(wanted, false, at.cursor), 0);
+}
+
+/// Reads the sign, with its place.
+pub fn sign_place<'a, L: Limited>(wanted: Sign, at: &mut Reader<'a>) -> u32
+    ensures { Takes at.old at.new result (reads_flat L.limits (sign_place wanted) at.old.cursor) }
+{
+    at.follow(sign_at::<L>(wanted, false, at.cursor), 0)
+}
+
+/// Reads the sign, which opens a nesting where so many may still be opened, with its place.
+pub fn opening_sign<'a, L: Limited>(deeper: u32, wanted: Sign, at: &mut Reader<'a>) -> u32
+    ensures within { at.new.stopped ≡ None → 0 < deeper }
+    ensures takes { Takes at.old at.new result (reads L.limits deeper (opening_sign wanted) at.old.cursor) }
+{
+    at.follow(sign_at::<L>(wanted, deeper == 0, at.cursor), 0)
+}
+
+/// Reads a name.
+pub fn name<'a, L: Limited>(what: Option<Counted>, at: &mut Reader<'a>) -> Ident
+    ensures { Takes at.old at.new result (reads_flat L.limits (counting what name) at.old.cursor) }
+{
+    let none = Ident::new(Vec::new(at.alloc), 0);
+    at.follow(name_at::<L>(at.alloc, what, at.cursor), none)
+}
+
+/// Reads a number, with its place.
+pub fn numeral<'a, L: Limited>(what: Option<Counted>, at: &mut Reader<'a>) -> (u32, i64)
+    ensures { Takes at.old at.new result (reads_flat L.limits (counting what numeral) at.old.cursor) }
+{
+    at.follow(numeral_at::<L>(what, at.cursor), (0, 0))
+}
+
+/// Reads a text.
+pub fn text<'a, L: Limited>(at: &mut Reader<'a>) -> Text
+    ensures { Takes at.old at.new result (reads_flat L.limits text at.old.cursor) }
+{
+    let none = Text::new(Vec::new(at.alloc));
+    at.follow(text_at::<L>(at.alloc, at.cursor), none)
 }

@@ -5,4 +5,3 @@ pub mod Offsets
 pub mod TextLaws
 pub mod LocalLaws
 pub mod LimitLaws
-pub mod PartLaws

@@ -3,4 +3,3 @@ pub mod Parsing
 pub mod SymbolPlaces
 pub mod Alike
 pub mod Unlimited
-pub mod Parts

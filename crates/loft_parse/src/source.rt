@@ -13,7 +13,7 @@ ghost use Rattle.loft_parse.specs.SymbolPlaces.{offset_of, fault_at, spelled};
 
 use crate::error::ParseError;
 use loft_form::{Fault, Stop};
-use loft_grammar::{Counts, Cursor};
+use loft_grammar::Reader;
 use loft_lex::{LexError, MAX_TEXT_LEN, Symbol, read_symbols};
 use loft_parts::item::items;
 use loft_tree::Program;
@@ -51,11 +51,12 @@ fn program_of(alloc: Global, text: &[u8], found: &[Symbol]) -> Result<Program, P
     ensures { Answers result (spelled (length text.now) (symbols_seen found.now)) }
 {
     let end = text.len() as u32;
-    let start = Cursor::after(found, Counts::none());
-    match items(alloc, start) {
-        Err(Stop::NoMemory) => Err(ParseError::NoMemory),
-        Err(Stop::Fault(fault)) => Err(locate(end, found, fault)),
-        Ok((declarations, at)) => match at.symbols {
+    let mut at = Reader::new(alloc, found);
+    let declarations = items(&mut at);
+    match &at.stopped {
+        Some(Stop::NoMemory) => Err(ParseError::NoMemory),
+        Some(Stop::Fault(fault)) => Err(locate(end, found, *fault)),
+        None => match at.cursor.symbols {
             [] => Ok(Program::new(declarations)),
             rest => Err(locate(end, found, Fault::Expected(rest.len()))),
         },

@@ -1,4 +1,5 @@
 pub mod Chains
+pub mod Taking
 pub mod Checked
 pub mod Flat
 pub mod Inside

@@ -3,195 +3,158 @@
 ghost use Rattle.std.specs.Option.{option_map};
 ghost use Rattle.loft_tree.specs.View.{expression_of, statement_of};
 ghost use Rattle.loft_form.specs.Form.{maybe};
-ghost use Rattle.loft_form.specs.Reading.{Gives};
 ghost use Rattle.loft_parts.specs.Ends.{looped, looped_of};
 ghost use Rattle.loft_grammar.specs.Statements.{condition, conditional, moving_statement, statement, body, otherwise, branches};
-ghost use Rattle.loft_grammar.specs.View.{reads, viewed, statement_list_of, branches_of};
+ghost use Rattle.loft_grammar.specs.Readers.{Takes};
+ghost use Rattle.loft_grammar.specs.View.{reads, statement_list_of, branches_of};
 
 use crate::event_statement::event_statement;
-use crate::expression::whole;
+use crate::expression::{no_expression, whole};
 use crate::thread_statement::{link, thread_statement, unlink};
 use crate::value_statement::value_statement;
-use loft_form::Stop;
 use loft_grammar::lookahead::{
     next_event_statement, next_is_word, next_statement, next_thread_statement, next_value_statement,
 };
 use loft_grammar::token::{opening_word, sign, word};
-use loft_grammar::{Cursor, Limited};
+use loft_grammar::{Limited, Reader};
 use loft_lex::{Sign, Word};
 use loft_tree::{Expr, Stmt};
-use std::alloc::Global;
 
 /// The condition of an `if` or a loop, with its brackets.
 #[tactic(auto, unfolding(loft_grammar::specs::Statements::condition))]
-fn condition<'a, L: Limited>(
-    alloc: Global,
-    deeper: u32,
-    at: Cursor<'a>,
-) -> Result<(Expr, Cursor<'a>), Stop>
-    ensures { Gives (viewed expression_of) result (reads L.limits deeper condition at.entry) }
+fn condition<'a, L: Limited>(deeper: u32, at: &mut Reader<'a>) -> Expr
+    ensures { Takes at.old at.new (expression_of result) (reads L.limits deeper condition at.old.cursor) }
 {
-    let at = sign::<L>(Sign::Open, at)?;
-    let (e, at) = whole::<L>(alloc, deeper, at)?;
-    let at = sign::<L>(Sign::Close, at)?;
-    Ok((e, at))
+    sign::<L>(Sign::Open, at);
+    let e = whole::<L>(deeper, at);
+    sign::<L>(Sign::Close, at);
+    e
 }
 
 #[cycle(statement)]
 #[tactic(auto, unfolding(loft_grammar::specs::Statements::conditional), using(loft_tree::proofs::Trees::statement_if, crate::proofs::Inside::inside_is))]
-fn conditional<'a, L: Limited>(
-    alloc: Global,
-    deeper: u32,
-    at: Cursor<'a>,
-) -> Result<(Stmt, Cursor<'a>), Stop>
-    ensures { Gives (viewed statement_of) result (reads L.limits deeper conditional at.entry) }
+fn conditional<'a, L: Limited>(deeper: u32, at: &mut Reader<'a>) -> Stmt
+    ensures { Takes at.old at.new (statement_of result) (reads L.limits deeper conditional at.old.cursor) }
 {
-    let (place, at) = opening_word::<L>(deeper, Word::If, at)?;
-    let ((test, first, second), at) = branches::<L>(alloc, deeper - 1, at)?;
-    let at = word::<L>(Word::End, at)?;
+    let place = opening_word::<L>(deeper, Word::If, at);
+    if !at.goes_on() {
+        return Stmt::Halt { at: place };
+    }
+    let (test, first, second) = branches::<L>(deeper - 1, at);
+    word::<L>(Word::End, at);
     let second = match second {
         Some(second) => second,
-        None => Vec::new(alloc),
+        None => Vec::new(at.alloc),
     };
-    Ok((
-        Stmt::If {
-            at: place,
-            test,
-            first,
-            second,
-        },
-        at,
-    ))
+    Stmt::If {
+        at: place,
+        test,
+        first,
+        second,
+    }
 }
 
 /// Reads a statement that begins with this word and repeats a body: its place, its expression and its body.
 #[cycle(statement)]
 #[tactic(auto, unfolding(loft_grammar::specs::Statements::turns), using(crate::proofs::Inside::inside_is))]
-fn looped<'a, L: Limited>(
-    alloc: Global,
-    deeper: u32,
-    wanted: Word,
-    at: Cursor<'a>,
-) -> Result<((u32, Expr, Vec<Stmt>), Cursor<'a>), Stop>
-    ensures { Gives (viewed looped_of) result (reads L.limits deeper (looped wanted) at.entry) }
+fn looped<'a, L: Limited>(deeper: u32, wanted: Word, at: &mut Reader<'a>) -> (u32, Expr, Vec<Stmt>)
+    ensures { Takes at.old at.new (looped_of result) (reads L.limits deeper (looped wanted) at.old.cursor) }
 {
-    let (place, at) = opening_word::<L>(deeper, wanted, at)?;
-    let (e, at) = condition::<L>(alloc, deeper - 1, at)?;
-    let at = word::<L>(Word::Do, at)?;
-    let (body, at) = body::<L>(alloc, deeper - 1, at)?;
-    let at = word::<L>(Word::End, at)?;
-    Ok(((place, e, body), at))
+    let place = opening_word::<L>(deeper, wanted, at);
+    if !at.goes_on() {
+        return (place, no_expression(), Vec::new(at.alloc));
+    }
+    let e = condition::<L>(deeper - 1, at);
+    word::<L>(Word::Do, at);
+    let body = body::<L>(deeper - 1, at);
+    word::<L>(Word::End, at);
+    (place, e, body)
 }
 
 #[cycle(statement)]
 #[tactic(auto, unfolding(loft_grammar::specs::Statements::moving_statement, loft_grammar::specs::Statements::link, loft_grammar::specs::Statements::unlink, loft_grammar::specs::Statements::conditional, loft_grammar::specs::Statements::while_loop, loft_grammar::specs::Statements::repeat), using(loft_tree::proofs::Trees::statement_while, loft_tree::proofs::Trees::statement_repeat))]
-fn moving_statement<'a, L: Limited>(
-    alloc: Global,
-    deeper: u32,
-    at: Cursor<'a>,
-) -> Result<(Stmt, Cursor<'a>), Stop>
-    ensures { Gives (viewed statement_of) result (reads L.limits deeper moving_statement at.entry) }
+fn moving_statement<'a, L: Limited>(deeper: u32, at: &mut Reader<'a>) -> Stmt
+    ensures { Takes at.old at.new (statement_of result) (reads L.limits deeper moving_statement at.old.cursor) }
 {
-    if next_is_word(Word::Link, &at) {
-        link::<L>(alloc, at)
-    } else if next_is_word(Word::Unlink, &at) {
+    if next_is_word(Word::Link, &at.cursor) {
+        link::<L>(at)
+    } else if next_is_word(Word::Unlink, &at.cursor) {
         unlink::<L>(at)
-    } else if next_is_word(Word::If, &at) {
-        conditional::<L>(alloc, deeper, at)
-    } else if next_is_word(Word::While, &at) {
-        let ((place, test, body), at) = looped::<L>(alloc, deeper, Word::While, at)?;
-        Ok((
-            Stmt::While {
-                at: place,
-                test,
-                body,
-            },
-            at,
-        ))
+    } else if next_is_word(Word::If, &at.cursor) {
+        conditional::<L>(deeper, at)
+    } else if next_is_word(Word::While, &at.cursor) {
+        let (place, test, body) = looped::<L>(deeper, Word::While, at);
+        Stmt::While {
+            at: place,
+            test,
+            body,
+        }
     } else {
-        let ((place, count, body), at) = looped::<L>(alloc, deeper, Word::Repeat, at)?;
-        Ok((
-            Stmt::Repeat {
-                at: place,
-                count,
-                body,
-            },
-            at,
-        ))
+        let (place, count, body) = looped::<L>(deeper, Word::Repeat, at);
+        Stmt::Repeat {
+            at: place,
+            count,
+            body,
+        }
     }
 }
 
 /// Reads a statement.
 #[cycle(statement)]
 #[tactic(auto, unfolding(loft_grammar::specs::Statements::statement))]
-pub fn statement<'a, L: Limited>(
-    alloc: Global,
-    deeper: u32,
-    at: Cursor<'a>,
-) -> Result<(Stmt, Cursor<'a>), Stop>
-    ensures { Gives (viewed statement_of) result (reads L.limits deeper statement at.entry) }
+pub fn statement<'a, L: Limited>(deeper: u32, at: &mut Reader<'a>) -> Stmt
+    ensures { Takes at.old at.new (statement_of result) (reads L.limits deeper statement at.old.cursor) }
 {
-    if next_value_statement(&at) {
-        value_statement::<L>(alloc, deeper, at)
-    } else if next_event_statement(&at) {
-        event_statement::<L>(alloc, deeper, at)
-    } else if next_thread_statement(&at) {
-        thread_statement::<L>(alloc, deeper, at)
+    if next_value_statement(&at.cursor) {
+        value_statement::<L>(deeper, at)
+    } else if next_event_statement(&at.cursor) {
+        event_statement::<L>(deeper, at)
+    } else if next_thread_statement(&at.cursor) {
+        thread_statement::<L>(deeper, at)
     } else {
-        moving_statement::<L>(alloc, deeper, at)
+        moving_statement::<L>(deeper, at)
     }
 }
 
 /// Reads the statements of a body.
 #[cycle(statement)]
 #[tactic(auto, unfolding(loft_grammar::specs::Statements::body))]
-pub fn body<'a, L: Limited>(
-    alloc: Global,
-    deeper: u32,
-    at: Cursor<'a>,
-) -> Result<(Vec<Stmt>, Cursor<'a>), Stop>
-    ensures { Gives (viewed statement_list_of) result (reads L.limits deeper body at.entry) }
+pub fn body<'a, L: Limited>(deeper: u32, at: &mut Reader<'a>) -> Vec<Stmt>
+    ensures { Takes at.old at.new (statement_list_of result) (reads L.limits deeper body at.old.cursor) }
 {
-    let mut statements = Vec::with_capacity(alloc, 1)?;
-    let mut at = at;
-    'all: while next_statement(&at) {
-        let (one, next) = statement::<L>(alloc, deeper, at)?;
-        statements.push(one)?;
-        at = next;
+    let mut statements = at.or(Vec::with_capacity(at.alloc, 1), Vec::new(at.alloc));
+    'all: while at.goes_on() && next_statement(&at.cursor) {
+        let one = statement::<L>(deeper, at);
+        at.push(&mut statements, one);
     }
-    Ok((statements, at))
+    statements
 }
 
 #[cycle(statement)]
 #[tactic(auto, unfolding(loft_grammar::specs::Statements::otherwise))]
-fn otherwise<'a, L: Limited>(
-    alloc: Global,
-    deeper: u32,
-    at: Cursor<'a>,
-) -> Result<(Option<Vec<Stmt>>, Cursor<'a>), Stop>
-    ensures { Gives (viewed (option_map statement_list_of)) result (reads L.limits deeper (maybe otherwise) at.entry) }
+fn otherwise<'a, L: Limited>(deeper: u32, at: &mut Reader<'a>) -> Option<Vec<Stmt>>
+    ensures { Takes at.old at.new (option_map statement_list_of result) (reads L.limits deeper (maybe otherwise) at.old.cursor) }
 {
-    if next_is_word(Word::Else, &at) {
-        let at = word::<L>(Word::Else, at)?;
-        let (second, at) = body::<L>(alloc, deeper, at)?;
-        Ok((Some(second), at))
+    if next_is_word(Word::Else, &at.cursor) {
+        word::<L>(Word::Else, at);
+        let second = body::<L>(deeper, at);
+        Some(second)
     } else {
-        Ok((None, at))
+        None
     }
 }
 
 #[cycle(statement)]
 #[tactic(auto, unfolding(loft_grammar::specs::Statements::branches))]
 fn branches<'a, L: Limited>(
-    alloc: Global,
     deeper: u32,
-    at: Cursor<'a>,
-) -> Result<((Expr, Vec<Stmt>, Option<Vec<Stmt>>), Cursor<'a>), Stop>
-    ensures { Gives (viewed branches_of) result (reads L.limits deeper branches at.entry) }
+    at: &mut Reader<'a>,
+) -> (Expr, Vec<Stmt>, Option<Vec<Stmt>>)
+    ensures { Takes at.old at.new (branches_of result) (reads L.limits deeper branches at.old.cursor) }
 {
-    let (test, at) = condition::<L>(alloc, deeper, at)?;
-    let at = word::<L>(Word::Then, at)?;
-    let (first, at) = body::<L>(alloc, deeper, at)?;
-    let (second, at) = otherwise::<L>(alloc, deeper, at)?;
-    Ok(((test, first, second), at))
+    let test = condition::<L>(deeper, at);
+    word::<L>(Word::Then, at);
+    let first = body::<L>(deeper, at);
+    let second = otherwise::<L>(deeper, at);
+    (test, first, second)
 }

@@ -3,36 +3,34 @@
 ghost use Rattle.std.specs.Prelude.{◌≡◌, None};
 ghost use Rattle.loft_tree.specs.View.{argument_of};
 ghost use Rattle.loft_form.specs.Form.{many};
-ghost use Rattle.loft_form.specs.Reading.{Gives};
 ghost use Rattle.loft_grammar.specs.Limits.{limits};
 ghost use Rattle.loft_grammar.specs.Expressions.{further, listed};
 ghost use Rattle.loft_grammar.specs.Items.{negative, signed, outer_argument, outer_arguments};
-ghost use Rattle.loft_grammar.specs.View.{reads_flat, viewed, itself, with_front, arguments_of};
+ghost use Rattle.loft_grammar.specs.Readers.{Takes};
+ghost use Rattle.loft_grammar.specs.View.{reads_flat, with_front, arguments_of};
 
 use loft_base::sub;
-use loft_form::Stop;
 use loft_grammar::lookahead::{next_is_number, next_is_sign, next_outer_argument, next_signed};
 use loft_grammar::token::{name, numeral, sign, sign_place};
-use loft_grammar::{Counted, Cursor, SourceLimits};
+use loft_grammar::{Counted, Reader, SourceLimits};
 use loft_lex::Sign;
 use loft_tree::Argument;
-use std::alloc::Global;
 
 #[tactic(auto, unfolding(loft_grammar::specs::Items::negative))]
-fn negative<'a>(at: Cursor<'a>) -> Result<((u32, i64), Cursor<'a>), Stop>
-    ensures { Gives itself result (reads_flat limits negative at.entry) }
+fn negative<'a>(at: &mut Reader<'a>) -> (u32, i64)
+    ensures { Takes at.old at.new result (reads_flat limits negative at.old.cursor) }
 {
-    let (place, at) = sign_place::<SourceLimits>(Sign::Minus, at)?;
-    let ((_, value), at) = numeral::<SourceLimits>(None, at)?;
-    Ok(((place, sub(0, value)), at))
+    let place = sign_place::<SourceLimits>(Sign::Minus, at);
+    let (_, value) = numeral::<SourceLimits>(None, at);
+    (place, sub(0, value))
 }
 
 /// Reads a number, with a sign or without, and its place.
 #[tactic(auto, unfolding(loft_grammar::specs::Items::signed))]
-pub fn signed<'a>(at: Cursor<'a>) -> Result<((u32, i64), Cursor<'a>), Stop>
-    ensures { Gives itself result (reads_flat limits signed at.entry) }
+pub fn signed<'a>(at: &mut Reader<'a>) -> (u32, i64)
+    ensures { Takes at.old at.new result (reads_flat limits signed at.old.cursor) }
 {
-    if next_is_number(&at) {
+    if next_is_number(&at.cursor) {
         numeral::<SourceLimits>(None, at)
     } else {
         negative(at)
@@ -40,70 +38,62 @@ pub fn signed<'a>(at: Cursor<'a>) -> Result<((u32, i64), Cursor<'a>), Stop>
 }
 
 #[tactic(auto, unfolding(loft_grammar::specs::Items::outer_argument, loft_grammar::specs::Items::signed, loft_grammar::specs::Items::negative))]
-fn outer_argument<'a>(alloc: Global, at: Cursor<'a>) -> Result<(Argument, Cursor<'a>), Stop>
-    requires { at.due ≡ None }
-    ensures { Gives (viewed argument_of) result (reads_flat limits outer_argument at.entry) }
+fn outer_argument<'a>(at: &mut Reader<'a>) -> Argument
+    requires { at.old.stopped ≡ None → at.old.cursor.due ≡ None }
+    ensures { Takes at.old at.new (argument_of result) (reads_flat limits outer_argument at.old.cursor) }
 {
-    let at = at.owing(Counted::Argument);
-    if next_signed(&at) {
-        let ((place, value), at) = signed(at)?;
-        Ok((Argument::Number { at: place, value }, at))
+    at.owe(Counted::Argument);
+    if next_signed(&at.cursor) {
+        let (place, value) = signed(at);
+        Argument::Number { at: place, value }
     } else {
-        let (name, at) = name::<SourceLimits>(alloc, None, at)?;
-        Ok((Argument::Name(name), at))
+        let name = name::<SourceLimits>(None, at);
+        Argument::Name(name)
     }
 }
 
-fn further_argument<'a>(alloc: Global, at: Cursor<'a>) -> Result<(Argument, Cursor<'a>), Stop>
-    ensures { Gives (viewed argument_of) result (reads_flat limits (further outer_argument) at.entry) }
+fn further_argument<'a>(at: &mut Reader<'a>) -> Argument
+    ensures { Takes at.old at.new (argument_of result) (reads_flat limits (further outer_argument) at.old.cursor) }
 {
-    let at = sign::<SourceLimits>(Sign::Comma, at)?;
-    outer_argument(alloc, at)
+    sign::<SourceLimits>(Sign::Comma, at);
+    outer_argument(at)
 }
 
 /// Reads further arguments after these.
-fn further_arguments<'a>(
-    alloc: Global,
-    arguments: Vec<Argument>,
-    at: Cursor<'a>,
-) -> Result<(Vec<Argument>, Cursor<'a>), Stop>
-    ensures { Gives (viewed arguments_of) result (with_front (arguments_of arguments) (reads_flat limits (many (further outer_argument)) at.entry)) }
+fn further_arguments<'a>(arguments: Vec<Argument>, at: &mut Reader<'a>) -> Vec<Argument>
+    ensures { Takes at.old at.new (arguments_of result) (with_front (arguments_of arguments) (reads_flat limits (many (further outer_argument)) at.old.cursor)) }
 {
     let mut arguments = arguments;
-    let mut at = at;
-    'all: while next_is_sign(Sign::Comma, &at) {
-        let (one, next) = further_argument(alloc, at)?;
-        arguments.push(one)?;
-        at = next;
+    'all: while at.goes_on() && next_is_sign(Sign::Comma, &at.cursor) {
+        let one = further_argument(at);
+        at.push(&mut arguments, one);
     }
-    Ok((arguments, at))
+    arguments
 }
 
 #[tactic(auto, unfolding(loft_grammar::specs::Items::outer_argument))]
-fn listed<'a>(alloc: Global, at: Cursor<'a>) -> Result<(Vec<Argument>, Cursor<'a>), Stop>
-    requires { at.due ≡ None }
-    ensures { Gives (viewed arguments_of) result (reads_flat limits (listed outer_argument) at.entry) }
+fn listed<'a>(at: &mut Reader<'a>) -> Vec<Argument>
+    requires { at.old.stopped ≡ None → at.old.cursor.due ≡ None }
+    ensures { Takes at.old at.new (arguments_of result) (reads_flat limits (listed outer_argument) at.old.cursor) }
 {
-    let mut arguments = Vec::new(alloc);
-    if next_outer_argument(&at) {
-        let (first, at) = outer_argument(alloc, at)?;
-        arguments.push(first)?;
-        further_arguments(alloc, arguments, at)
+    let mut arguments = Vec::new(at.alloc);
+    if next_outer_argument(&at.cursor) {
+        let first = outer_argument(at);
+        at.push(&mut arguments, first);
+        further_arguments(arguments, at)
     } else {
-        Ok((arguments, at))
+        arguments
     }
 }
 
 /// Reads the arguments of a start or an order, with their brackets.
 #[tactic(auto, unfolding(loft_grammar::specs::Items::outer_arguments))]
-pub fn outer_arguments<'a>(
-    alloc: Global,
-    at: Cursor<'a>,
-) -> Result<(Vec<Argument>, Cursor<'a>), Stop>
-    ensures { Gives (viewed arguments_of) result (reads_flat limits outer_arguments at.entry) }
+pub fn outer_arguments<'a>(at: &mut Reader<'a>) -> Vec<Argument>
+    ensures { Takes at.old at.new (arguments_of result) (reads_flat limits outer_arguments at.old.cursor) }
 {
-    let at = sign::<SourceLimits>(Sign::Open, at)?;
-    let (arguments, at) = listed(alloc, at.anew(Counted::Argument))?;
-    let at = sign::<SourceLimits>(Sign::Close, at)?;
-    Ok((arguments, at))
+    sign::<SourceLimits>(Sign::Open, at);
+    at.count_anew(Counted::Argument);
+    let arguments = listed(at);
+    sign::<SourceLimits>(Sign::Close, at);
+    arguments
 }

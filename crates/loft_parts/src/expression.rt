@@ -1,29 +1,30 @@
 //! Reading expressions.
 
-ghost use Rattle.std.specs.Prelude.{◌≡◌, IfOk};
+ghost use Rattle.std.specs.Prelude.{◌≡◌, IfOk, None, Some};
+ghost use Rattle.loft_form.specs.declared.fault.Fault.{Fault};
+ghost use Rattle.loft_form.specs.declared.stop.Stop.TheVariants as stop;
 ghost use Rattle.loft_tree.specs.Source.{Binary, Unary};
 ghost use Rattle.loft_tree.specs.View.{expression_of};
-ghost use Rattle.loft_form.specs.Reading.{Gives};
 ghost use Rattle.loft_parts.specs.Ends.{prefixed};
 ghost use Rattle.loft_grammar.specs.Expressions.{special, builtin, bracketed, atom, unary, compared, comparison, whole};
 ghost use Rattle.loft_grammar.specs.Levels.{operand_at, operation_at, chain_at};
-ghost use Rattle.loft_grammar.specs.View.{reads, reads_flat, viewed, operation_of};
+ghost use Rattle.loft_grammar.specs.Readers.{Takes};
+ghost use Rattle.loft_grammar.specs.View.{reads, reads_flat, operation_of};
 
-use loft_form::Stop;
 use loft_grammar::lookahead::{
     next_builtin, next_compared, next_is_name, next_is_number, next_is_sign, next_is_word,
     next_operation, next_stands_alone,
 };
 use loft_grammar::operator::{Level, comparing, operator_at};
 use loft_grammar::token::{first_word, name, numeral, opening_sign, sign};
-use loft_grammar::{Counted, Cursor, Limited};
+use loft_grammar::{Counted, Limited, Reader};
 use loft_lex::{Sign, Word};
 use loft_tree::{BinaryOperator, Builtin, Expr, UnaryOperator};
 use std::alloc::{AllocError, Global};
 
 /// An operator between its operands.
 #[inline(always)]
-fn binary(
+fn boxed_binary(
     alloc: Global,
     operator: BinaryOperator,
     left: Expr,
@@ -40,7 +41,7 @@ fn binary(
 
 /// An operator before its operand.
 #[inline(always)]
-fn before(
+fn boxed_unary(
     alloc: Global,
     at: u32,
     operator: UnaryOperator,
@@ -55,24 +56,51 @@ fn before(
     })
 }
 
-fn special<'a, L: Limited>(
-    wanted: Word,
-    builtin: Builtin,
-    at: Cursor<'a>,
-) -> Result<(Expr, Cursor<'a>), Stop>
-    ensures { Gives (viewed expression_of) result (reads_flat L.limits (special wanted builtin) at.entry) }
+/// What stands for an expression that wasn't read.
+pub fn no_expression() -> Expr {
+    Expr::Number { at: 0, value: 0 }
+}
+
+/// An operator between its operands; out of memory stops the reader.
+fn binary<'a>(operator: BinaryOperator, left: Expr, right: Expr, at: &mut Reader<'a>) -> Expr
+    ensures made { at.new.stopped ≡ None → (at.old.stopped ≡ None)
+        × (expression_of result ≡ Binary operator (expression_of left) (expression_of right)) }
+    ensures fault { (f : Fault) → at.new.stopped ≡ Some (stop.Fault f) → at.old.stopped ≡ Some (stop.Fault f) }
+    ensures cursor { at.new.cursor ≡ at.old.cursor }
 {
-    let (place, at) = first_word::<L>(Counted::Operand, wanted, at)?;
-    Ok((Expr::Builtin { at: place, builtin }, at))
+    at.or(
+        boxed_binary(at.alloc, operator, left, right),
+        no_expression(),
+    )
+}
+
+/// An operator before its operand; out of memory stops the reader.
+fn prefix<'a>(place: u32, operator: UnaryOperator, operand: Expr, at: &mut Reader<'a>) -> Expr
+    ensures made { at.new.stopped ≡ None → (at.old.stopped ≡ None)
+        × (expression_of result ≡ Unary place operator (expression_of operand)) }
+    ensures fault { (f : Fault) → at.new.stopped ≡ Some (stop.Fault f) → at.old.stopped ≡ Some (stop.Fault f) }
+    ensures cursor { at.new.cursor ≡ at.old.cursor }
+{
+    at.or(
+        boxed_unary(at.alloc, place, operator, operand),
+        no_expression(),
+    )
+}
+
+fn special<'a, L: Limited>(wanted: Word, builtin: Builtin, at: &mut Reader<'a>) -> Expr
+    ensures { Takes at.old at.new (expression_of result) (reads_flat L.limits (special wanted builtin) at.old.cursor) }
+{
+    let place = first_word::<L>(Counted::Operand, wanted, at);
+    Expr::Builtin { at: place, builtin }
 }
 
 #[tactic(auto, unfolding(loft_grammar::specs::Expressions::builtin))]
-fn builtin<'a, L: Limited>(at: Cursor<'a>) -> Result<(Expr, Cursor<'a>), Stop>
-    ensures { Gives (viewed expression_of) result (reads_flat L.limits builtin at.entry) }
+fn builtin<'a, L: Limited>(at: &mut Reader<'a>) -> Expr
+    ensures { Takes at.old at.new (expression_of result) (reads_flat L.limits builtin at.old.cursor) }
 {
-    if next_is_word(Word::SelfWord, &at) {
+    if next_is_word(Word::SelfWord, &at.cursor) {
         special::<L>(Word::SelfWord, Builtin::Itself, at)
-    } else if next_is_word(Word::Code, &at) {
+    } else if next_is_word(Word::Code, &at.cursor) {
         special::<L>(Word::Code, Builtin::Code, at)
     } else {
         special::<L>(Word::Mask, Builtin::Mask, at)
@@ -81,39 +109,34 @@ fn builtin<'a, L: Limited>(at: Cursor<'a>) -> Result<(Expr, Cursor<'a>), Stop>
 
 #[cycle(expression)]
 #[tactic(auto, unfolding(loft_grammar::specs::Expressions::bracketed, loft_grammar::specs::Expressions::expression, loft_grammar::specs::Expressions::disjunct), using(crate::proofs::Inside::inside_is))]
-fn bracketed<'a, L: Limited>(
-    alloc: Global,
-    deeper: u32,
-    at: Cursor<'a>,
-) -> Result<(Expr, Cursor<'a>), Stop>
-    ensures { Gives (viewed expression_of) result (reads L.limits deeper bracketed at.entry) }
+fn bracketed<'a, L: Limited>(deeper: u32, at: &mut Reader<'a>) -> Expr
+    ensures { Takes at.old at.new (expression_of result) (reads L.limits deeper bracketed at.old.cursor) }
 {
-    let (_, at) = opening_sign::<L>(deeper, Sign::Open, at)?;
-    let (e, at) = chain::<L>(alloc, deeper - 1, Level::Disjunction, at)?;
-    let at = sign::<L>(Sign::Close, at)?;
-    Ok((e, at))
+    opening_sign::<L>(deeper, Sign::Open, at);
+    if !at.goes_on() {
+        return no_expression();
+    }
+    let e = chain::<L>(deeper - 1, Level::Disjunction, at);
+    sign::<L>(Sign::Close, at);
+    e
 }
 
 #[cycle(expression)]
 #[tactic(auto, unfolding(loft_grammar::specs::Expressions::atom, loft_grammar::specs::Expressions::builtin))]
 #[inline(always)]
-fn atom<'a, L: Limited>(
-    alloc: Global,
-    deeper: u32,
-    at: Cursor<'a>,
-) -> Result<(Expr, Cursor<'a>), Stop>
-    ensures { Gives (viewed expression_of) result (reads L.limits deeper atom at.entry) }
+fn atom<'a, L: Limited>(deeper: u32, at: &mut Reader<'a>) -> Expr
+    ensures { Takes at.old at.new (expression_of result) (reads L.limits deeper atom at.old.cursor) }
 {
-    if next_is_number(&at) {
-        let ((place, value), at) = numeral::<L>(Some(Counted::Operand), at)?;
-        Ok((Expr::Number { at: place, value }, at))
-    } else if next_is_name(&at) {
-        let (name, at) = name::<L>(alloc, Some(Counted::Operand), at)?;
-        Ok((Expr::Name(name), at))
-    } else if next_builtin(&at) {
+    if next_is_number(&at.cursor) {
+        let (place, value) = numeral::<L>(Some(Counted::Operand), at);
+        Expr::Number { at: place, value }
+    } else if next_is_name(&at.cursor) {
+        let name = name::<L>(Some(Counted::Operand), at);
+        Expr::Name(name)
+    } else if next_builtin(&at.cursor) {
         builtin::<L>(at)
     } else {
-        bracketed::<L>(alloc, deeper, at)
+        bracketed::<L>(deeper, at)
     }
 }
 
@@ -121,36 +144,33 @@ fn atom<'a, L: Limited>(
 #[cycle(expression)]
 #[tactic(auto, using(crate::proofs::Inside::inside_is))]
 fn prefixed<'a, L: Limited>(
-    alloc: Global,
     deeper: u32,
     wanted: Sign,
     operator: UnaryOperator,
-    at: Cursor<'a>,
-) -> Result<(Expr, Cursor<'a>), Stop>
-    ensures { Gives (viewed expression_of) result
-        (reads L.limits deeper (prefixed wanted operator) at.entry) }
+    at: &mut Reader<'a>,
+) -> Expr
+    ensures { Takes at.old at.new (expression_of result) (reads L.limits deeper (prefixed wanted operator) at.old.cursor) }
 {
-    let (place, at) = opening_sign::<L>(deeper, wanted, at)?;
-    let (operand, at) = unary::<L>(alloc, deeper - 1, at)?;
-    Ok((before(alloc, place, operator, operand)?, at))
+    let place = opening_sign::<L>(deeper, wanted, at);
+    if !at.goes_on() {
+        return no_expression();
+    }
+    let operand = unary::<L>(deeper - 1, at);
+    prefix(place, operator, operand, at)
 }
 
 #[cycle(expression)]
 #[tactic(auto, unfolding(loft_grammar::specs::Expressions::unary, loft_grammar::specs::Expressions::negated, loft_grammar::specs::Expressions::inverted))]
 #[inline(always)]
-fn unary<'a, L: Limited>(
-    alloc: Global,
-    deeper: u32,
-    at: Cursor<'a>,
-) -> Result<(Expr, Cursor<'a>), Stop>
-    ensures { Gives (viewed expression_of) result (reads L.limits deeper unary at.entry) }
+fn unary<'a, L: Limited>(deeper: u32, at: &mut Reader<'a>) -> Expr
+    ensures { Takes at.old at.new (expression_of result) (reads L.limits deeper unary at.old.cursor) }
 {
-    if next_is_sign(Sign::Minus, &at) {
-        prefixed::<L>(alloc, deeper, Sign::Minus, UnaryOperator::Minus, at)
-    } else if next_is_sign(Sign::Not, &at) {
-        prefixed::<L>(alloc, deeper, Sign::Not, UnaryOperator::Not, at)
+    if next_is_sign(Sign::Minus, &at.cursor) {
+        prefixed::<L>(deeper, Sign::Minus, UnaryOperator::Minus, at)
+    } else if next_is_sign(Sign::Not, &at.cursor) {
+        prefixed::<L>(deeper, Sign::Not, UnaryOperator::Not, at)
     } else {
-        atom::<L>(alloc, deeper, at)
+        atom::<L>(deeper, at)
     }
 }
 
@@ -158,19 +178,14 @@ fn unary<'a, L: Limited>(
 #[cycle(expression)]
 #[tactic(auto, unfolding(loft_grammar::specs::Expressions::term, loft_grammar::specs::Expressions::factor, loft_grammar::specs::Expressions::conjunction, loft_grammar::specs::Expressions::conjunct))]
 #[inline(always)]
-fn operand<'a, L: Limited>(
-    alloc: Global,
-    deeper: u32,
-    level: Level,
-    at: Cursor<'a>,
-) -> Result<(Expr, Cursor<'a>), Stop>
-    ensures { Gives (viewed expression_of) result (reads L.limits deeper (operand_at level) at.entry) }
+fn operand<'a, L: Limited>(deeper: u32, level: Level, at: &mut Reader<'a>) -> Expr
+    ensures { Takes at.old at.new (expression_of result) (reads L.limits deeper (operand_at level) at.old.cursor) }
 {
     match level {
-        Level::Product => unary::<L>(alloc, deeper, at),
-        Level::Sum => chain::<L>(alloc, deeper, Level::Product, at),
-        Level::Conjunction => comparison::<L>(alloc, deeper, at),
-        Level::Disjunction => chain::<L>(alloc, deeper, Level::Conjunction, at),
+        Level::Product => unary::<L>(deeper, at),
+        Level::Sum => chain::<L>(deeper, Level::Product, at),
+        Level::Conjunction => comparison::<L>(deeper, at),
+        Level::Disjunction => chain::<L>(deeper, Level::Conjunction, at),
     }
 }
 
@@ -179,82 +194,64 @@ fn operand<'a, L: Limited>(
 #[tactic(auto, using(crate::proofs::Chains::flat_operator))]
 #[inline(always)]
 fn operation<'a, L: Limited>(
-    alloc: Global,
     deeper: u32,
     level: Level,
-    at: Cursor<'a>,
-) -> Result<((BinaryOperator, Expr), Cursor<'a>), Stop>
-    ensures { Gives (viewed operation_of) result (reads L.limits deeper (operation_at level) at.entry) }
+    at: &mut Reader<'a>,
+) -> (BinaryOperator, Expr)
+    ensures { Takes at.old at.new (operation_of result) (reads L.limits deeper (operation_at level) at.old.cursor) }
 {
-    let (operator, at) = operator_at::<L>(level, at)?;
-    let (right, at) = operand::<L>(alloc, deeper, level, at)?;
-    Ok(((operator, right), at))
+    let operator = operator_at::<L>(level, at);
+    let right = operand::<L>(deeper, level, at);
+    (operator, right)
 }
 
 /// Reads operands of the level with its operators between them, which group to the left.
 #[cycle(expression)]
-fn chain<'a, L: Limited>(
-    alloc: Global,
-    deeper: u32,
-    level: Level,
-    at: Cursor<'a>,
-) -> Result<(Expr, Cursor<'a>), Stop>
-    ensures { Gives (viewed expression_of) result (reads L.limits deeper (chain_at level) at.entry) }
+fn chain<'a, L: Limited>(deeper: u32, level: Level, at: &mut Reader<'a>) -> Expr
+    ensures { Takes at.old at.new (expression_of result) (reads L.limits deeper (chain_at level) at.old.cursor) }
 {
-    if next_stands_alone(level, &at) {
-        return unary::<L>(alloc, deeper, at);
+    if next_stands_alone(level, &at.cursor) {
+        return unary::<L>(deeper, at);
     }
-    let (mut left, mut at) = operand::<L>(alloc, deeper, level, at)?;
-    'chain: while next_operation(level, &at) {
-        let ((operator, right), next) = operation::<L>(alloc, deeper, level, at)?;
-        left = binary(alloc, operator, left, right)?;
-        at = next;
+    let mut left = operand::<L>(deeper, level, at);
+    'chain: while at.goes_on() && next_operation(level, &at.cursor) {
+        let (operator, right) = operation::<L>(deeper, level, at);
+        left = binary(operator, left, right, at);
     }
-    Ok((left, at))
+    left
 }
 
 #[cycle(expression)]
 #[tactic(auto, unfolding(loft_grammar::specs::Expressions::compared, loft_grammar::specs::Expressions::equality, loft_grammar::specs::Expressions::ordering, loft_grammar::specs::Expressions::sum, loft_grammar::specs::Expressions::summand))]
 #[inline(always)]
-fn compared<'a, L: Limited>(
-    alloc: Global,
-    deeper: u32,
-    at: Cursor<'a>,
-) -> Result<((BinaryOperator, Expr), Cursor<'a>), Stop>
-    ensures { Gives (viewed operation_of) result (reads L.limits deeper compared at.entry) }
+fn compared<'a, L: Limited>(deeper: u32, at: &mut Reader<'a>) -> (BinaryOperator, Expr)
+    ensures { Takes at.old at.new (operation_of result) (reads L.limits deeper compared at.old.cursor) }
 {
-    let (operator, at) = comparing::<L>(at)?;
-    let (right, at) = chain::<L>(alloc, deeper, Level::Sum, at)?;
-    Ok(((operator, right), at))
+    let operator = comparing::<L>(at);
+    let right = chain::<L>(deeper, Level::Sum, at);
+    (operator, right)
 }
 
 #[cycle(expression)]
 #[tactic(auto, unfolding(loft_grammar::specs::Expressions::comparison, loft_grammar::specs::Expressions::sum, loft_grammar::specs::Expressions::summand))]
 #[inline(always)]
-fn comparison<'a, L: Limited>(
-    alloc: Global,
-    deeper: u32,
-    at: Cursor<'a>,
-) -> Result<(Expr, Cursor<'a>), Stop>
-    ensures { Gives (viewed expression_of) result (reads L.limits deeper comparison at.entry) }
+fn comparison<'a, L: Limited>(deeper: u32, at: &mut Reader<'a>) -> Expr
+    ensures { Takes at.old at.new (expression_of result) (reads L.limits deeper comparison at.old.cursor) }
 {
-    let (left, at) = chain::<L>(alloc, deeper, Level::Sum, at)?;
-    if next_compared(&at) {
-        let ((operator, right), at) = compared::<L>(alloc, deeper, at)?;
-        Ok((binary(alloc, operator, left, right)?, at))
+    let left = chain::<L>(deeper, Level::Sum, at);
+    if next_compared(&at.cursor) {
+        let (operator, right) = compared::<L>(deeper, at);
+        binary(operator, left, right, at)
     } else {
-        Ok((left, at))
+        left
     }
 }
 
 /// Reads an expression that is no part of another.
 #[tactic(auto, unfolding(loft_grammar::specs::Expressions::whole, loft_grammar::specs::Expressions::expression, loft_grammar::specs::Expressions::disjunct))]
-pub fn whole<'a, L: Limited>(
-    alloc: Global,
-    deeper: u32,
-    at: Cursor<'a>,
-) -> Result<(Expr, Cursor<'a>), Stop>
-    ensures { Gives (viewed expression_of) result (reads L.limits deeper whole at.entry) }
+pub fn whole<'a, L: Limited>(deeper: u32, at: &mut Reader<'a>) -> Expr
+    ensures { Takes at.old at.new (expression_of result) (reads L.limits deeper whole at.old.cursor) }
 {
-    chain::<L>(alloc, deeper, Level::Disjunction, at.anew(Counted::Operand))
+    at.count_anew(Counted::Operand);
+    chain::<L>(deeper, Level::Disjunction, at)
 }

@@ -5,163 +5,149 @@ ghost use Rattle.std.specs.Option.{option_map};
 ghost use Rattle.loft_tree.specs.View.{named_of, place_name_of, head_of};
 ghost use Rattle.loft_tree.specs.Fits.{same_place};
 ghost use Rattle.loft_form.specs.Form.{maybe, many, fresh};
-ghost use Rattle.loft_form.specs.Reading.{Gives};
 ghost use Rattle.loft_grammar.specs.Limits.{limits};
 ghost use Rattle.loft_parts.specs.Ends.{head_end, head_end_of};
 ghost use Rattle.loft_grammar.specs.Expressions.{further, listed};
 ghost use Rattle.loft_grammar.specs.Items.{kind, parameter, parameters, local, place, ending, end_of, head};
-ghost use Rattle.loft_grammar.specs.View.{reads_flat, viewed, itself, with_front, variables_of};
+ghost use Rattle.loft_grammar.specs.Readers.{Takes};
+ghost use Rattle.loft_grammar.specs.View.{reads_flat, with_front, variables_of};
 
-use loft_form::Stop;
 use loft_grammar::lookahead::{
     next_is_name, next_is_sign, next_is_word, next_local, next_parameter,
 };
 use loft_grammar::token::{counted_word, first_word, name, sign, word};
-use loft_grammar::{Counted, Cursor, SourceLimits};
+use loft_grammar::{Counted, Reader, SourceLimits};
 use loft_lex::{Sign, Word};
 use loft_tree::{Kind, ModuleHead, PlaceName, Variable};
-use std::alloc::Global;
 
 /// Reads a kind, which is counted if `what` says so.
 #[tactic(auto, using(loft_grammar::proofs::Leaves::counting_begins))]
-fn kind<'a>(what: Option<Counted>, at: Cursor<'a>) -> Result<(Kind, Cursor<'a>), Stop>
-    ensures { Gives itself result (reads_flat limits (kind what) at.entry) }
+fn kind<'a>(what: Option<Counted>, at: &mut Reader<'a>) -> Kind
+    ensures { Takes at.old at.new result (reads_flat limits (kind what) at.old.cursor) }
 {
-    if next_is_word(Word::Int, &at) {
-        let at = counted_word::<SourceLimits>(what, Word::Int, at)?;
-        Ok((Kind::Int, at))
+    if next_is_word(Word::Int, &at.cursor) {
+        counted_word::<SourceLimits>(what, Word::Int, at);
+        Kind::Int
     } else {
-        let at = counted_word::<SourceLimits>(what, Word::Thread, at)?;
-        Ok((Kind::Thread, at))
+        counted_word::<SourceLimits>(what, Word::Thread, at);
+        Kind::Thread
     }
 }
 
 #[tactic(auto, unfolding(loft_grammar::specs::Items::parameter))]
-fn parameter<'a>(alloc: Global, at: Cursor<'a>) -> Result<(Variable, Cursor<'a>), Stop>
-    ensures { Gives (viewed named_of) result (reads_flat limits parameter at.entry) }
+fn parameter<'a>(at: &mut Reader<'a>) -> Variable
+    ensures { Takes at.old at.new (named_of result) (reads_flat limits parameter at.old.cursor) }
 {
-    let (kind, at) = kind(Some(Counted::Parameter), at)?;
-    let (name, at) = name::<SourceLimits>(alloc, None, at)?;
-    Ok((Variable { kind, name }, at))
+    let kind = kind(Some(Counted::Parameter), at);
+    let name = name::<SourceLimits>(None, at);
+    Variable { kind, name }
 }
 
 #[tactic(auto, unfolding(loft_grammar::specs::Items::parameter))]
-fn further_parameter<'a>(alloc: Global, at: Cursor<'a>) -> Result<(Variable, Cursor<'a>), Stop>
-    ensures { Gives (viewed named_of) result (reads_flat limits (further parameter) at.entry) }
+fn further_parameter<'a>(at: &mut Reader<'a>) -> Variable
+    ensures { Takes at.old at.new (named_of result) (reads_flat limits (further parameter) at.old.cursor) }
 {
-    let at = sign::<SourceLimits>(Sign::Comma, at)?;
-    parameter(alloc, at)
+    sign::<SourceLimits>(Sign::Comma, at);
+    parameter(at)
 }
 
 /// Reads further parameters after these.
-fn further_parameters<'a>(
-    alloc: Global,
-    parameters: Vec<Variable>,
-    at: Cursor<'a>,
-) -> Result<(Vec<Variable>, Cursor<'a>), Stop>
-    ensures { Gives (viewed variables_of) result (with_front (variables_of parameters) (reads_flat limits (many (further parameter)) at.entry)) }
+fn further_parameters<'a>(parameters: Vec<Variable>, at: &mut Reader<'a>) -> Vec<Variable>
+    ensures { Takes at.old at.new (variables_of result) (with_front (variables_of parameters) (reads_flat limits (many (further parameter)) at.old.cursor)) }
 {
     let mut parameters = parameters;
-    let mut at = at;
-    'all: while next_is_sign(Sign::Comma, &at) {
-        let (one, next) = further_parameter(alloc, at)?;
-        parameters.push(one)?;
-        at = next;
+    'all: while at.goes_on() && next_is_sign(Sign::Comma, &at.cursor) {
+        let one = further_parameter(at);
+        at.push(&mut parameters, one);
     }
-    Ok((parameters, at))
+    parameters
 }
 
 #[tactic(auto, unfolding(loft_grammar::specs::Items::parameter))]
-fn listed<'a>(alloc: Global, at: Cursor<'a>) -> Result<(Vec<Variable>, Cursor<'a>), Stop>
-    ensures { Gives (viewed variables_of) result (reads_flat limits (listed parameter) at.entry) }
+fn listed<'a>(at: &mut Reader<'a>) -> Vec<Variable>
+    ensures { Takes at.old at.new (variables_of result) (reads_flat limits (listed parameter) at.old.cursor) }
 {
-    let mut parameters = Vec::new(alloc);
-    if next_parameter(&at) {
-        let (first, at) = parameter(alloc, at)?;
-        parameters.push(first)?;
-        further_parameters(alloc, parameters, at)
+    let mut parameters = Vec::new(at.alloc);
+    if next_parameter(&at.cursor) {
+        let first = parameter(at);
+        at.push(&mut parameters, first);
+        further_parameters(parameters, at)
     } else {
-        Ok((parameters, at))
+        parameters
     }
 }
 
 #[tactic(auto, unfolding(loft_grammar::specs::Items::parameters))]
-fn parameters<'a>(alloc: Global, at: Cursor<'a>) -> Result<(Vec<Variable>, Cursor<'a>), Stop>
-    ensures { Gives (viewed variables_of) result (reads_flat limits parameters at.entry) }
+fn parameters<'a>(at: &mut Reader<'a>) -> Vec<Variable>
+    ensures { Takes at.old at.new (variables_of result) (reads_flat limits parameters at.old.cursor) }
 {
-    let at = sign::<SourceLimits>(Sign::Open, at)?;
-    let (parameters, at) = listed(alloc, at.anew(Counted::Parameter))?;
-    let at = sign::<SourceLimits>(Sign::Close, at)?;
-    Ok((parameters, at))
+    sign::<SourceLimits>(Sign::Open, at);
+    at.count_anew(Counted::Parameter);
+    let parameters = listed(at);
+    sign::<SourceLimits>(Sign::Close, at);
+    parameters
 }
 
 /// Reads the declaration of a local variable.
 #[tactic(auto, unfolding(loft_grammar::specs::Items::local))]
-pub fn local<'a>(alloc: Global, at: Cursor<'a>) -> Result<(Variable, Cursor<'a>), Stop>
-    ensures { Gives (viewed named_of) result (reads_flat limits local at.entry) }
+pub fn local<'a>(at: &mut Reader<'a>) -> Variable
+    ensures { Takes at.old at.new (named_of result) (reads_flat limits local at.old.cursor) }
 {
-    let (_, at) = first_word::<SourceLimits>(Counted::Local, Word::Local, at)?;
-    let (kind, at) = kind(None, at)?;
-    let (name, at) = name::<SourceLimits>(alloc, None, at)?;
-    let at = sign::<SourceLimits>(Sign::Semicolon, at)?;
-    Ok((Variable { kind, name }, at))
+    first_word::<SourceLimits>(Counted::Local, Word::Local, at);
+    let kind = kind(None, at);
+    let name = name::<SourceLimits>(None, at);
+    sign::<SourceLimits>(Sign::Semicolon, at);
+    Variable { kind, name }
 }
 
 /// Reads the local variables of a module.
-pub fn locals<'a>(alloc: Global, at: Cursor<'a>) -> Result<(Vec<Variable>, Cursor<'a>), Stop>
-    ensures { Gives (viewed variables_of) result (reads_flat limits (fresh Counted.Local (many local)) at.entry) }
+pub fn locals<'a>(at: &mut Reader<'a>) -> Vec<Variable>
+    ensures { Takes at.old at.new (variables_of result) (reads_flat limits (fresh Counted.Local (many local)) at.old.cursor) }
 {
-    let mut locals = Vec::new(alloc);
-    let mut at = at.anew(Counted::Local);
-    'all: while next_local(&at) {
-        let (one, next) = local(alloc, at)?;
-        locals.push(one)?;
-        at = next;
+    let mut locals = Vec::new(at.alloc);
+    at.count_anew(Counted::Local);
+    'all: while at.goes_on() && next_local(&at.cursor) {
+        let one = local(at);
+        at.push(&mut locals, one);
     }
-    Ok((locals, at))
+    locals
 }
 
 #[tactic(auto, unfolding(loft_grammar::specs::Items::place))]
-fn place<'a>(alloc: Global, at: Cursor<'a>) -> Result<(PlaceName, Cursor<'a>), Stop>
-    ensures { Gives (viewed place_name_of) result (reads_flat limits place at.entry) }
+fn place<'a>(at: &mut Reader<'a>) -> PlaceName
+    ensures { Takes at.old at.new (place_name_of result) (reads_flat limits place at.old.cursor) }
 {
-    if next_is_name(&at) {
-        let (name, at) = name::<SourceLimits>(alloc, None, at)?;
-        Ok((PlaceName::Scheduler(name), at))
+    if next_is_name(&at.cursor) {
+        let name = name::<SourceLimits>(None, at);
+        PlaceName::Scheduler(name)
     } else {
-        let at = word::<SourceLimits>(Word::Unlinked, at)?;
-        Ok((PlaceName::Unlinked, at))
+        word::<SourceLimits>(Word::Unlinked, at);
+        PlaceName::Unlinked
     }
 }
 
 /// Reads an end place, if `to` stands here.
 #[tactic(auto, unfolding(loft_grammar::specs::Items::ending))]
-fn optional_ending<'a>(
-    alloc: Global,
-    at: Cursor<'a>,
-) -> Result<(Option<PlaceName>, Cursor<'a>), Stop>
-    ensures { Gives (viewed (option_map place_name_of)) result (reads_flat limits (maybe ending) at.entry) }
+fn optional_ending<'a>(at: &mut Reader<'a>) -> Option<PlaceName>
+    ensures { Takes at.old at.new (option_map place_name_of result) (reads_flat limits (maybe ending) at.old.cursor) }
 {
-    if next_is_word(Word::To, &at) {
-        let at = word::<SourceLimits>(Word::To, at)?;
-        let (end, at) = place(alloc, at)?;
-        Ok((Some(end), at))
+    if next_is_word(Word::To, &at.cursor) {
+        word::<SourceLimits>(Word::To, at);
+        let end = place(at);
+        Some(end)
     } else {
-        Ok((None, at))
+        None
     }
 }
 
 /// Reads where the threads of a module begin and end, as they are written.
-fn head_end<'a>(
-    alloc: Global,
-    at: Cursor<'a>,
-) -> Result<((PlaceName, Option<PlaceName>), Cursor<'a>), Stop>
-    ensures { Gives (viewed head_end_of) result (reads_flat limits head_end at.entry) }
+fn head_end<'a>(at: &mut Reader<'a>) -> (PlaceName, Option<PlaceName>)
+    ensures { Takes at.old at.new (head_end_of result) (reads_flat limits head_end at.old.cursor) }
 {
-    let at = word::<SourceLimits>(Word::In, at)?;
-    let (begin, at) = place(alloc, at)?;
-    let (end, at) = optional_ending(alloc, at)?;
-    Ok(((begin, end), at))
+    word::<SourceLimits>(Word::In, at);
+    let begin = place(at);
+    let end = optional_ending(at);
+    (begin, end)
 }
 
 /// Whether both mean the same place.
@@ -193,21 +179,18 @@ fn other_end(begin: &PlaceName, end: Option<PlaceName>) -> Option<PlaceName>
 
 /// Reads the line of a module up to its local variables.
 #[tactic(auto, unfolding(loft_grammar::specs::Items::head))]
-pub fn head<'a>(alloc: Global, at: Cursor<'a>) -> Result<(ModuleHead, Cursor<'a>), Stop>
-    ensures { Gives (viewed head_of) result (reads_flat limits head at.entry) }
+pub fn head<'a>(at: &mut Reader<'a>) -> ModuleHead
+    ensures { Takes at.old at.new (head_of result) (reads_flat limits head at.old.cursor) }
 {
-    let (_, at) = first_word::<SourceLimits>(Counted::Module, Word::Module, at)?;
-    let (name, at) = name::<SourceLimits>(alloc, None, at)?;
-    let (parameters, at) = parameters(alloc, at)?;
-    let ((begin, end), at) = head_end(alloc, at)?;
+    first_word::<SourceLimits>(Counted::Module, Word::Module, at);
+    let name = name::<SourceLimits>(None, at);
+    let parameters = parameters(at);
+    let (begin, end) = head_end(at);
     let end = other_end(&begin, end);
-    Ok((
-        ModuleHead {
-            name,
-            parameters,
-            begin,
-            end,
-        },
-        at,
-    ))
+    ModuleHead {
+        name,
+        parameters,
+        begin,
+        end,
+    }
 }

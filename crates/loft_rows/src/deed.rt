@@ -17,7 +17,7 @@ use crate::row::Deed;
 use crate::sort::{DeedSort, StatementSort, deed_sort, statement_sort};
 use crate::value::value_in;
 use loft_base::NoMemory;
-use loft_parse::read_statement;
+use loft_part_readers::read_statement;
 use loft_tree::{Expr, Stmt};
 use std::alloc::Global;
 

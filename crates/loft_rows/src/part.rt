@@ -17,7 +17,7 @@ use crate::operation::operation;
 use crate::row::Row;
 use crate::sort::{LineSort, line_sort};
 use loft_base::NoMemory;
-use loft_parse::{read_declaration, read_head, read_local, read_order};
+use loft_part_readers::{read_declaration, read_head, read_local, read_order};
 use loft_tree::{Ident, Item, ModuleHead, OutsideOrder, Variable};
 use std::alloc::Global;
 

@@ -10,7 +10,7 @@ ghost use Rattle.loft_rows.specs.Finds.{Finds};
 ghost use Rattle.loft_rows.specs.Instructions.{feed};
 
 use loft_base::NoMemory;
-use loft_parse::read_expression;
+use loft_part_readers::read_expression;
 use loft_tree::Expr;
 use std::alloc::Global;
 

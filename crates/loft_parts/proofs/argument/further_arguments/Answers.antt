@@ -1,27 +1,20 @@
-use Rattle.std.proofs.Common.{sym, arith}
-use Rattle.std.proofs.lemmas.Result.{err_from_is_err_and}
-use Rattle.std.proofs.lemmas.List.{length-map, map_push}
-use Rattle.loft_form.proofs.Lists.{list_more, list_fails, list_done}
-use Rattle.loft_form.proofs.Progress.{eaten}
+use Rattle.std.proofs.Common.{refl, sym, arith}
 use Rattle.loft_tree.specs.View.{expression_of}
 use Rattle.loft_grammar.specs.Expressions.{further, argument}
-use Rattle.loft_grammar.specs.Statements.{rules}
-use Rattle.loft_grammar.specs.View.{symbols_at, state_at, place_of, expressions_of}
+use Rattle.loft_grammar.specs.View.{expressions_of}
+use Rattle.loft_parts.proofs.Taking.{more_listed, fewer_left, all_listed, appended}
 use Rattle.loft_parts.proofs.argument.further_arguments.Goals as goal
 
 pub all-preserved : goal.all-preserved
 all-preserved g c =
-    rw (c.in_ok-push.ensures.items, map_push expression_of c.all.arguments.items c.in_ok-one.one)
-    (list_more rules g.L.Limited.limits c.args.deeper (further argument) (expressions_of c.all.arguments) (symbols_at c.all.at) (state_at c.all.at) _ c.all.invariant (expression_of c.in_ok-one.one) (place_of c.in_ok-one.next) (omega arith) (sym c.all-test.ensures) c.in_ok-one.ensures)
+    more_listed g.L.Limited.limits c.args.deeper (further argument) (expressions_of c.all.arguments) c.args.at.now c.all.at _ (c.all-test.ensures.going refl) c.all.invariant (omega arith)
+    (expression_of c.further_argument-one.result) c.further_argument-one.new.at c.push.new.self (expressions_of c.push.new.all) (sym c.if-next_is_sign.ensures) c.further_argument-one.ensures
+    (λ h. let p = c.push.ensures.item h in (p.0, appended expression_of c.all.arguments.items c.push.new.all.items c.further_argument-one.result p.1)) c.push.ensures.fault c.push.ensures.cursor
 
 pub all-smaller : goal.all-smaller
 all-smaller g c =
-    simp length-map at (eaten rules g.L.Limited.limits c.args.deeper (further argument) (symbols_at c.all.at) (state_at c.all.at) (expression_of c.in_ok-one.one) (place_of c.in_ok-one.next) (omega arith) c.in_ok-one.ensures)
+    fewer_left g.L.Limited.limits c.args.deeper (further argument) c.all.at c.further_argument-one.new.at c.push.new.self (expression_of c.further_argument-one.result) (c.all-test.ensures.going refl) (omega arith) c.further_argument-one.ensures
+    (λ h. (c.push.ensures.item h).0) c.push.ensures.cursor
 
-pub returns : goal.returns
-returns g c = list_done rules g.L.Limited.limits c.args.deeper (further argument) (expressions_of c.all.arguments) (symbols_at c.all.at) (state_at c.all.at) _ c.all.invariant (omega arith) (sym c.all-test.ensures)
-
-pub returns-in_err-one : goal.returns-in_err-one
-returns-in_err-one g c =
-    let p = err_from_is_err_and c.from_residual.result c.from_residual.ensures.1 in
-    rw (p.1, p.2) (list_fails rules g.L.Limited.limits c.args.deeper (further argument) (expressions_of c.all.arguments) (symbols_at c.all.at) (state_at c.all.at) _ c.all.invariant c.in_err-one.field-0.0 (omega arith) (sym c.all-test.ensures) c.in_err-one.ensures)
+pub returns-else-next_is_sign : goal.returns-else-next_is_sign
+returns-else-next_is_sign g c = all_listed g.L.Limited.limits c.args.deeper (further argument) (expressions_of c.all.arguments) c.args.at.now c.all.at _ c.all.invariant (omega arith) (λ _. sym c.if-next_is_sign.ensures)

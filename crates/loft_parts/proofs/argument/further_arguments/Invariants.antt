@@ -1,12 +1,12 @@
-use Rattle.std.proofs.Common.{◌≡◌, length}
 use Rattle.loft_form.specs.Form.{many}
 use Rattle.loft_grammar.specs.Expressions.{further, argument}
 use Rattle.loft_grammar.specs.View.{reads, with_front, expressions_of}
+use Rattle.loft_parts.proofs.Taking.{Remains, left_to}
 use Rattle.loft_parts.proofs.argument.further_arguments.Given as goal
 
 -- what was read and what is left make up the whole
 abbrev pub invariant-all : goal.invariant-all
-invariant-all g l = with_front (expressions_of l.arguments) (reads g.L.Limited.limits l.deeper (many (further argument)) l.at) ≡ with_front (expressions_of l.fn.arguments) (reads g.L.Limited.limits l.deeper (many (further argument)) l.fn.at)
+invariant-all g l = Remains l.fn.at l.at (with_front (expressions_of l.arguments) (reads g.L.Limited.limits l.deeper (many (further argument)) l.at.cursor)) (with_front (expressions_of l.fn.arguments) (reads g.L.Limited.limits l.deeper (many (further argument)) l.fn.at.cursor))
 
 abbrev pub decreases-all : goal.decreases-all
-decreases-all g l = length l.at.symbols.now
+decreases-all g l = left_to l.at

@@ -1,7 +1,8 @@
-use Rattle.std.proofs.Common.{◌≡◌, ◌+◌, ◌*◌, length}
+use Rattle.std.proofs.Common.{◌+◌, ◌*◌}
 use Rattle.loft_form.specs.Form.{many}
 use Rattle.loft_grammar.specs.Statements.{statement, body}
 use Rattle.loft_grammar.specs.View.{reads, with_front, statement_list_of}
+use Rattle.loft_parts.proofs.Taking.{Remains, left_to}
 use Rattle.loft_parts.proofs.body.+statement.Given as goal
 
 abbrev pub decreases-conditional : goal.decreases-conditional
@@ -27,7 +28,7 @@ decreases-branches g l = 16 * l.deeper + 5
 
 -- what was read and what is left make up the whole
 abbrev pub invariant-body-all : goal.invariant-body-all
-invariant-body-all g l = with_front (statement_list_of l.statements) (reads g.L.Limited.limits l.deeper (many statement) l.at) ≡ reads g.L.Limited.limits l.deeper body l.fn.at
+invariant-body-all g l = Remains l.fn.at l.at (with_front (statement_list_of l.statements) (reads g.L.Limited.limits l.deeper (many statement) l.at.cursor)) (reads g.L.Limited.limits l.deeper body l.fn.at.cursor)
 
 abbrev pub decreases-body-all : goal.decreases-body-all
-decreases-body-all g l = length l.at.symbols.now
+decreases-body-all g l = left_to l.at

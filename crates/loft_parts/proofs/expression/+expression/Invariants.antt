@@ -1,4 +1,4 @@
-use Rattle.std.proofs.Common.{◌≡◌, ℕ, ◌+◌, ◌*◌, length}
+use Rattle.std.proofs.Common.{ℕ, ◌+◌, ◌*◌}
 use Rattle.loft_form.specs.Form.{many}
 use Rattle.loft_tree.specs.View.{expression_of}
 use Rattle.loft_grammar.specs.Levels.{operation_at, chain_at}
@@ -6,6 +6,7 @@ use Rattle.loft_grammar.specs.View.{reads}
 use Rattle.loft_grammar.specs.declared.operator.Level.{Level}
 use Rattle.loft_grammar.specs.declared.operator.Level.TheVariants.{Product, Sum, Conjunction, Disjunction}
 use Rattle.loft_parts.proofs.Chains.{finish}
+use Rattle.loft_parts.proofs.Taking.{Remains, left_to}
 use Rattle.loft_parts.proofs.expression.+expression.Given as goal
 
 -- above what the operands of the level call
@@ -44,7 +45,7 @@ decreases-chain g l = 20 * l.deeper + (rank l.level + 2)
 
 -- what was read of a chain and what is left of it make up the whole
 abbrev pub invariant-chain-chain : goal.invariant-chain-chain
-invariant-chain-chain g l = finish (expression_of l.left) (reads g.L.Limited.limits l.deeper (many (operation_at l.level)) l.at) ≡ reads g.L.Limited.limits l.deeper (chain_at l.level) l.fn.at
+invariant-chain-chain g l = Remains l.fn.at l.at (finish (expression_of l.left) (reads g.L.Limited.limits l.deeper (many (operation_at l.level)) l.at.cursor)) (reads g.L.Limited.limits l.deeper (chain_at l.level) l.fn.at.cursor)
 
 abbrev pub decreases-chain-chain : goal.decreases-chain-chain
-decreases-chain-chain g l = length l.at.symbols.now
+decreases-chain-chain g l = left_to l.at

@@ -1,33 +1,25 @@
-use Rattle.std.proofs.Common.{sym, arith}
-use Rattle.std.proofs.lemmas.Result.{err_from_is_err_and}
-use Rattle.std.proofs.lemmas.List.{length-map, map_push}
-use Rattle.loft_form.proofs.Lists.{list_more, list_fails, list_done}
-use Rattle.loft_form.proofs.Progress.{eaten}
+use Rattle.std.proofs.Common.{refl, sym, arith}
 use Rattle.loft_tree.specs.View.{named_of}
 use Rattle.loft_grammar.specs.Expressions.{further}
-use Rattle.loft_grammar.specs.Statements.{rules}
 use Rattle.loft_grammar.specs.Items.{parameter}
 use Rattle.loft_grammar.specs.Limits.{limits}
-use Rattle.loft_grammar.specs.View.{symbols_at, state_at, place_of, variables_of}
+use Rattle.loft_grammar.specs.View.{variables_of}
+use Rattle.loft_parts.proofs.Taking.{more_listed, fewer_left, all_listed, appended}
 use Rattle.loft_parts.proofs.head.further_parameters.Goals as goal
 
 pub all-preserved : goal.all-preserved
 unfolding parameter
 all-preserved c =
-    rw (c.in_ok-push.ensures.items, map_push named_of c.all.parameters.items c.in_ok-one.one)
-    (list_more rules limits 0 (further parameter) (variables_of c.all.parameters) (symbols_at c.all.at) (state_at c.all.at) _ c.all.invariant (named_of c.in_ok-one.one) (place_of c.in_ok-one.next) (omega arith) (sym c.all-test.ensures) c.in_ok-one.ensures)
+    more_listed limits 0 (further parameter) (variables_of c.all.parameters) c.args.at.now c.all.at _ (c.all-test.ensures.going refl) c.all.invariant (omega arith)
+    (named_of c.further_parameter-one.result) c.further_parameter-one.new.at c.push.new.self (variables_of c.push.new.all) (sym c.if-next_is_sign.ensures) c.further_parameter-one.ensures
+    (λ h. let p = c.push.ensures.item h in (p.0, appended named_of c.all.parameters.items c.push.new.all.items c.further_parameter-one.result p.1)) c.push.ensures.fault c.push.ensures.cursor
 
 pub all-smaller : goal.all-smaller
 unfolding parameter
 all-smaller c =
-    simp length-map at (eaten rules limits 0 (further parameter) (symbols_at c.all.at) (state_at c.all.at) (named_of c.in_ok-one.one) (place_of c.in_ok-one.next) (omega arith) c.in_ok-one.ensures)
+    fewer_left limits 0 (further parameter) c.all.at c.further_parameter-one.new.at c.push.new.self (named_of c.further_parameter-one.result) (c.all-test.ensures.going refl) (omega arith) c.further_parameter-one.ensures
+    (λ h. (c.push.ensures.item h).0) c.push.ensures.cursor
 
-pub returns : goal.returns
+pub returns-else-next_is_sign : goal.returns-else-next_is_sign
 unfolding parameter
-returns c = list_done rules limits 0 (further parameter) (variables_of c.all.parameters) (symbols_at c.all.at) (state_at c.all.at) _ c.all.invariant (omega arith) (sym c.all-test.ensures)
-
-pub returns-in_err-one : goal.returns-in_err-one
-unfolding parameter
-returns-in_err-one c =
-    let p = err_from_is_err_and c.from_residual.result c.from_residual.ensures.1 in
-    rw (p.1, p.2) (list_fails rules limits 0 (further parameter) (variables_of c.all.parameters) (symbols_at c.all.at) (state_at c.all.at) _ c.all.invariant c.in_err-one.field-0.0 (omega arith) (sym c.all-test.ensures) c.in_err-one.ensures)
+returns-else-next_is_sign c = all_listed limits 0 (further parameter) (variables_of c.all.parameters) c.args.at.now c.all.at _ c.all.invariant (omega arith) (λ _. sym c.if-next_is_sign.ensures)
