@@ -1,4 +1,5 @@
 pub mod StepLemmas
+pub mod MomentLemmas
 pub mod AroundLemmas
 pub mod PassLemmas
 pub mod RunnerLemmas

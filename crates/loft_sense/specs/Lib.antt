@@ -12,6 +12,7 @@ pub mod Tree
 pub mod Code
 pub mod Stands
 pub mod Passes
+pub mod Moments
 pub mod Apply
 pub mod Instant
 pub mod Runs

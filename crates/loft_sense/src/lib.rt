@@ -35,9 +35,10 @@ pub use note::{
 };
 pub use order::{At, End, Mark, Marks, Order, Orders, Sent, Sents, Stop, To};
 pub use run_laws::{
-    events_stay_present_in_an_instant, instants_keep_what_is_declared, instants_make_few_entries,
+    Claim, acts_tell_what_was_done, events_stay_present_in_an_instant,
+    instants_keep_what_is_declared, instants_make_few_entries, moments_go_run_by_run,
     nobody_waits_for_a_present_event, passes_go_in_order, runs_keep_what_is_declared,
-    runs_make_few_entries, threads_run_within_the_budget,
+    runs_make_few_entries, threads_run_within_the_budget, what_runs_keep_holds_between_them,
 };
 pub use shared_thread::{SharedThread, ThreadGroup};
 pub use thread::{Counts, Events, Frame, Frames, Thread, Threads, Wait};
