@@ -56,7 +56,7 @@ module _ (x : Prog) (s : SchedId) where
     pub runners : Each RunnerFits w.runners
     pub around : AroundFits (heads x) (Sched s) w.around
 
-  runners_fit : (r : Runner) (o : Outcome) (rest : List Runner) → r.leaving ≡ None → LeavesStanding x (Sched s) o → Each RunnerFits rest → Each RunnerFits (runners_after r o ++ rest)
+  pub runners_fit : (r : Runner) (o : Outcome) (rest : List Runner) → r.leaving ≡ None → LeavesStanding x (Sched s) o → Each RunnerFits rest → Each RunnerFits (runners_after r o ++ rest)
   runners_fit r (Held t around left) rest e f g = (subst (λ leaving. Going leaving t) (sym e) (f.0, f.1), g)
   runners_fit r (Left t to around left) rest e f g = ((f.0, f.1, f.2), g)
   runners_fit r (Ended end around left) rest e f g = g
