@@ -5,7 +5,9 @@ pub mod PassLemmas
 pub mod RunnerLemmas
 pub mod EventLemmas
 pub mod CodeLemmas
+pub mod OriginLemmas
 pub mod HistoryLemmas
+pub mod CloseLemmas
 pub mod LegalLemmas
 pub mod LegalEntries
 pub mod OwnLemmas

@@ -55,7 +55,7 @@ each_kept x Q h front r rest around ready p =
 pub within_keeps : (x : Prog) (Q : Runner → Type 0) → IsKept x Q → (n : ℕ) (rs : List Runner) → AllByRecursion Q rs → (around : Around) → AllByRecursion Q (passes_within n x rs around).runners
 within_keeps x Q h n rs p around = kept_within x (OfEach Q) (each_kept x Q h) n rs around p
 
-passes_keep : (x : Prog) (Q : Runner → Type 0) → IsKept x Q → (rs : List Runner) → AllByRecursion Q rs → (around : Around) → AllByRecursion Q (passes x rs around).runners
+pub passes_keep : (x : Prog) (Q : Runner → Type 0) → IsKept x Q → (rs : List Runner) → AllByRecursion Q rs → (around : Around) → AllByRecursion Q (passes x rs around).runners
 passes_keep x Q h rs p around = kept_by_passes x (OfEach Q) (each_kept x Q h) rs around p
 
 begin_all : (Q : Runner → Type 0) (budget : ℕ) → ((s : Standing) → Q (runner_of budget s)) → (ss : List Standing) → AllByRecursion Q (map (runner_of budget) ss)
@@ -136,7 +136,7 @@ over_only_without_steps x t around n at after left e = (subst (OutcomeIs around)
 pub held_pending : (x : Prog) (t : Thread) (around : Around) (n : ℕ) (u : Thread) (after : Around) (left : ℕ) → run_of x t around n ≡ Held u after left → IsPending u.wait
 held_pending x t around n u after left e = (subst (OutcomeIs around) e (run_is x t around n)).1
 
-new_pending : (t : Thread) → t.wait ≡ New → IsPending t.wait
+pub new_pending : (t : Thread) → t.wait ≡ New → IsPending t.wait
 new_pending t e = subst IsPending (sym e) (record { unmarked = λ f. cc; instants = λ n g. absurd cc })
 
 -- the wait of a thread that ran began in this instant

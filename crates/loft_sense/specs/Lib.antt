@@ -17,6 +17,7 @@ pub mod Apply
 pub mod Instant
 pub mod Runs
 pub mod Codes
+pub mod CodeOrigins
 pub mod Async
 pub mod Rest
 pub mod Fits

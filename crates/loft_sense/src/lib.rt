@@ -15,6 +15,7 @@ pub mod shared_thread;
 pub mod thread;
 
 pub use code_laws::{
+    codes_come_from_waits_and_limits, earlier_closes_set_marks_and_zeros,
     stops_set_codes_as_they_begin, the_close_marks_and_lowers, waits_are_pending_until_the_close,
     waits_set_codes_as_they_end,
 };
