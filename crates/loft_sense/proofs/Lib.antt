@@ -5,6 +5,7 @@ pub mod RunnerLemmas
 pub mod EventLemmas
 pub mod CodeLemmas
 pub mod HistoryLemmas
+pub mod OwnLemmas
+pub mod GrowthLemmas
 pub mod LegalLemmas
 pub mod LegalEntries
-pub mod OwnLemmas
