@@ -28,7 +28,7 @@ use Rattle.loft_sense.specs.Fits.{Fits}
 use Rattle.loft_sense.specs.Codes.{left_of, IsPending}
 use Rattle.loft_sense.specs.CodeOrigins.{ArrivesNew, IsSetByClose}
 use Rattle.loft_sense.proofs.AroundLemmas.{OutcomeIs, run_is}
-use Rattle.loft_sense.proofs.RunnerLemmas.{IsKept, passes_keep, held_pending, new_pending}
+use Rattle.loft_sense.proofs.RunnerLemmas.{IsKept, passes_keep, new_pending}
 use Rattle.loft_sense.proofs.HistoryLemmas.{replay_on-append}
 
 -- ---- waits

@@ -8,6 +8,7 @@ pub mod CodeLemmas
 pub mod OriginLemmas
 pub mod HistoryLemmas
 pub mod CloseLemmas
+pub mod OwnLemmas
+pub mod GrowthLemmas
 pub mod LegalLemmas
 pub mod LegalEntries
-pub mod OwnLemmas

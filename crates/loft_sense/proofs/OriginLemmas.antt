@@ -1,6 +1,6 @@
 -- The code that a thread has after a run: where it comes from.
-use Rattle.std.proofs.Common.{◌≡◌, ◌⊎◌, inl, inr, ℕ, zero, suc, Bool, true, false, List, [], ◌∷◌, Option, Some, None, refl, sym, ◌∙◌, ap, subst, length}
-use Rattle.std.specs.Prelude.{ℤ, pos, if◌then◌else◌, nat_lt}
+use Rattle.std.proofs.Common.{◌≡◌, inl, inr, ℕ, zero, suc, Bool, true, false, List, [], ◌∷◌, Option, Some, None, refl, sym, ◌∙◌, ap, subst, length}
+use Rattle.std.specs.Prelude.{ℤ, if◌then◌else◌, nat_lt}
 use Rattle.loft_base.specs.declared.ids.ModuleId.{ModuleId}
 use Rattle.loft_base.specs.declared.ids.Value.{Value}
 use Rattle.loft_tree.specs.declared.heads.Heads.{Heads}
@@ -8,19 +8,18 @@ use Rattle.loft_tree.specs.Resolved.{Exp, Action, Pause}
 use Rattle.loft_sense.specs.declared.limits.TheConstants.{MAX_FRAMES}
 use Rattle.loft_sense.specs.declared.thread.Thread.{Thread}
 use Rattle.loft_sense.specs.declared.thread.Wait.{Wait}
-use Rattle.loft_sense.specs.declared.thread.Wait.TheVariants as wait
 use Rattle.loft_sense.specs.declared.order.End.TheVariants.{Deep}
 use Rattle.loft_sense.specs.declared.order.To.{To}
 use Rattle.loft_sense.specs.Machine.{Prog, Tree, Code}
 use Rattle.loft_sense.specs.Around.{Around, Beside}
 use Rattle.loft_sense.specs.Eval.{eval, eval_all, number_of}
-use Rattle.loft_sense.specs.Statements.{Effect, GoesOn, Waits, Leaves, Dies, ok, timeout, next, did, begun, answered}
+use Rattle.loft_sense.specs.Statements.{Effect, GoesOn, Waits, Leaves, Dies, ok, timeout, did, begun, answered}
 use Rattle.loft_sense.specs.Run.{Next, Finish, Stuck, Acts, Passes, Tests, Counts, Holds, Runs, Control, Active, Outcome, Held, Left, Ended, ends, live, effect_on, test_on, count_on, run_on, begun_frame, stopped, step, step_on, no_step, going, go_on, go, here, beside, actives_of}
 use Rattle.loft_sense.specs.Tree.{tree}
 use Rattle.loft_sense.specs.Code.{code}
 use Rattle.loft_sense.specs.Passes.{run_of}
-use Rattle.loft_sense.specs.Codes.{stop_sets_code, limit_number, wait_sets_code, left_of}
-use Rattle.loft_sense.specs.CodeOrigins.{StepsTo, Reaches, at_once, further, BeginsLate, LeadsLate, WakesLate, RunsLate, CodeComesFrom, kept, there, ran_out, late, marked}
+use Rattle.loft_sense.specs.Codes.{stop_sets_code, limit_number, wait_sets_code}
+use Rattle.loft_sense.specs.CodeOrigins.{Reaches, at_once, further, BeginsLate, LeadsLate, WakesLate, CodeComesFrom, kept, there, ran_out, late, marked}
 use Rattle.loft_sense.proofs.CodeLemmas.{IsCode, IsAnswer, begun_code, begun_same_code, did_same_code, answered_code, answered_same_code}
 
 -- K holds of the code of the thread that a run leaves

@@ -1,5 +1,5 @@
 -- Where the code of a thread, and the wait that sets it, come from (docs/SEMANTICS.md, "Statements").
-use Rattle.std.specs.Prelude.{◌≡◌, ◌⊎◌, ℕ, ℤ, pos, ◌≤ℤ◌, false, List, [], ◌∷◌, ◌++◌, Option, Some, None}
+use Rattle.std.specs.Prelude.{◌≡◌, ℕ, ℤ, pos, ◌≤ℤ◌, false, List, [], ◌∷◌, ◌++◌, Some, None}
 use Rattle.loft_base.specs.declared.ids.SchedId.{SchedId}
 use Rattle.loft_tree.specs.Resolved.{Pause}
 use Rattle.loft_sense.specs.declared.limits.Limits.{Limits}
@@ -11,7 +11,7 @@ use Rattle.loft_sense.specs.declared.thread.Wait.TheVariants as wait
 use Rattle.loft_sense.specs.Machine.{Prog, Tree, Code}
 use Rattle.loft_sense.specs.Around.{Around, Beside}
 use Rattle.loft_sense.specs.Statements.{ok, timeout, next, answered}
-use Rattle.loft_sense.specs.Run.{Next, Holds, Control, Active, Outcome, live, step_on, beside, actives_of}
+use Rattle.loft_sense.specs.Run.{Holds, Control, Active, Outcome, live, step_on, beside, actives_of}
 use Rattle.loft_sense.specs.Tree.{tree}
 use Rattle.loft_sense.specs.Code.{code}
 use Rattle.loft_sense.specs.Passes.{Runner}

@@ -23,7 +23,7 @@ pub use engine::Engine;
 pub use entry::{Actor, Entry};
 pub use laws::{
     ended_histories_go_no_further, legal_histories_are_made, legal_histories_grow_by_entries,
-    made_histories_are_legal, own_entries_tell, passes_end,
+    made_histories_are_legal, own_entries_tell, own_lists_grow, passes_end,
 };
 pub use limits::{
     Limits, MAX_BLOCK, MAX_BLOCK_ENTRIES, MAX_BUDGET, MAX_ENTRIES, MAX_FRAMES, MAX_INSTANTS,

@@ -3,6 +3,8 @@
 use Rattle.std.proofs.Common.{◌≡◌, ℕ, ◌==◌, inl, inr, Bool, true, false, List, [], ◌∷◌, ◌++◌, length, Some, refl, sym, ◌∙◌, subst, append_assoc, append-nil}
 use Rattle.std.specs.Prelude.{◌&&◌, not, nat_lt, drop, if◌then◌else◌}
 use Rattle.std.proofs.lemmas.Bool.{and_parts, ltb-true}
+use Rattle.std.proofs.lemmas.Grind.{flat_map-append}
+use Rattle.std.proofs.lemmas.List.Sums.{fold_push}
 use Rattle.loft_base.specs.declared.ids.SchedId.{SchedId}
 use Rattle.loft_tree.specs.Fits.{Each}
 use Rattle.loft_tree.specs.NamedFits.{IsScheduler}
@@ -18,12 +20,12 @@ use Rattle.loft_sense.specs.Machine.{Prog, heads, Mach, empty}
 use Rattle.loft_sense.specs.Instant.{instant, Replayed, one_more, replay_on}
 use Rattle.loft_sense.specs.Async.{async}
 use Rattle.loft_sense.specs.Clients.{outside_of}
-use Rattle.loft_sense.specs.History.{choice_of, log, is_open, orders_to, starts_of, waiting_after, waiting, jobs_sent, jobs_after, jobs, left_after, left_of, unsent_after, unsent, replayed, has_turn, sent_last, entry_of_first, pick_of, entry_of}
+use Rattle.loft_sense.specs.History.{choice_of, sends, sent_in, log, is_open, orders_to, starts_of, waiting_step, waiting_after, waiting, jobs_sent, jobs_step, jobs_after, jobs, left_step, left_of, unsent_step, unsent, replayed, has_turn, sent_last, entry_of_first, pick_of, entry_of}
 use Rattle.loft_sense.specs.Legal.{AtEach, IsCallersEntry, ComesNext}
 use Rattle.loft_sense.proofs.AroundLemmas.{instant_scheduler}
-use Rattle.loft_sense.proofs.HistoryLemmas.{is_same, on_if, on_first, on_pick, log-append, waiting_after-append, jobs_after-append, left_after-append, unsent_after-append}
+use Rattle.loft_sense.proofs.HistoryLemmas.{is_same, on_if, on_first, on_pick, log-append}
 use Rattle.loft_sense.proofs.LegalEntries.{split_on}
-use Rattle.loft_stand.proofs.ListLemmas.{each_append, each_drop}
+use Rattle.loft_stand.proofs.ListLemmas.{each_append, each_parts, each_drop}
 
 -- What is claimed: of an order that waits for a scheduler, of a thread that waits for a worker, of a machine, and of all that is
 -- sent. And what is known from elsewhere of all that entries send.
@@ -34,7 +36,12 @@ pub record Claims : Type 1 where
   pub sent : Sent → Type 0
   pub known : Sent → Type 0
 
--- Machines, starts and clients begin so, instants and blocks keep it, and what is sent is so where it waits.
+-- what is sent, and known, is so where it waits
+pub record Routes (x : Prog) (c : Claims) : Type 0 where
+  pub orders : (s : SchedId) → IsScheduler (heads x) s → (ms : List Sent) → Each c.sent ms → Each c.known ms → Each (c.order s) (orders_to s ms)
+  pub jobs : (ms : List Sent) → Each c.sent ms → Each c.known ms → Each c.job (jobs_sent ms)
+
+-- Machines, starts and clients begin so, and instants and blocks keep it.
 pub record AreKept (x : Prog) (o : RunOptions) (c : Claims) : Type 0 where
   pub begins : (s : SchedId) → IsScheduler (heads x) s → c.machine (empty x s)
   pub machines : (m : Mach) (batch : List Order) → c.machine m → Each (c.order m.s) batch → c.machine (instant x o.limits m batch).machine
@@ -42,26 +49,13 @@ pub record AreKept (x : Prog) (o : RunOptions) (c : Claims) : Type 0 where
   pub blocks : (t : Thread) → c.job t → Each c.sent (async x t o.limits.block)
   pub starts : (s : SchedId) → Each (c.order s) (starts_of (heads x) s)
   pub clients : (d : ℕ) → Each c.sent (outside_of (heads x) d)
-  pub orders : (s : SchedId) (ms : List Sent) → Each c.sent ms → Each c.known ms → Each (c.order s) (orders_to s ms)
-  pub jobs : (ms : List Sent) → Each c.sent ms → Each c.known ms → Each c.job (jobs_sent ms)
-
--- each order that the entry sends is so
-abbrev pub EachSent : (Sent → Type 0) → Entry → Type 0
-EachSent P (Take s batch) = Unit {0}
-EachSent P (Give s sent) = Each P sent
-EachSent P (Pick w job) = Unit {0}
-EachSent P (Post w sent) = P sent
-EachSent P (Client d sent) = P sent
+  pub routes : Routes x c
 
 some_same : {a b : Entry} → Some a ≡ Some b → a ≡ b
 some_same e = cc
 
 same_job : {w : ℕ} {t u : Thread} → Pick w t ≡ Pick w u → t ≡ u
 same_job e = cc
-
-unless : {A : Type 0} (P : A → Type 0) (b : Bool) (xs : List A) → Each P xs → Each P (if b then [] else xs)
-unless P true xs f = tt
-unless P false xs f = f
 
 only_if : {A : Type 0} (P : A → Type 0) (b : Bool) (x : A) → (b ≡ true → P x) → Each P (if b then x ∷ [] else [])
 only_if P true x f = (f refl, tt)
@@ -76,6 +70,39 @@ last_sent P [] f = tt
 last_sent P (n ∷ []) f = f.0
 last_sent P (n ∷ m ∷ ns) f = last_sent P (m ∷ ns) f.1
 
+-- ---- what was sent, and waits
+
+module _ (x : Prog) (c : Claims) (routes : Routes x c) where
+  one_waits : (s : SchedId) → IsScheduler (heads x) s → (before : List Order) (e : Entry) → Each (c.order s) before → Each c.sent (sends e) → Each c.known (sends e) → Each (c.order s) (waiting_step s before e)
+  one_waits s declared before (Take q batch) f g k = either (c.order s) (same_scheduler s q) [] before tt f
+  one_waits s declared before (Give q sent) f g k = each_append (c.order s) before (orders_to s sent) f (routes.orders s declared sent g k)
+  one_waits s declared before (Pick w job) f g k = f
+  one_waits s declared before (Post w sent) f g k = each_append (c.order s) before (orders_to s (sent ∷ [])) f (routes.orders s declared (sent ∷ []) g k)
+  one_waits s declared before (Client d sent) f g k = each_append (c.order s) before (orders_to s (sent ∷ [])) f (routes.orders s declared (sent ∷ []) g k)
+
+  pub sent_wait : (s : SchedId) → IsScheduler (heads x) s → (before : List Order) (es : List Entry) → Each (c.order s) before → Each c.sent (sent_in es) → Each c.known (sent_in es) → Each (c.order s) (waiting_after s before es)
+  sent_wait s declared before [] f g k = f
+  sent_wait s declared before (e ∷ es) f g k =
+      let sent = each_parts c.sent (sends e) (sent_in es) g in
+      let known = each_parts c.known (sends e) (sent_in es) k in
+      sent_wait s declared (waiting_step s before e) es (one_waits s declared before e f sent.0 known.0) sent.1 known.1
+
+  one_job : (before : List Thread) (e : Entry) → Each c.job before → Each c.sent (sends e) → Each c.known (sends e) → Each c.job (jobs_step before e)
+  one_job before (Take q batch) f g k = f
+  one_job before (Give q sent) f g k = each_append c.job before (jobs_sent sent) f (routes.jobs sent g k)
+  one_job before (Pick w job) f g k = each_drop c.job before f
+  one_job before (Post w sent) f g k = each_append c.job before (jobs_sent (sent ∷ [])) f (routes.jobs (sent ∷ []) g k)
+  one_job before (Client d sent) f g k = each_append c.job before (jobs_sent (sent ∷ [])) f (routes.jobs (sent ∷ []) g k)
+
+  pub sent_work : (before : List Thread) (es : List Entry) → Each c.job before → Each c.sent (sent_in es) → Each c.known (sent_in es) → Each c.job (jobs_after before es)
+  sent_work before [] f g k = f
+  sent_work before (e ∷ es) f g k =
+      let sent = each_parts c.sent (sends e) (sent_in es) g in
+      let known = each_parts c.known (sends e) (sent_in es) k in
+      sent_work (jobs_step before e) es (one_job before e f sent.0 known.0) sent.1 known.1
+
+-- ---- histories
+
 module _ (x : Prog) (o : RunOptions) (c : Claims) where
   abbrev pub NoteHolds : InstantNote → Type 0
   NoteHolds note = Each c.sent note.sent
@@ -89,28 +116,28 @@ module _ (x : Prog) (o : RunOptions) (c : Claims) where
     pub machine : c.machine r.machine
     pub notes : Each NoteHolds r.notes
 
-  -- What waits for each scheduler is so, and so was each batch that it took; so are the threads that wait for a worker, what
-  -- workers have still to post, and what clients have still to give.
+  -- What was sent is so, as is each batch that a scheduler took, what workers have still to post, and what clients have still
+  -- to give.
   pub record HistoryHolds (h : List Entry) : Type 0 where
-    pub waits : (s : SchedId) → BatchHolds s (waiting (heads x) s h)
-    pub took : (s : SchedId) → Each (BatchHolds s) (log s h)
-    pub threads : Each c.job (jobs h)
+    pub sent : Each c.sent (sent_in h)
+    pub known : Each c.known (sent_in h)
+    pub took : (s : SchedId) → IsScheduler (heads x) s → Each (BatchHolds s) (log s h)
     pub posts : (w : ℕ) → Each c.sent (left_of x o w h)
     pub orders : (d : ℕ) → Each c.sent (unsent (heads x) d h)
 
   -- the same of what one more entry leaves
   pub record EntryHolds (h : List Entry) (e : Entry) : Type 0 where
-    pub waits : (s : SchedId) → BatchHolds s (waiting_after s (waiting (heads x) s h) (e ∷ []))
-    pub took : (s : SchedId) → Each (BatchHolds s) (log s (e ∷ []))
-    pub threads : Each c.job (jobs_after (jobs h) (e ∷ []))
-    pub posts : (w : ℕ) → Each c.sent (left_after x o w (left_of x o w h) (e ∷ []))
-    pub orders : (d : ℕ) → Each c.sent (unsent_after d (unsent (heads x) d h) (e ∷ []))
+    pub sent : Each c.sent (sends e)
+    pub took : (s : SchedId) → IsScheduler (heads x) s → Each (BatchHolds s) (log s (e ∷ []))
+    pub posts : (w : ℕ) → Each c.sent (left_step x o w (left_of x o w h) e)
+    pub orders : (d : ℕ) → Each c.sent (unsent_step d (unsent (heads x) d h) e)
 
-  -- the entry may come next; where it is a caller's, what it gives is so, and what is known of each entry is known of it
+  -- The entry may come next. Where it is a caller's, what it gives is so, and what is known of all that entries send is known
+  -- of what it sends.
   pub record ComesSo (h : List Entry) (e : Entry) : Type 0 where
     pub next : ComesNext x o h e
-    pub call : IsCallersEntry x h e → EachSent c.sent e
-    pub known : EachSent c.known e
+    pub call : IsCallersEntry x h e → Each c.sent (sends e)
+    pub known : Each c.known (sends e)
 
 module _ (x : Prog) (o : RunOptions) (c : Claims) (kept : AreKept x o c) where
   -- ---- a scheduler's own instants
@@ -128,97 +155,98 @@ module _ (x : Prog) (o : RunOptions) (c : Claims) (kept : AreKept x o c) where
         notes = each_append (NoteHolds x o c) r.notes (did.note ∷ []) f.notes (kept.notes r.machine batch f.machine own, tt);
       }
 
-  replay_holds : (s : SchedId) (r : Replayed) (batches : List (List Order)) → ReplayedHolds x o c s r → Each (BatchHolds x o c s) batches → ReplayedHolds x o c s (replay_on x o.limits r batches)
+  pub replay_holds : (s : SchedId) (r : Replayed) (batches : List (List Order)) → ReplayedHolds x o c s r → Each (BatchHolds x o c s) batches → ReplayedHolds x o c s (replay_on x o.limits r batches)
   replay_holds s r [] f g = f
   replay_holds s r (batch ∷ batches) f g = replay_holds s (one_more x o.limits r batch) batches (one_more_holds s r batch f g.0) g.1
 
   pub replayed_holds : (h : List Entry) (s : SchedId) → HistoryHolds x o c h → IsScheduler (heads x) s → ReplayedHolds x o c s (replayed x o.limits s h)
-  replayed_holds h s f declared = replay_holds s _ (log s h) (begun_holds s declared) (f.took s)
+  replayed_holds h s f declared = replay_holds s _ (log s h) (begun_holds s declared) (f.took s declared)
+
+  -- ---- what waits
+
+  pub waits_hold : (h : List Entry) (s : SchedId) → HistoryHolds x o c h → IsScheduler (heads x) s → Each (c.order s) (waiting (heads x) s h)
+  waits_hold h s f declared = sent_wait x c kept.routes s declared (starts_of (heads x) s) h (kept.starts s) f.sent f.known
+
+  pub jobs_hold : (h : List Entry) → HistoryHolds x o c h → Each c.job (jobs h)
+  jobs_hold h f = sent_work x c kept.routes [] h tt f.sent f.known
 
   -- ---- one more entry
 
-  one_more_entry : (h : List Entry) (e : Entry) → HistoryHolds x o c h → EntryHolds x o c h e → HistoryHolds x o c (h ++ e ∷ [])
-  one_more_entry h e f g = record {
-    waits = λ s. subst (Each (c.order s)) (sym (waiting_after-append s (starts_of (heads x) s) h (e ∷ []))) (g.waits s);
-    took = λ s. subst (Each (BatchHolds x o c s)) (sym (log-append s h (e ∷ []))) (each_append (BatchHolds x o c s) (log s h) (log s (e ∷ [])) (f.took s) (g.took s));
-    threads = subst (Each c.job) (sym (jobs_after-append h (e ∷ []) [])) g.threads;
-    posts = λ w. subst (Each c.sent) (sym (left_after-append x o w h (e ∷ []) [])) (g.posts w);
-    orders = λ d. subst (Each c.sent) (sym (unsent_after-append d h (e ∷ []) (outside_of (heads x) d))) (g.orders d);
+  more_sent : (P : Sent → Type 0) (h : List Entry) (e : Entry) → Each P (sent_in h) → Each P (sends e) → Each P (sent_in (h ++ e ∷ []))
+  more_sent P h e f g =
+      subst (Each P) (sym (flat_map-append sends h (e ∷ []))) (each_append P (sent_in h) (sends e ++ []) f (subst (Each P) (sym (append-nil (sends e))) g))
+
+  one_more_entry : (h : List Entry) (e : Entry) → HistoryHolds x o c h → Each c.known (sends e) → EntryHolds x o c h e → HistoryHolds x o c (h ++ e ∷ [])
+  one_more_entry h e f known g = record {
+    sent = more_sent c.sent h e f.sent g.sent;
+    known = more_sent c.known h e f.known known;
+    took = λ s declared. subst (Each (BatchHolds x o c s)) (sym (log-append s h (e ∷ []))) (each_append (BatchHolds x o c s) (log s h) (log s (e ∷ [])) (f.took s declared) (g.took s declared));
+    posts = λ w. subst (Each c.sent) (sym (fold_push (left_step x o w) [] h e)) (g.posts w);
+    orders = λ d. subst (Each c.sent) (sym (fold_push (unsent_step d) (outside_of (heads x) d) h e)) (g.orders d);
   }
-
-  pub more_orders : (h : List Entry) (sent : List Sent) (s : SchedId) → HistoryHolds x o c h → Each c.sent sent → Each c.known sent → Each (c.order s) (waiting (heads x) s h ++ orders_to s sent)
-  more_orders h sent s f each known = each_append (c.order s) (waiting (heads x) s h) (orders_to s sent) (f.waits s) (kept.orders s sent each known)
-
-  pub more_jobs : (h : List Entry) (sent : List Sent) → HistoryHolds x o c h → Each c.sent sent → Each c.known sent → Each c.job (jobs h ++ jobs_sent sent)
-  more_jobs h sent f each known = each_append c.job (jobs h) (jobs_sent sent) f.threads (kept.jobs sent each known)
 
   take_holds : (h : List Entry) (q : SchedId) → HistoryHolds x o c h → EntryHolds x o c h (Take q (waiting (heads x) q h))
   take_holds h q f =
       let batch = waiting (heads x) q h in
       record {
-        waits = λ s. unless (c.order s) (same_scheduler s q) (waiting (heads x) s h) (f.waits s);
-        took = λ s. only_if (BatchHolds x o c s) (same_scheduler s q) batch (λ same. subst (λ (r : SchedId). Each (c.order r) batch) (sym (is_same s q same)) (f.waits q));
-        threads = f.threads;
+        sent = tt;
+        took = λ s declared. only_if (BatchHolds x o c s) (same_scheduler s q) batch (λ same. subst (λ (r : SchedId). Each (c.order s) (waiting (heads x) r h)) (is_same s q same) (waits_hold h s f declared));
         posts = f.posts;
         orders = f.orders;
       }
 
-  give_holds : (h : List Entry) (q : SchedId) → IsScheduler (heads x) q → HistoryHolds x o c h → let sent = sent_last (replayed x o.limits q h).notes in Each c.known sent → EntryHolds x o c h (Give q sent)
-  give_holds h q declared f known =
-      let notes = (replayed x o.limits q h).notes in
-      let sent = sent_last notes in
-      let each = last_sent c.sent notes (replayed_holds h q f declared).notes in
-      record { waits = λ s. more_orders h sent s f each known; took = λ s. tt; threads = more_jobs h sent f each known; posts = f.posts; orders = f.orders }
+  give_holds : (h : List Entry) (q : SchedId) → IsScheduler (heads x) q → HistoryHolds x o c h → EntryHolds x o c h (Give q (sent_last (replayed x o.limits q h).notes))
+  give_holds h q declared f = record {
+    sent = last_sent c.sent (replayed x o.limits q h).notes (replayed_holds h q f declared).notes;
+    took = λ s there. tt;
+    posts = f.posts;
+    orders = f.orders;
+  }
 
   pick_holds : (h : List Entry) (v : ℕ) (job : Thread) → HistoryHolds x o c h → c.job job → EntryHolds x o c h (Pick v job)
   pick_holds h v job f here = record {
-    waits = f.waits;
-    took = λ s. tt;
-    threads = each_drop c.job (jobs h) f.threads;
+    sent = tt;
+    took = λ s there. tt;
     posts = λ w. either c.sent (w == v) (async x job o.limits.block) (left_of x o w h) (kept.blocks job here) (f.posts w);
     orders = f.orders;
   }
 
-  post_holds : (h : List Entry) (v : ℕ) (sent : Sent) → HistoryHolds x o c h → c.sent sent → c.known sent → EntryHolds x o c h (Post v sent)
-  post_holds h v sent f here known = record {
-    waits = λ s. more_orders h (sent ∷ []) s f (here, tt) (known, tt);
-    took = λ s. tt;
-    threads = more_jobs h (sent ∷ []) f (here, tt) (known, tt);
+  post_holds : (h : List Entry) (v : ℕ) (sent : Sent) → HistoryHolds x o c h → c.sent sent → EntryHolds x o c h (Post v sent)
+  post_holds h v sent f here = record {
+    sent = (here, tt);
+    took = λ s there. tt;
     posts = λ w. either c.sent (w == v) (drop 1 (left_of x o w h)) (left_of x o w h) (each_drop c.sent (left_of x o w h) (f.posts w)) (f.posts w);
     orders = f.orders;
   }
 
-  client_holds : (h : List Entry) (d : ℕ) (sent : Sent) → HistoryHolds x o c h → c.sent sent → c.known sent → EntryHolds x o c h (Client d sent)
-  client_holds h d sent f here known = record {
-    waits = λ s. more_orders h (sent ∷ []) s f (here, tt) (known, tt);
-    took = λ s. tt;
-    threads = more_jobs h (sent ∷ []) f (here, tt) (known, tt);
+  client_holds : (h : List Entry) (d : ℕ) (sent : Sent) → HistoryHolds x o c h → c.sent sent → EntryHolds x o c h (Client d sent)
+  client_holds h d sent f here = record {
+    sent = (here, tt);
+    took = λ s there. tt;
     posts = f.posts;
     orders = λ a. either c.sent (a == d) (drop 1 (unsent (heads x) a h)) (unsent (heads x) a h) (each_drop c.sent (unsent (heads x) a h) (f.orders a)) (f.orders a);
   }
 
   -- what may come next holds by its choice
-  choice_holds : (h : List Entry) (e : Entry) → HistoryHolds x o c h → entry_of x o h (choice_of e) ≡ Some e → EachSent c.known e → EntryHolds x o c h e
-  choice_holds h (Take s batch) f is known =
+  choice_holds : (h : List Entry) (e : Entry) → HistoryHolds x o c h → entry_of x o h (choice_of e) ≡ Some e → EntryHolds x o c h e
+  choice_holds h (Take s batch) f is =
       on_if (nat_lt s.0 (length (heads x).schedulers) && not (is_open s h) && has_turn x o.limits (replayed x o.limits s h).machine (waiting (heads x) s h)) (Some (Take s (waiting (heads x) s h))) (Take s batch) is
       (λ allowed same. subst (EntryHolds x o c h) (some_same same) (take_holds h s f))
-  choice_holds h (Give s sent) f is known =
+  choice_holds h (Give s sent) f is =
       on_if (nat_lt s.0 (length (heads x).schedulers) && is_open s h) (Some (Give s (sent_last (replayed x o.limits s h).notes))) (Give s sent) is
-      (λ allowed same.
-      let as_known = subst (EachSent c.known) (sym (some_same same)) known in
-      subst (EntryHolds x o c h) (some_same same) (give_holds h s (ltb-true s.0 (length (heads x).schedulers) (and_parts _ (is_open s h) allowed).0) f as_known))
-  choice_holds h (Pick w job) f is known =
+      (λ allowed same. subst (EntryHolds x o c h) (some_same same) (give_holds h s (ltb-true s.0 (length (heads x).schedulers) (and_parts _ (is_open s h) allowed).0) f))
+  choice_holds h (Pick w job) f is =
       on_if (nat_lt w o.workers) (pick_of w (left_of x o w h) (jobs h)) (Pick w job) is (λ declared picks.
       on_pick w (left_of x o w h) (jobs h) (Pick w job) picks (λ free first.
       on_first (Pick w) (jobs h) (Pick w job) first (λ t rest all same.
-      subst (EntryHolds x o c h) same (pick_holds h w t f (subst (Each c.job) all f.threads).0))))
-  choice_holds h (Post w sent) f is known =
+      subst (EntryHolds x o c h) same (pick_holds h w t f (subst (Each c.job) all (jobs_hold h f)).0))))
+  choice_holds h (Post w sent) f is =
       on_if (nat_lt w o.workers) (entry_of_first (Post w) (left_of x o w h)) (Post w sent) is (λ declared first.
       on_first (Post w) (left_of x o w h) (Post w sent) first (λ m rest all same.
-      subst (EntryHolds x o c h) same (post_holds h w m f (subst (Each c.sent) all (f.posts w)).0 (subst (EachSent c.known) (sym same) known))))
-  choice_holds h (Client d sent) f is known =
+      subst (EntryHolds x o c h) same (post_holds h w m f (subst (Each c.sent) all (f.posts w)).0)))
+  choice_holds h (Client d sent) f is =
       on_first (Client d) (unsent (heads x) d h) (Client d sent) is (λ m rest all same.
-      subst (EntryHolds x o c h) same (client_holds h d m f (subst (Each c.sent) all (f.orders d)).0 (subst (EachSent c.known) (sym same) known)))
+      subst (EntryHolds x o c h) same (client_holds h d m f (subst (Each c.sent) all (f.orders d)).0))
 
   -- so does a thread that is picked
   pub picked_holds : (h : List Entry) (w : ℕ) (job : Thread) → HistoryHolds x o c h → ComesNext x o h (Pick w job) → c.job job
@@ -226,23 +254,23 @@ module _ (x : Prog) (o : RunOptions) (c : Claims) (kept : AreKept x o c) where
       on_if (nat_lt w o.workers) (pick_of w (left_of x o w h) (jobs h)) (Pick w job) is (λ declared picks.
       on_pick w (left_of x o w h) (jobs h) (Pick w job) picks (λ free first.
       on_first (Pick w) (jobs h) (Pick w job) first (λ t rest all same.
-      subst c.job (same_job same) (subst (Each c.job) all f.threads).0)))
+      subst c.job (same_job same) (subst (Each c.job) all (jobs_hold h f)).0)))
   picked_holds h w job f (inr call) = absurd call
 
-  called_holds : (h : List Entry) (e : Entry) → HistoryHolds x o c h → IsCallersEntry x h e → EachSent c.sent e → EachSent c.known e → EntryHolds x o c h e
-  called_holds h (Take s batch) f call here known = absurd call
-  called_holds h (Give s sent) f call here known = absurd call
-  called_holds h (Pick w job) f call here known = absurd call
-  called_holds h (Post w sent) f call here known = absurd call
-  called_holds h (Client d sent) f call here known = client_holds h d sent f here known
+  called_holds : (h : List Entry) (e : Entry) → HistoryHolds x o c h → IsCallersEntry x h e → Each c.sent (sends e) → EntryHolds x o c h e
+  called_holds h (Take s batch) f call here = absurd call
+  called_holds h (Give s sent) f call here = absurd call
+  called_holds h (Pick w job) f call here = absurd call
+  called_holds h (Post w sent) f call here = absurd call
+  called_holds h (Client d sent) f call here = client_holds h d sent f here.0
 
-  next_holds : (h : List Entry) (e : Entry) → HistoryHolds x o c h → ComesNext x o h e → (IsCallersEntry x h e → EachSent c.sent e) → EachSent c.known e → HistoryHolds x o c (h ++ e ∷ [])
-  next_holds h e f (inl is) call known = one_more_entry h e f (choice_holds h e f is known)
-  next_holds h e f (inr called) call known = one_more_entry h e f (called_holds h e f called (call called) known)
+  next_holds : (h : List Entry) (e : Entry) → HistoryHolds x o c h → ComesNext x o h e → (IsCallersEntry x h e → Each c.sent (sends e)) → EntryHolds x o c h e
+  next_holds h e f (inl is) call = choice_holds h e f is
+  next_holds h e f (inr called) call = called_holds h e f called (call called)
 
   -- each entry that may come next keeps this
   pub entry_holds : (h : List Entry) (e : Entry) → HistoryHolds x o c h → ComesSo x o c h e → HistoryHolds x o c (h ++ e ∷ [])
-  entry_holds h e f comes = next_holds h e f comes.next comes.call comes.known
+  entry_holds h e f comes = one_more_entry h e f comes.known (next_holds h e f comes.next comes.call)
 
   entries_hold : (before after : List Entry) → HistoryHolds x o c before → AtEach (ComesSo x o c) (before ++ after) → HistoryHolds x o c (before ++ after)
   entries_hold before [] f each = subst (HistoryHolds x o c) (sym (append-nil before)) f
@@ -250,9 +278,9 @@ module _ (x : Prog) (o : RunOptions) (c : Claims) (kept : AreKept x o c) where
       subst (HistoryHolds x o c) (append_assoc before (e ∷ []) after)
       (entries_hold (before ++ e ∷ []) after (entry_holds before e f (each before e after refl)) (split_on (ComesSo x o c) before e after each))
 
-  -- at first the starts wait, and no client has given anything
+  -- at first nothing was sent
   pub starts_hold : HistoryHolds x o c []
-  starts_hold = record { waits = kept.starts; took = λ s. tt; threads = tt; posts = λ w. tt; orders = kept.clients }
+  starts_hold = record { sent = tt; known = tt; took = λ s declared. tt; posts = λ w. tt; orders = kept.clients }
 
   -- in each history whose entries come so
   pub history_holds : (es : List Entry) → AtEach (ComesSo x o c) es → HistoryHolds x o c es

@@ -41,19 +41,19 @@ use Rattle.loft_sense.specs.Async.{alone, block_sent, async}
 use Rattle.loft_sense.specs.Clients.{control_of, orders_from, orders_or_none, outside_of}
 use Rattle.loft_sense.specs.Fits.{Fits}
 use Rattle.loft_sense.specs.Heads.{same_scheduler}
-use Rattle.loft_sense.specs.History.{is_addressed, orders_to, starts_from, starts_of, job_before, jobs_sent}
+use Rattle.loft_sense.specs.History.{sends, is_addressed, orders_to, starts_from, starts_of, job_before, jobs_sent}
 use Rattle.loft_sense.specs.Legal.{AtEach, FitsOne, IsCallersOrder, IsCallersEntry, ComesNext}
 use Rattle.loft_sense.proofs.MomentLemmas.{kept_by_passes}
 use Rattle.loft_stand.specs.Points.{AroundFits, OutFits, ActFits, LeavesStanding}
 use Rattle.loft_stand.specs.Machines.{ThreadFits, MachFits, SentFits}
 use Rattle.loft_stand.specs.WellFormed.{IsWellFormed}
-use Rattle.loft_stand.specs.Threads.{Claim, Grant, Carries, CarriesTo, SentCarries, IsGranted, ActGrants, EntryGrants, LeavesSo}
+use Rattle.loft_stand.specs.Threads.{Claim, Grant, Carries, CarriesTo, SentCarries, IsGranted, ActGrants, LeavesSo}
 use Rattle.loft_stand.proofs.ListLemmas.{each_append, each_of}
 use Rattle.loft_stand.proofs.StandLemmas.{run_leaves}
 use Rattle.loft_stand.proofs.OrderLemmas.{orders_fit, starts_fit, outside_fits}
 use Rattle.loft_stand.proofs.InstantLemmas.{RunnerFits, runners_fit, around_fits, ready_fits, begin_fit, alone_fits, batch_applied, first_around, instant_fits, async_fits, empty_fits}
-use Rattle.loft_stand.proofs.HistoryWalk.{Claims, AreKept, EachSent, HistoryHolds, history_holds}
-use Rattle.loft_stand.proofs.HistoryFits.{jobs_fit, called_fit}
+use Rattle.loft_stand.proofs.HistoryWalk.{Claims, Routes, AreKept, HistoryHolds, history_holds}
+use Rattle.loft_stand.proofs.HistoryFits.{sent_stand, called_fit}
 
 -- ---- lists
 
@@ -372,6 +372,14 @@ module _ (x : Prog) (well : IsWellFormed x) (P : Claim) (M N : Grant) (h : Premi
     known = λ m. IsGranted N m.order;
   }
 
+  threads_routed : Routes x thread_claims
+  threads_routed = record {
+    orders = λ s declared ms f g.
+        each_both (Fits x s) (WaitsBoth s) (orders_to s ms) (orders_fit x s declared ms (each_first (SentFits x) SentSo ms f)) (waits_so s ms (each_second (SentFits x) SentSo ms f) g);
+    jobs = λ ms f g.
+        each_both (ThreadFits x Unlinked) (P Unlinked) (jobs_sent ms) (sent_stand x ms (each_first (SentFits x) SentSo ms f)) (jobs_so ms (each_second (SentFits x) SentSo ms f));
+  }
+
   pub threads_kept : (o : RunOptions) → AreKept x o thread_claims
   threads_kept o = record {
     begins = λ s declared. (empty_fits x s declared, tt);
@@ -394,25 +402,19 @@ module _ (x : Prog) (well : IsWellFormed x) (P : Claim) (M N : Grant) (h : Premi
         let sent = outside_of (heads x) c in
         each_both (SentFits x) SentSo sent (outside_fits x well c)
         (each_both (SentCarries P) (λ m. IsGranted M m.order) sent (clients_carry c 0 (orders_or_none (slice_get (heads x).clients c))) (h.clients c));
-    orders = λ s ms f g.
-        each_both (Fits x s) (WaitsBoth s) (orders_to s ms) (orders_fit x s ms (each_first (SentFits x) SentSo ms f)) (waits_so s ms (each_second (SentFits x) SentSo ms f) g);
-    jobs = λ ms f g.
-        each_both (ThreadFits x Unlinked) (P Unlinked) (jobs_sent ms) (jobs_fit x well o ms (each_first (SentFits x) SentSo ms f)) (jobs_so ms (each_second (SentFits x) SentSo ms f));
+    routes = threads_routed;
   }
 
-  call_so : (before : List Entry) (e : Entry) → (IsCallersEntry x before e → EntryGrants M e) → IsCallersEntry x before e → EachSent (λ (m : Sent). SentFits x m × SentSo m) e
+  -- the creates that an entry sends have this grant
+  abbrev pub EntryGrants : Grant → Entry → Type 0
+  EntryGrants G e = Each (λ (m : Sent). IsGranted G m.order) (sends e)
+
+  call_so : (before : List Entry) (e : Entry) → (IsCallersEntry x before e → EntryGrants M e) → IsCallersEntry x before e → Each (λ (m : Sent). SentFits x m × SentSo m) (sends e)
   call_so before (Take s batch) g call = absurd call
   call_so before (Give s sent) g call = absurd call
   call_so before (Pick w job) g call = absurd call
   call_so before (Post w sent) g call = absurd call
-  call_so before (Client c sent) g call = (called_fit x before (Client c sent) call, (call_carries _ sent.to sent.order call.1.0 call.1.1, g call))
-
-  known_so : (e : Entry) → EntryGrants N e → EachSent (λ (m : Sent). IsGranted N m.order) e
-  known_so (Take s batch) g = tt
-  known_so (Give s sent) g = g
-  known_so (Pick w job) g = tt
-  known_so (Post w sent) g = g
-  known_so (Client c sent) g = g
+  call_so before (Client c sent) g call = (((called_fit x before (Client c sent) call).0, (call_carries _ sent.to sent.order call.1.0 call.1.1, (g call).0)), tt)
 
   -- what a history needs beside: callers grant, and of each entry it is known
   abbrev pub EntrySo : List Entry → Entry → Type 0
@@ -423,4 +425,4 @@ module _ (x : Prog) (well : IsWellFormed x) (P : Claim) (M N : Grant) (h : Premi
       history_holds x o thread_claims (threads_kept o) es
       (λ before e after same.
       let g = grants before e after same in
-      record { next = legal before e after same; call = call_so before e g.0; known = known_so e g.1 })
+      record { next = legal before e after same; call = call_so before e g.0; known = g.1 })

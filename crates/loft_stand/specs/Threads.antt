@@ -7,9 +7,7 @@ use Rattle.loft_base.specs.declared.ids.ThreadId.{ThreadId}
 use Rattle.loft_base.specs.declared.ids.Value.{Value}
 use Rattle.loft_tree.specs.declared.heads.Place.{Place}
 use Rattle.loft_tree.specs.declared.heads.Place.TheVariants.{Sched, Unlinked}
-use Rattle.loft_tree.specs.Fits.{Each}
 use Rattle.loft_sense.specs.declared.entry.Entry.{Entry}
-use Rattle.loft_sense.specs.declared.entry.Entry.TheVariants.{Give, Post, Client}
 use Rattle.loft_sense.specs.declared.limits.RunOptions.{RunOptions}
 use Rattle.loft_sense.specs.declared.note.Act.{Act}
 use Rattle.loft_sense.specs.declared.note.Act.TheVariants as act
@@ -27,7 +25,7 @@ use Rattle.loft_sense.specs.Apply.{new_thread}
 use Rattle.loft_sense.specs.Instant.{closed_wait}
 use Rattle.loft_sense.specs.Clients.{outside_of}
 use Rattle.loft_sense.specs.Fits.{Fits}
-use Rattle.loft_sense.specs.History.{starts_of}
+use Rattle.loft_sense.specs.History.{sends, sent_in, starts_of}
 use Rattle.loft_sense.specs.Legal.{AtEach, IsLegal, IsCallersEntry}
 use Rattle.loft_stand.specs.Points.{AroundFits}
 use Rattle.loft_stand.specs.Machines.{ThreadFits}
@@ -70,13 +68,6 @@ abbrev pub ActGrants : Grant → Act → Type 0
 ActGrants M (act.Out t sent) = IsGranted M sent.order
 ActGrants M one = Unit {0}
 
--- where the entry sends creates, they are granted
-abbrev pub EntryGrants : Grant → Entry → Type 0
-EntryGrants M (Give s sent) = Each (λ m. IsGranted M m.order) sent
-EntryGrants M (Post w sent) = IsGranted M sent.order
-EntryGrants M (Client c sent) = IsGranted M sent.order
-EntryGrants M e = Unit {0}
-
 -- a run of a thread that was linked at this place leaves it so: where it stands, or where it goes
 abbrev pub LeavesSo : Claim → Place → Outcome → Type 0
 LeavesSo P place (Held t around left) = P place t
@@ -93,14 +84,14 @@ pub record ThreadsKeep (x : Prog) (P : Claim) (M : Grant) : Type 0 where
 pub record SendersGrant (x : Prog) (P : Claim) (M : Grant) (es : List Entry) : Type 0 where
   pub starts : (s : SchedId) → All (IsGranted M) (starts_of (heads x) s)
   pub clients : (c : ℕ) → All (λ m. IsGranted M m.order) (outside_of (heads x) c)
-  pub callers : AtEach (λ before e. IsCallersEntry x before e → EntryGrants M e) es
+  pub callers : AtEach (λ before e. IsCallersEntry x before e → All (λ m. IsGranted M m.order) (sends e)) es
   pub runs : (place : Place) (t : Thread) (around : Around) (left : ℕ) → ThreadFits x place t → AroundFits (heads x) place around → P place t
       → All (ActGrants M) around.acts → All (ActGrants M) (around_after (run_of x t around left)).acts
 
 -- Each create of the history is known to be granted, whoever sends it, and so is each start.
 pub record EntriesGrant (x : Prog) (M : Grant) (es : List Entry) : Type 0 where
   pub starts : (s : SchedId) → All (IsGranted M) (starts_of (heads x) s)
-  pub entries : AtEach (λ before e. EntryGrants M e) es
+  pub entries : All (λ m. IsGranted M m.order) (sent_in es)
 
 -- The claim is kept in this history of a well-formed program, which is legal, and its creates are granted: by those who send
 -- them, or as is known of each.

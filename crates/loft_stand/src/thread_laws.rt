@@ -48,10 +48,12 @@ pub fn threads_keep_what_runs_keep<C: ThreadClaim>()
         → All (λ q. C.holds (Sched s) q.thread) (replayed x o.limits s es).machine.linked }
     ensures waiting { (x : Prog) (o : RunOptions) (es : List Entry)
         → IsKeptIn x C.holds C.grants o es
-        → (s : SchedId) → All (WaitsSo C.holds C.grants s) (waiting (heads x) s es) }
+        → (s : SchedId) → IsScheduler (heads x) s
+        → All (WaitsSo C.holds C.grants s) (waiting (heads x) s es) }
     ensures batches { (x : Prog) (o : RunOptions) (es : List Entry)
         → IsKeptIn x C.holds C.grants o es
-        → (s : SchedId) → All (λ batch. All (WaitsSo C.holds C.grants s) batch) (log s es) }
+        → (s : SchedId) → IsScheduler (heads x) s
+        → All (λ batch. All (WaitsSo C.holds C.grants s) batch) (log s es) }
     ensures jobs { (x : Prog) (o : RunOptions) (es : List Entry)
         → IsKeptIn x C.holds C.grants o es → All (C.holds Unlinked) (jobs es) }
     ensures hands { (x : Prog) (o : RunOptions) (es : List Entry)
