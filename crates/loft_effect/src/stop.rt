@@ -5,7 +5,7 @@ ghost use Rattle.std.specs.Option.{option_map};
 ghost use Rattle.loft_base.specs.Arithmetic.{wrapped};
 ghost use Rattle.loft_tree.specs.NamedView.{term_of, value_of};
 ghost use Rattle.loft_tree.specs.Resolved.{exp_of, exp_if, target_of, Pause, Cooperate, Await, Get, Join};
-ghost use Rattle.loft_sense.specs.CanGo.{ran_out as ran_out_of, has_any as has_any_of, is_over as is_over_at};
+ghost use Rattle.loft_sense.specs.CanGo.{ran_out as ran_out_of, has_any as has_any_of, count_of, is_over as is_over_at};
 ghost use Rattle.loft_sense.specs.Statements.{now, begun, answered, is_up as is_up_of, mask_of as mask_on, mask_after as mask_after_on, events_end as events_end_of, gotten, code_after as code_after_of, target_of as target_in};
 ghost use Rattle.loft_effect.specs.View.{beside_of, pace_of};
 ghost use Rattle.loft_effect.specs.Effects.{Does};
@@ -85,7 +85,7 @@ fn mask_of(around: &Around, events: &[EventId]) -> i64
 impl Around {
     /// What the wait waits for is there, or no instant is left of it.
     pub fn is_over(&self, wait: &Wait) -> bool
-        ensures { result ≡ is_over_at wait.now self.now.board self.now.known }
+        ensures { result ≡ is_over_at wait.now (count_of self.now.board) self.now.known }
     {
         match wait {
             Wait::New => true,

@@ -2,6 +2,7 @@
 use Rattle.std.proofs.Common.{◌≡◌, ◌==◌, ◌⊎◌, inl, inr, ℕ, zero, suc, ◌+◌, ◌<◌, Bool, true, false, List, [], ◌∷◌, ◌++◌, length, Some, refl, sym, ap, ◌∙◌, subst, append-nil}
 use Rattle.std.specs.Prelude.{All, slice_get, ◌&&◌, not, nat_lt, drop, if◌then◌else◌}
 use Rattle.std.proofs.lemmas.Bool.{and_parts, ltb-true, eqb-true}
+use Rattle.std.proofs.lemmas.List.Sums.{fold-append}
 use Rattle.loft_base.specs.declared.ids.SchedId.{SchedId}
 use Rattle.loft_base.specs.declared.ids.ThreadId.{ThreadId}
 use Rattle.loft_tree.specs.declared.heads.ClientOrder.{ClientOrder}
@@ -25,9 +26,9 @@ use Rattle.loft_sense.specs.Fits.{Fits}
 use Rattle.loft_sense.specs.Instant.{instant, Replayed, one_more, replay_on, replay}
 use Rattle.loft_sense.specs.Async.{async}
 use Rattle.loft_sense.specs.Clients.{made_by, control_of, orders_from, orders_or_none, outside_of}
-use Rattle.loft_sense.specs.History.{log, is_open, waiting, jobs, ends_block, left_after, left_of, unsent_after, unsent, is_create, creates_after, creates, replayed, has_turn, sent_last, entry_of_first, pick_of}
+use Rattle.loft_sense.specs.History.{log, is_open, waiting, jobs, ends_block, left_after, left_of, unsent_after, unsent, is_create, creates_after, creates, replayed, has_turn, sent_last, entry_of_first, pick_of, creates_step, left_step, unsent_step}
 use Rattle.loft_sense.specs.Legal.{of, IsCallersOrder, FitsOne, IsLegal, ComesNext}
-use Rattle.loft_sense.proofs.HistoryLemmas.{is_same, on_if, on_first, on_pick, replay_on-append, sent_last-append, left_after-append, unsent_after-append, unsent_none}
+use Rattle.loft_sense.proofs.HistoryLemmas.{is_same, on_if, on_first, on_pick, replay_on-append, sent_last-append, unsent_none}
 use Rattle.loft_sense.proofs.OwnLemmas.{given}
 use Rattle.loft_sense.proofs.LegalEntries.{legal_exactly}
 use Rattle.loft_stand.specs.WellFormed.{IsWellFormed}
@@ -59,16 +60,8 @@ each_dropped P (suc n) (x ∷ xs) f = each_dropped P n xs f.1
 
 -- ---- clients
 
-creates_after-append : (c k : ℕ) (xs ys : List Entry) → creates_after c k (xs ++ ys) ≡ creates_after c (creates_after c k xs) ys
-creates_after-append c k [] ys = refl
-creates_after-append c k (Take q batch ∷ xs) ys = creates_after-append c k xs ys
-creates_after-append c k (Give q sent ∷ xs) ys = creates_after-append c k xs ys
-creates_after-append c k (Pick v job ∷ xs) ys = creates_after-append c k xs ys
-creates_after-append c k (Post v sent ∷ xs) ys = creates_after-append c k xs ys
-creates_after-append c k (Client d sent ∷ xs) ys = creates_after-append c (if c == d && is_create sent.order then k + 1 else k) xs ys
-
 pub creates_more : (c : ℕ) (es : List Entry) (e : Entry) → creates c (es ++ e ∷ []) ≡ creates_after c (creates c es) (e ∷ [])
-creates_more c es e = creates_after-append c 0 es (e ∷ [])
+creates_more c es e = fold-append (creates_step c) 0 es (e ∷ [])
 
 -- orders of a client from its create number k on, without the first
 abbrev Further : Heads → ℕ → ℕ → Sent → List Sent → Type 0
@@ -198,7 +191,7 @@ module _ (x : Prog) (well : IsWellFormed x) (o : RunOptions) where
   given_one es s k declared batch hand =
       let d = desk s es in
       let logs : log s es ≡ d.given ++ batch ∷ [] = k.logs s ∙ ap (λ (l : List (List Order)). d.given ++ l) hand in
-      let took = subst (Each (BatchFits x well o s)) logs (k.fits.took s) in
+      let took = subst (Each (BatchFits x well o s)) logs (k.fits.took s declared) in
       let r = replay x o.limits s d.given in
       let fits = replay_fits s (record { machine = empty x s; notes = [] }) d.given (begun_fits x well o s declared) (each_left (BatchFits x well o s) d.given (batch ∷ []) took) in
       let did = instant x o.limits (settled x o s es) batch in
@@ -364,11 +357,11 @@ module _ (x : Prog) (well : IsWellFormed x) (o : RunOptions) where
         fits = entry_fits x well o es e k.fits comes;
         logs = λ s. log_more s es e ∙ logs_one s es e k a ∙ ap (λ (d : Desk). d.given ++ d.hand) (sym (desk_more s es e));
         benches = λ w.
-            subst (λ (l : List Sent). IsBench l (hand_of w (es ++ e ∷ []))) (sym (left_after-append x o w es (e ∷ []) []))
+            subst (λ (l : List Sent). IsBench l (hand_of w (es ++ e ∷ []))) (sym (fold-append (left_step x o w) [] es (e ∷ [])))
             (subst (IsBench (left_after x o w (left_of x o w es) (e ∷ []))) (sym (hand_more w es e)) (bench_one w es e k a));
         numbers = λ c.
             let one = numbers_one c es e k a in
-            (one.0, unsent_after-append c es (e ∷ []) (outside_of (heads x) c) ∙ one.1 ∙ ap (λ (n : ℕ). orders_from (heads x) c n one.0) (sym (creates_more c es e)));
+            (one.0, fold-append (unsent_step c) (outside_of (heads x) c) es (e ∷ []) ∙ one.1 ∙ ap (λ (n : ℕ). orders_from (heads x) c n one.0) (sym (creates_more c es e)));
       }
 
   at_first : Known []

@@ -1,6 +1,7 @@
 -- Each order is in one batch, or left over.
 use Rattle.std.proofs.Common.{◌≡◌, ◌⊎◌, inl, inr, Bool, true, false, List, [], ◌∷◌, ◌++◌, refl, sym, ap, ◌∙◌, append_assoc, append-nil}
 use Rattle.std.specs.Prelude.{if◌then◌else◌}
+use Rattle.std.proofs.lemmas.List.Sums.{fold-append}
 use Rattle.loft_base.specs.declared.ids.SchedId.{SchedId}
 use Rattle.loft_tree.specs.declared.heads.Heads.{Heads}
 use Rattle.loft_sense.specs.declared.order.Order.{Order}
@@ -8,10 +9,10 @@ use Rattle.loft_sense.specs.declared.order.Sent.{Sent}
 use Rattle.loft_sense.specs.declared.entry.Entry.{Entry}
 use Rattle.loft_sense.specs.declared.entry.Entry.TheVariants.{Take, Give, Pick, Post, Client}
 use Rattle.loft_sense.specs.Heads.{same_scheduler}
-use Rattle.loft_sense.specs.History.{log, orders_to, starts_of, waiting_after, waiting}
+use Rattle.loft_sense.specs.History.{sends, sent_in, log, orders_to, starts_of, waiting_after, waiting, waiting_step}
 use Rattle.loft_sense.specs.Legal.{TakesDue, IsRouted}
-use Rattle.loft_sense.proofs.HistoryLemmas.{is_same, waiting_after-append}
-use Rattle.loft_places.specs.Batches.{sends, sent_in, joined, InBatches, InBatch, LeftOver, InFirst}
+use Rattle.loft_sense.proofs.HistoryLemmas.{same_self, is_same}
+use Rattle.loft_places.specs.Batches.{joined, InBatches, InBatch, LeftOver, InFirst}
 use Rattle.loft_places.proofs.WalkLemmas.{walk, orders_to-append, sent_more, log_more, waiting_more}
 
 joined-append : (xs ys : List (List Order)) → joined (xs ++ ys) ≡ joined xs ++ joined ys
@@ -113,7 +114,7 @@ none_more s (Client c m) es here none = none
 along : (h : Heads) (s : SchedId) (before : List Entry) (e : Entry) (until : List Entry) → log s (e ∷ []) ≡ [] → log s until ≡ []
     → waiting h s (before ++ e ∷ until) ≡ waiting h s before ++ (orders_to s (sends e) ++ orders_to s (sent_in until))
 along h s before e until here none =
-    waiting_after-append s (starts_of h s) before (e ∷ until) ∙ add s (waiting h s before) (e ∷ until) (none_more s e until here none)
+    fold-append (waiting_step s) (starts_of h s) before (e ∷ until) ∙ add s (waiting h s before) (e ∷ until) (none_more s e until here none)
     ∙ ap (λ (l : List Order). waiting h s before ++ l) (orders_to-append s (sends e) (sent_in until))
 
 pub in_first : (h : Heads) (es : List Entry) → IsRouted h es → InFirst h es
@@ -129,3 +130,16 @@ in_first h es routed before e after s eq here = by (look s after)
       is = routed (before ++ e ∷ until) (Take s batch) rest (eq ∙ ap (λ (l : List Entry). before ++ e ∷ l) is ∙ sym (append_assoc before (e ∷ until) (Take s batch ∷ rest))) ∙ along h s before e until here first;
     })
     by (inr none) = inr (record { none = none; is = ap (waiting h s) eq ∙ along h s before e after here none })
+
+-- ---- since the last take
+
+-- what waits was sent since the scheduler's last take
+pub sent_since : (h : Heads) (s : SchedId) (es : List Entry) (batch : List Order) (later : List Entry) → log s later ≡ [] → waiting h s (es ++ Take s batch ∷ later) ≡ orders_to s (sent_in later)
+sent_since h s es batch later none =
+    fold-append (waiting_step s) (starts_of h s) es (Take s batch ∷ later)
+    ∙ ap (λ (own : Bool). waiting_after s (if own then [] else waiting h s es) later) (same_self s)
+    ∙ add s [] later none
+
+-- where it has taken nothing, its starts come first
+pub sent_at_all : (h : Heads) (s : SchedId) (es : List Entry) → log s es ≡ [] → waiting h s es ≡ starts_of h s ++ orders_to s (sent_in es)
+sent_at_all h s es none = add s (starts_of h s) es none

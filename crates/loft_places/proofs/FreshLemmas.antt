@@ -18,14 +18,14 @@ use Rattle.loft_sense.specs.Machine.{Prog, heads, Mach}
 use Rattle.loft_sense.specs.CanGo.{same_maker, same_thread}
 use Rattle.loft_sense.specs.Clients.{made_by}
 use Rattle.loft_sense.specs.Instant.{instant}
-use Rattle.loft_sense.specs.History.{is_create, creates, left_of}
+use Rattle.loft_sense.specs.History.{sends, sent_in, is_create, creates, left_of}
 use Rattle.loft_sense.specs.Legal.{IsCallersOrder, IsLegal}
 use Rattle.loft_stand.specs.WellFormed.{IsWellFormed}
 use Rattle.loft_sends.specs.Counts.{one, makes, made_in, among_made}
 use Rattle.loft_sends.proofs.CountLemmas.{none_made, numbers_join}
 use Rattle.loft_sends.proofs.RunAdds.{next_number}
-use Rattle.loft_places.specs.Batches.{sends, sent_in}
-use Rattle.loft_places.specs.Places.{settled, hand_of, scheduler, linked_at, started_from, made_by_all, OnePlace, LinkedOnce}
+use Rattle.loft_sense.specs.Heads.{scheduler}
+use Rattle.loft_places.specs.Places.{settled, hand_of, linked_at, started_from, made_by_all, OnePlace, LinkedOnce}
 use Rattle.loft_places.proofs.SumLemmas.{total_two}
 use Rattle.loft_places.proofs.AllowedLemmas.{creates_more, Known, Given, Told, Allowed, busy, legal_walk}
 use Rattle.loft_places.proofs.KeptLemmas.{post_kept, settled_given, settled_off, settled_same, settled_taken, made_more, kept}

@@ -16,11 +16,11 @@ use Rattle.loft_sense.specs.declared.order.Sent.{Sent}
 use Rattle.loft_sense.specs.declared.order.To.{To}
 use Rattle.loft_sense.specs.declared.order.To.TheVariants as to
 use Rattle.loft_sense.specs.declared.thread.Thread.{Thread}
-use Rattle.loft_sense.specs.Heads.{same_scheduler}
+use Rattle.loft_sense.specs.Heads.{scheduler, same_scheduler}
 use Rattle.loft_sense.specs.Machine.{Prog, heads, Mach, empty}
 use Rattle.loft_sense.specs.CanGo.{same_thread}
 use Rattle.loft_sense.specs.Instant.{instant, Replayed, replay}
-use Rattle.loft_sense.specs.History.{orders_to, starts_from, waiting_after, waiting, jobs_sent, jobs_after, jobs, ends_block, left_of}
+use Rattle.loft_sense.specs.History.{sends, sent_in, orders_to, starts_from, waiting_after, waiting, jobs_sent, jobs_after, jobs, ends_block, left_of}
 use Rattle.loft_sense.specs.Legal.{IsCallersOrder, FitsOne, IsLegal}
 use Rattle.loft_sense.proofs.HistoryLemmas.{same_self, is_same, replay_on-append}
 use Rattle.loft_stand.specs.WellFormed.{IsWellFormed}
@@ -31,8 +31,8 @@ use Rattle.loft_sends.specs.Instants.{IsSentWell, SentWell}
 use Rattle.loft_sends.specs.Blocks.{IsExit, IsQuiet, IsBlock}
 use Rattle.loft_sends.proofs.CountLemmas.{made_in-append, ended_in-append}
 use Rattle.loft_sends.proofs.ThreadLemmas.{brought_in-append, threads_in-append}
-use Rattle.loft_places.specs.Batches.{sends, sent_in, joined}
-use Rattle.loft_places.specs.Places.{Desk, desk_after, desk, settled, hand_after, hand_of, scheduler, linked_at, arriving_at, in_hand_of, total, everywhere, started_from, made_by_all}
+use Rattle.loft_places.specs.Batches.{joined}
+use Rattle.loft_places.specs.Places.{Desk, desk_after, desk, settled, hand_after, hand_of, linked_at, arriving_at, in_hand_of, total, everywhere, started_from, made_by_all}
 use Rattle.loft_places.proofs.WalkLemmas.{sent_more, waiting_more}
 use Rattle.loft_places.proofs.DeskLemmas.{desk_more, hand_more, jobs_more}
 use Rattle.loft_places.proofs.SumLemmas.{total_same, total_add, total_none, total_at}

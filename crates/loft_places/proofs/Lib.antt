@@ -1,5 +1,6 @@
 pub mod WalkLemmas
 pub mod BatchLemmas
+pub mod PickLemmas
 pub mod DeskLemmas
 pub mod AllowedLemmas
 pub mod SumLemmas

@@ -1,15 +1,16 @@
 -- Histories that grow by one entry.
 use Rattle.std.proofs.Common.{◌≡◌, Bool, true, false, List, [], ◌∷◌, ◌++◌, refl, sym, ap, ◌∙◌, subst, append_assoc, append-nil}
 use Rattle.std.specs.Prelude.{if◌then◌else◌}
+use Rattle.std.proofs.lemmas.Grind.{flat_map-append}
+use Rattle.std.proofs.lemmas.List.Sums.{fold-append}
 use Rattle.loft_base.specs.declared.ids.SchedId.{SchedId}
 use Rattle.loft_tree.specs.declared.heads.Heads.{Heads}
 use Rattle.loft_sense.specs.declared.order.Order.{Order}
 use Rattle.loft_sense.specs.declared.order.Sent.{Sent}
 use Rattle.loft_sense.specs.declared.entry.Entry.{Entry}
-use Rattle.loft_sense.specs.History.{is_addressed, orders_to, log, starts_of, waiting_after, waiting}
+use Rattle.loft_sense.specs.History.{sends, sent_in, is_addressed, orders_to, log, starts_of, waiting_after, waiting, waiting_step}
 use Rattle.loft_sense.specs.Legal.{AtEach}
-use Rattle.loft_sense.proofs.HistoryLemmas.{log-append, waiting_after-append}
-use Rattle.loft_places.specs.Batches.{sends, sent_in}
+use Rattle.loft_sense.proofs.HistoryLemmas.{log-append}
 
 -- what holds at first, and after each entry where it holds before it, holds of the history
 pub walk : (Q : List Entry → Type 0) (P : List Entry → Entry → Type 0) → Q [] → ((before : List Entry) (e : Entry) → Q before → P before e → Q (before ++ e ∷ [])) → (es : List Entry) → AtEach P es → Q es
@@ -30,15 +31,11 @@ orders_to-append s (m ∷ xs) ys = one (is_addressed s m.to) (orders_to-append s
     one true q = ap (λ (l : List Order). m.order ∷ l) q
     one false q = q
 
-pub sent_in-append : (xs ys : List Entry) → sent_in (xs ++ ys) ≡ sent_in xs ++ sent_in ys
-sent_in-append [] ys = refl
-sent_in-append (e ∷ xs) ys = ap (λ (l : List Sent). sends e ++ l) (sent_in-append xs ys) ∙ sym (append_assoc (sends e) (sent_in xs) (sent_in ys))
-
 pub sent_more : (es : List Entry) (e : Entry) → sent_in (es ++ e ∷ []) ≡ sent_in es ++ sends e
-sent_more es e = sent_in-append es (e ∷ []) ∙ ap (λ (l : List Sent). sent_in es ++ l) (append-nil (sends e))
+sent_more es e = flat_map-append sends es (e ∷ []) ∙ ap (λ (l : List Sent). sent_in es ++ l) (append-nil (sends e))
 
 pub log_more : (s : SchedId) (es : List Entry) (e : Entry) → log s (es ++ e ∷ []) ≡ log s es ++ log s (e ∷ [])
 log_more s es e = log-append s es (e ∷ [])
 
 pub waiting_more : (h : Heads) (s : SchedId) (es : List Entry) (e : Entry) → waiting h s (es ++ e ∷ []) ≡ waiting_after s (waiting h s es) (e ∷ [])
-waiting_more h s es e = waiting_after-append s (starts_of h s) es (e ∷ [])
+waiting_more h s es e = fold-append (waiting_step s) (starts_of h s) es (e ∷ [])

@@ -1,6 +1,7 @@
 -- One place, in words.
 use Rattle.std.proofs.Common.{◌≡◌, ◌==◌, ◌⊎◌, inl, inr, ⊎_elim, ℕ, zero, suc, ◌<◌, ◌≤◌, Bool, true, false, List, [], ◌∷◌, ◌++◌, length, refl, sym, ap, ◌∙◌, subst, arith, eqb-true}
 use Rattle.std.specs.Prelude.{◌||◌, not, if◌then◌else◌}
+use Rattle.std.proofs.lemmas.List.Sums.{fold-append}
 use mathlib.Core.Logic.{dite}
 use native.Mathlib.Decide.{ℕ_discrete}
 use Rattle.loft_base.specs.declared.ids.ThreadId.{ThreadId}
@@ -9,11 +10,10 @@ use Rattle.loft_sense.specs.declared.entry.Entry.TheVariants.{Take, Give, Pick, 
 use Rattle.loft_sense.specs.declared.limits.RunOptions.{RunOptions}
 use Rattle.loft_sense.specs.declared.thread.Thread.{Thread}
 use Rattle.loft_sense.specs.Machine.{Prog, heads}
-use Rattle.loft_sense.specs.History.{jobs, ends_block, in_hand, is_busy, left_of}
+use Rattle.loft_sense.specs.History.{sent_in, jobs, ends_block, in_hand, is_busy, left_of, busy_step}
 use Rattle.loft_sense.specs.Legal.{IsLegal}
 use Rattle.loft_stand.specs.WellFormed.{IsWellFormed}
 use Rattle.loft_sends.specs.Counts.{threads_in, ended_in}
-use Rattle.loft_places.specs.Batches.{sent_in}
 use Rattle.loft_places.specs.Places.{IsOneIf, HandsAgree, hand_after, hand_of, linked_at, arriving_at, in_hand_of, total, everywhere, made_by_all, ThreadPlace, LinkedAt, ArrivesAt, Waits, InHandOf, HasEnded, IsPlaceOf, times, InOne, Nowhere}
 use Rattle.loft_places.proofs.SumLemmas.{total_le}
 use Rattle.loft_places.proofs.DeskLemmas.{hand_more, open_hand}
@@ -169,17 +169,9 @@ module _ (x : Prog) (well : IsWellFormed x) (o : RunOptions) where
       (b.job, ap (λ (u : ℕ). hand_of u es) (eqb-true w v same) ∙ b.in_hand)) (f w)
   agree_one es (Client c sent) k a f w = f w
 
-  in_hand-append : (w : ℕ) (xs ys : List Entry) (had : Bool) → in_hand w had (xs ++ ys) ≡ in_hand w (in_hand w had xs) ys
-  in_hand-append w [] ys had = refl
-  in_hand-append w (Take q batch ∷ xs) ys had = in_hand-append w xs ys had
-  in_hand-append w (Give q sent ∷ xs) ys had = in_hand-append w xs ys had
-  in_hand-append w (Pick v job ∷ xs) ys had = in_hand-append w xs ys _
-  in_hand-append w (Post v sent ∷ xs) ys had = in_hand-append w xs ys _
-  in_hand-append w (Client c sent ∷ xs) ys had = in_hand-append w xs ys had
-
   agree_more : (es : List Entry) (e : Entry) → Known x well o es → Allowed x well o es e → Agrees es → Agrees (es ++ e ∷ [])
   agree_more es e k a f w =
-      subst (λ (b : Bool). IsOneIf b (hand_of w (es ++ e ∷ []))) (sym (in_hand-append w es (e ∷ []) false))
+      subst (λ (b : Bool). IsOneIf b (hand_of w (es ++ e ∷ []))) (sym (fold-append (busy_step w) false es (e ∷ [])))
       (subst (IsOneIf (in_hand w (is_busy w es) (e ∷ []))) (sym (hand_more w es e)) (agree_one es e k a f w))
 
   pub hands_agree : (es : List Entry) → IsLegal x o es → HandsAgree es

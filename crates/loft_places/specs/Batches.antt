@@ -1,25 +1,13 @@
--- Each order stands in one batch, or is left over (docs/SEMANTICS.md, "One batch").
-use Rattle.std.specs.Prelude.{◌≡◌, ◌⊎◌, List, [], ◌∷◌, ◌++◌}
+-- Each order stands in one batch, or is left over, and each job in one Pick, or it waits (docs/SEMANTICS.md, "One batch").
+use Rattle.std.specs.Prelude.{◌≡◌, ◌⊎◌, ℕ, List, [], ◌∷◌, ◌++◌}
+use Rattle.std.specs.List.{flat_map}
 use Rattle.loft_base.specs.declared.ids.SchedId.{SchedId}
 use Rattle.loft_tree.specs.declared.heads.Heads.{Heads}
 use Rattle.loft_sense.specs.declared.order.Order.{Order}
-use Rattle.loft_sense.specs.declared.order.Sent.{Sent}
 use Rattle.loft_sense.specs.declared.entry.Entry.{Entry}
-use Rattle.loft_sense.specs.declared.entry.Entry.TheVariants.{Take, Give, Pick, Post, Client}
-use Rattle.loft_sense.specs.History.{log, orders_to, starts_of, waiting}
-
--- what an entry sends
-abbrev pub sends : Entry → List Sent
-sends (Take s batch) = []
-sends (Give s sent) = sent
-sends (Pick w job) = []
-sends (Post w sent) = sent ∷ []
-sends (Client c sent) = sent ∷ []
-
--- all that entries send
-abbrev pub sent_in : List Entry → List Sent
-sent_in [] = []
-sent_in (e ∷ es) = sends e ++ sent_in es
+use Rattle.loft_sense.specs.declared.entry.Entry.TheVariants.{Take, Pick}
+use Rattle.loft_sense.specs.declared.thread.Thread.{Thread}
+use Rattle.loft_sense.specs.History.{sends, sent_in, log, orders_to, starts_of, waiting, jobs_sent, jobs}
 
 -- batches, one after the other
 abbrev pub joined : List (List Order) → List Order
@@ -49,3 +37,40 @@ abbrev pub InFirst : Heads → List Entry → Type 0
 InFirst h es =
     (before : List Entry) (e : Entry) (after : List Entry) (s : SchedId) → es ≡ before ++ e ∷ after → log s (e ∷ []) ≡ []
     → InBatch h before e after s ⊎ LeftOver h es before e after s
+
+-- ---- jobs
+
+-- the thread that an entry picks
+abbrev pub picks : Entry → List Thread
+picks (Pick w job) = job ∷ []
+picks e = []
+
+-- all threads that workers picked, in order
+abbrev pub picked_in : List Entry → List Thread
+picked_in es = flat_map picks es
+
+-- The threads that were picked and then those that still wait are all that were sent to the workers, in order.
+abbrev pub InPicks : List Entry → Type 0
+InPicks es = picked_in es ++ jobs es ≡ jobs_sent (sent_in es)
+
+-- A thread is taken by the Pick after it before which just those ahead of it were picked.
+pub record InPick (ahead : List Thread) (t : Thread) (after : List Entry) : Type 0 where
+  pub until : List Entry
+  pub worker : ℕ
+  pub rest : List Entry
+  pub splits : after ≡ until ++ Pick worker t ∷ rest
+  pub first : picked_in until ≡ ahead
+
+-- Where no Pick takes it, it waits, and so do those ahead of it that weren't picked.
+pub record StillWaits (es : List Entry) (ahead : List Thread) (t : Thread) (after : List Entry) : Type 0 where
+  pub front : List Thread
+  pub back : List Thread
+  pub picked : picked_in after ++ front ≡ ahead
+  pub is : jobs es ≡ front ++ t ∷ back
+
+-- So it is for each thread that an entry sends to the workers, ahead of which are those that waited before the entry and those
+-- that the entry sent before it.
+abbrev pub InFirstPick : List Entry → Type 0
+InFirstPick es =
+    (before : List Entry) (e : Entry) (after : List Entry) (earlier : List Thread) (t : Thread) (later : List Thread) → es ≡ before ++ e ∷ after
+    → jobs_sent (sends e) ≡ earlier ++ t ∷ later → InPick (jobs before ++ earlier) t after ⊎ StillWaits es (jobs before ++ earlier) t after

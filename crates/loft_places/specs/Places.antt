@@ -1,21 +1,22 @@
 -- Where the threads of a history are (docs/SEMANTICS.md, "One place").
 use Rattle.std.specs.Prelude.{◌≡◌, ◌⊎◌, ℕ, zero, suc, ◌+◌, ◌<◌, ◌≤◌, ◌==◌, Bool, true, false, List, [], ◌∷◌, ◌++◌, length, if◌then◌else◌}
+use Rattle.std.specs.List.{fold}
 use Rattle.loft_base.specs.declared.ids.SchedId.{SchedId}
 use Rattle.loft_base.specs.declared.ids.ThreadId.{ThreadId}
 use Rattle.loft_base.specs.declared.ids.Maker.TheVariants.{Source}
 use Rattle.loft_tree.specs.declared.heads.Start.{Start}
 use Rattle.loft_sense.specs.declared.entry.Entry.{Entry}
-use Rattle.loft_sense.specs.declared.entry.Entry.TheVariants.{Take, Give, Pick, Post, Client}
+use Rattle.loft_sense.specs.declared.entry.Entry.TheVariants.{Take, Give, Pick, Post}
 use Rattle.loft_sense.specs.declared.limits.RunOptions.{RunOptions}
 use Rattle.loft_sense.specs.declared.order.Order.{Order}
 use Rattle.loft_sense.specs.declared.thread.Thread.{Thread}
-use Rattle.loft_sense.specs.Heads.{same_scheduler}
+use Rattle.loft_sense.specs.Heads.{scheduler, same_scheduler}
 use Rattle.loft_sense.specs.Machine.{Prog, heads, Mach}
 use Rattle.loft_sense.specs.CanGo.{same_thread}
 use Rattle.loft_sense.specs.Instant.{replay}
-use Rattle.loft_sense.specs.History.{log, is_open, waiting, jobs, ends_block, is_busy}
+use Rattle.loft_sense.specs.History.{sent_in, log, is_open, waiting, jobs, ends_block, is_busy}
 use Rattle.loft_sends.specs.Counts.{one, made_in, ended_in, brought_in, threads_in, linked_in}
-use Rattle.loft_places.specs.Batches.{sent_in, joined}
+use Rattle.loft_places.specs.Batches.{joined}
 
 -- ---- schedulers and workers between two entries
 
@@ -24,14 +25,15 @@ pub record Desk : Type 0 where
   pub given : List (List Order)
   pub hand : List (List Order)
 
+-- a scheduler's Take puts its batch in hand, and its Give puts this to those before
+abbrev pub desk_step : SchedId → Desk → Entry → Desk
+desk_step s d (Take q batch) = if same_scheduler s q then record { given = d.given; hand = batch ∷ [] } else d
+desk_step s d (Give q sent) = if same_scheduler s q then record { given = d.given ++ d.hand; hand = [] } else d
+desk_step s d e = d
+
 -- a scheduler's desk after these entries, where it was so before them
 abbrev pub desk_after : SchedId → Desk → List Entry → Desk
-desk_after s d [] = d
-desk_after s d (Take q batch ∷ es) = desk_after s (if same_scheduler s q then record { given = d.given; hand = batch ∷ [] } else d) es
-desk_after s d (Give q sent ∷ es) = desk_after s (if same_scheduler s q then record { given = d.given ++ d.hand; hand = [] } else d) es
-desk_after s d (Pick w job ∷ es) = desk_after s d es
-desk_after s d (Post w sent ∷ es) = desk_after s d es
-desk_after s d (Client c sent ∷ es) = desk_after s d es
+desk_after s d es = fold (desk_step s) d es
 
 abbrev pub desk : SchedId → List Entry → Desk
 desk s es = desk_after s (record { given = []; hand = [] }) es
@@ -40,14 +42,15 @@ desk s es = desk_after s (record { given = []; hand = [] }) es
 abbrev pub settled : Prog → RunOptions → SchedId → List Entry → Mach
 settled x o s es = (replay x o.limits s (desk s es).given).machine
 
--- the job that a worker has in hand after these entries, where this was so before them: until it posts its last order
+-- a worker's Pick takes a job in hand, until it posts its last order
+abbrev pub hand_step : ℕ → List Thread → Entry → List Thread
+hand_step w had (Pick v job) = if w == v then job ∷ [] else had
+hand_step w had (Post v sent) = if w == v then (if ends_block sent.order then [] else had) else had
+hand_step w had e = had
+
+-- the job that a worker has in hand after these entries, where this was so before them
 abbrev pub hand_after : ℕ → List Thread → List Entry → List Thread
-hand_after w had [] = had
-hand_after w had (Take s batch ∷ es) = hand_after w had es
-hand_after w had (Give s sent ∷ es) = hand_after w had es
-hand_after w had (Pick v job ∷ es) = hand_after w (if w == v then job ∷ [] else had) es
-hand_after w had (Post v sent ∷ es) = hand_after w (if w == v then (if ends_block sent.order then [] else had) else had) es
-hand_after w had (Client c sent ∷ es) = hand_after w had es
+hand_after w had es = fold (hand_step w) had es
 
 abbrev pub hand_of : ℕ → List Entry → List Thread
 hand_of w es = hand_after w [] es
@@ -64,9 +67,6 @@ pub record HandsAgree (es : List Entry) : Type 0 where
   pub busy : (w : ℕ) → IsOneIf (is_busy w es) (hand_of w es)
 
 -- ---- how often a thread is somewhere
-
-abbrev pub scheduler : ℕ → SchedId
-scheduler s = record { 0 = s }
 
 -- among the threads that are linked to scheduler number s
 abbrev pub linked_at : Prog → RunOptions → List Entry → ThreadId → ℕ → ℕ

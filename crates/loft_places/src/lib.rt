@@ -3,4 +3,7 @@
 
 pub mod laws;
 
-pub use laws::{orders_stand_in_one_batch, threads_are_in_one_place};
+pub use laws::{
+    jobs_are_picked_in_order, orders_stand_in_one_batch, threads_are_in_one_place,
+    what_waits_was_sent_since,
+};

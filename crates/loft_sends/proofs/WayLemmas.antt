@@ -234,15 +234,15 @@ module _ (x : Prog) (well : IsWellFormed x) (place : Place) where
   or_ends_well true o b left e = e
   or_ends_well false o b left e = ends_well (heads x) place Done b left
 
-  going_so : (left : ℕ) (b : Beside) (rs : List (Active (PointOf x))) → PointFits x place b rs → goes_well (heads x) place b (going (control x) left b rs) ≡ true
-  going_so zero b rs f = idle_well (heads x) place b (live (control x) rs)
-  going_so (suc left) b rs f =
+  going_so : (left count : ℕ) (b : Beside) (rs : List (Active (PointOf x))) → PointFits x place count b rs → goes_well (heads x) place b (going (control x) left b rs) ≡ true
+  going_so zero count b rs f = idle_well (heads x) place b (live (control x) rs)
+  going_so (suc left) count b rs f =
       let on : On = going (control x) left in
       let other : On = λ d qs. or_ends (goes_well (heads x) place d (on d qs)) (on d qs) d left in
       let same : step_on (control x) left on b (live (control x) rs) ≡ step_on (control x) left other b (live (control x) rs) =
-      run_goes_on x well place b rs f left on other (λ d qs g. sym (ap (λ (good : Bool). or_ends good (on d qs) d left) (going_so left d qs g))) in
+      run_goes_on x well place count b rs f left on other (λ d qs g. sym (ap (λ (good : Bool). or_ends good (on d qs) d left) (going_so left count d qs g))) in
       ap (λ (o : Outcome). goes_well (heads x) place b o) same
-      ∙ front_so left other (λ d qs. or_ends_well (goes_well (heads x) place d (on d qs)) (on d qs) d left refl) b (live (control x) rs) (next_fits_there x well place b rs f)
+      ∙ front_so left other (λ d qs. or_ends_well (goes_well (heads x) place d (on d qs)) (on d qs) d left refl) b (live (control x) rs) (next_fits_there x well place count b rs f)
 
 idle_made : {A : Type 0} (b : Beside) (rs : List (Active A)) → (around_after (no_step b rs)).made ≡ b.around.made
 idle_made b [] = refl
@@ -282,7 +282,7 @@ run_well x well t place around (suc left) stands names fits =
     let same : first.0.around.made ≡ around.made =
     sym (idle_made first.0 (live (control x) first.1)) ∙ sym (ap (λ (o : Outcome). (around_after o).made) (first.3 0)) ∙ one_made x t around in
     ap (λ (o : Outcome). goes_well (heads x) place (beside t around) o) (first.3 left)
-    ∙ from_before (heads x) place (beside t around) first.0 (going (control x) left first.0 first.1) (same_made place around.made first.0.around.made same) (going_so x well place left first.0 first.1 first.2)
+    ∙ from_before (heads x) place (beside t around) first.0 (going (control x) left first.0 first.1) (same_made place around.made first.0.around.made same) (going_so x well place left (length around.shared) first.0 first.1 first.2)
 
 -- ---- as laws say it
 

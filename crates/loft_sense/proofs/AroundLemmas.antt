@@ -2,7 +2,7 @@
 use Rattle.std.proofs.Common.{◌≡◌, ℕ, zero, suc, ◌+◌, ◌≤◌, Bool, true, false, List, [], ◌∷◌, ◌++◌, Option, Some, None, length, map, refl, sym, subst, ap, ◌∙◌, arith, append_assoc, zero-add}
 use Rattle.std.specs.Prelude.{ℤ, pos, int_le, ◌<ℤ◌, if◌then◌else◌, nat_lt, slice_set}
 use Rattle.std.specs.List.{count_by}
-use Rattle.std.proofs.lemmas.List.Sums.{sum_by-append}
+use Rattle.std.proofs.lemmas.List.Sums.{sum_by-append, fold-append}
 use Rattle.std.proofs.lemmas.List.{append-nil, length-set, length-replicate}
 use Rattle.std.proofs.lemmas.Grind.{common_steps}
 use Rattle.loft_base.specs.declared.ids.EventId.{EventId}
@@ -10,7 +10,7 @@ use Rattle.loft_base.specs.declared.ids.ModuleId.{ModuleId}
 use Rattle.loft_base.specs.declared.ids.SchedId.{SchedId}
 use Rattle.loft_base.specs.declared.ids.ThreadId.{ThreadId}
 use Rattle.loft_base.specs.declared.ids.Value.{Value}
-use Rattle.loft_board.specs.Board.{Board, values as event_values, generate}
+use Rattle.loft_board.specs.Board.{Board, values as event_values, generate, generate_all}
 use Rattle.loft_board.proofs.BoardLemmas.{stays, prefix}
 use Rattle.loft_tree.specs.declared.heads.Heads.{Heads}
 use Rattle.loft_tree.specs.declared.heads.Place.{Place}
@@ -33,12 +33,14 @@ use Rattle.loft_sense.specs.Around.{Around, Beside, done, entered}
 use Rattle.loft_sense.specs.Eval.{eval, eval_all, eval_if, number_of, number_if, thread_or}
 use Rattle.loft_sense.specs.CanGo.{has_any, is_index, is_known}
 use Rattle.loft_sense.specs.Statements.{Effect, GoesOn, Waits, Leaves, Dies, Now, if_value, goes_on, most_entries, ok, one_made, is_up, hold, set_if, with_code, target_of, did, begun, answered}
-use Rattle.loft_sense.specs.Runs.{is_entry, KeepsEvents, instant_walk}
+use Rattle.loft_sense.specs.Runs.{is_entry, generated_in, ended_in, Tells, KeepsEvents, instant_walk}
 use Rattle.loft_sense.specs.Codes.{IsPending}
 use Rattle.loft_sense.specs.Run.{Next, Finish, Stuck, Acts, Passes, Tests, Counts, Holds, Runs, Control, Active, Outcome, Held, Left, Ended, ends, live, effect_on, test_on, count_on, run_on, begun_frame, stopped, step, step_on, no_step, going, go_on, go, here, beside, actives_of}
 use Rattle.loft_sense.specs.Tree.{tree}
 use Rattle.loft_sense.specs.Code.{code}
-use Rattle.loft_sense.specs.Passes.{Runner, Walk, is_ready, run_of, around_after, walked, pass, passes_within, steps_left, passes}
+use Rattle.loft_sense.specs.Passes.{Runner, run_of, around_after, pass, passes}
+use Rattle.loft_sense.specs.Moments.{Moment, IsKeptByRuns}
+use Rattle.loft_sense.proofs.MomentLemmas.{kept_by_pass, kept_by_passes}
 use Rattle.loft_sense.specs.Apply.{Applied, is_linked, apply_order, apply_orders, unapplied, apply}
 use Rattle.loft_sense.specs.Instant.{runner_of, around_of, instant}
 
@@ -50,24 +52,60 @@ pub record Follows (a b : Around) : Type 0 where
   pub few : a.entries ≤ most_entries a.place → b.entries ≤ most_entries b.place
   pub made : b.made + a.entries ≤ a.made + b.entries
   pub acts : count_by is_entry b.acts + a.entries ≡ count_by is_entry a.acts + b.entries
-  pub stays : KeepsEvents a.board b.board
+  pub tells : Tells a b
 
 -- ---- one thing at a time
 
 pub same_board : (board : Board) → KeepsEvents board board
 same_board board = record { present = λ e h. h; values = λ e. ([], sym (append-nil _)) }
 
-later_board : (a b c : Board) → KeepsEvents a b → KeepsEvents b c → KeepsEvents a c
-later_board a b c p q = record {
-  present = λ e h. q.present e (p.present e h);
-  values = λ e. ((p.values e).0 ++ (q.values e).0, (q.values e).1 ∙ (ap (λ (vs : List ℤ). vs ++ (q.values e).0) (p.values e).1 ∙ append_assoc (event_values e a) _ _));
-}
-
 pub generated_board : (event : EventId) (v : Option ℤ) (board : Board) → KeepsEvents board (generate event v board)
 generated_board event v board = record { present = λ e h. stays ((event, v) ∷ []) e board h; values = λ e. prefix ((event, v) ∷ []) e board }
 
+-- what tells of a later moment keeps the events of the one before it
+pub told_board : (a b : Around) → Tells a b → KeepsEvents a.board b.board
+told_board a b p = subst (KeepsEvents a.board) (sym p.board) (record {
+  present = λ e h. stays (generated_in p.more) e a.board h;
+  values = λ e. prefix (generated_in p.more) e a.board;
+})
+
+generated_in-append : (xs ys : List Act) → generated_in (xs ++ ys) ≡ generated_in xs ++ generated_in ys
+generated_in-append [] ys = refl
+generated_in-append (act.Print t line ∷ xs) ys = generated_in-append xs ys
+generated_in-append (act.Gen t event v ∷ xs) ys = ap (λ (l : List (EventId × Option ℤ)). (event, v) ∷ l) (generated_in-append xs ys)
+generated_in-append (act.Out t sent ∷ xs) ys = generated_in-append xs ys
+generated_in-append (act.End t end ∷ xs) ys = generated_in-append xs ys
+
+ended_in-append : (xs ys : List Act) → ended_in (xs ++ ys) ≡ ended_in xs ++ ended_in ys
+ended_in-append [] ys = refl
+ended_in-append (act.Print t line ∷ xs) ys = ended_in-append xs ys
+ended_in-append (act.Gen t event v ∷ xs) ys = ended_in-append xs ys
+ended_in-append (act.Out t sent ∷ xs) ys = ended_in-append xs ys
+ended_in-append (act.End t end ∷ xs) ys = ap (λ (l : List ThreadId). t ∷ l) (ended_in-append xs ys)
+
+-- more is told in two parts
+told_board_twice : (xs ys : List Act) (a b c : Board) → b ≡ generate_all (generated_in xs) a → c ≡ generate_all (generated_in ys) b → c ≡ generate_all (generated_in (xs ++ ys)) a
+told_board_twice xs ys a b c p q =
+    q ∙ (ap (generate_all (generated_in ys)) p
+    ∙ (sym (fold-append _ a (generated_in xs) (generated_in ys)) ∙ ap (λ (l : List (EventId × Option ℤ)). generate_all l a) (sym (generated_in-append xs ys))))
+
+one_after : {A : Type 0} (xs ys a b c : List A) → b ≡ a ++ xs → c ≡ b ++ ys → c ≡ a ++ (xs ++ ys)
+one_after xs ys a b c p q = q ∙ (ap (λ (l : List _). l ++ ys) p ∙ append_assoc a xs ys)
+
+told_twice : (a b c : Around) → Tells a b → Tells b c → Tells a c
+told_twice a b c p q = record {
+  more = p.more ++ q.more;
+  acts = one_after p.more q.more a.acts b.acts c.acts p.acts q.acts;
+  board = told_board_twice p.more q.more a.board b.board c.board p.board q.board;
+  known = one_after (ended_in p.more) (ended_in q.more) a.known b.known c.known p.known q.known ∙ ap (λ (l : List ThreadId). a.known ++ l) (sym (ended_in-append p.more q.more));
+}
+
+-- nothing was done
+told_nothing : (a : Around) → Tells a a
+told_nothing a = record { more = []; acts = sym (append-nil _); board = refl; known = sym (append-nil _) }
+
 pub same : (a : Around) → Follows a a
-same a = record { place = refl; events = refl; shared = refl; few = λ h. h; made = omega arith; acts = refl; stays = same_board a.board }
+same a = record { place = refl; events = refl; shared = refl; few = λ h. h; made = omega arith; acts = refl; tells = told_nothing a }
 
 pub chained : (a b c : Around) → Follows a b → Follows b c → Follows a c
 chained a b c p q = record {
@@ -77,7 +115,7 @@ chained a b c p q = record {
   few = λ h. q.few (p.few h);
   made = let e = p.made in let f = q.made in omega (arith, e, f);
   acts = let e = p.acts in let f = q.acts in omega (arith, e, f);
-  stays = later_board a.board b.board c.board p.stays q.stays;
+  tells = told_twice a b c p.tells q.tells;
 }
 
 -- one more act
@@ -85,10 +123,26 @@ count_more : (acts : List Act) (one : Act) → count_by is_entry (acts ++ one �
 count_more acts one = sum_by-append (λ (a : Act). if is_entry a then 1 else 0) acts (one ∷ []) ∙ ap (λ (n : ℕ). count_by is_entry acts + n) (zero-add _)
 
 set_shared : (a : Around) (k : ℕ) (v : ℤ) → Follows a (record a { shared = slice_set a.shared k v })
-set_shared a k v = record { place = refl; events = refl; shared = length-set a.shared k v; few = λ h. h; made = omega arith; acts = refl; stays = same_board a.board }
+set_shared a k v = record {
+  place = refl;
+  events = refl;
+  shared = length-set a.shared k v;
+  few = λ h. h;
+  made = omega arith;
+  acts = refl;
+  tells = record { more = []; acts = sym (append-nil _); board = refl; known = sym (append-nil _) };
+}
 
-ended : (a : Around) (known : List ThreadId) (t : ThreadId) (end : End) → Follows a (done (act.End t end) (record a { known = known }))
-ended a known t end = record { place = refl; events = refl; shared = refl; few = λ h. h; made = omega arith; acts = let e = count_more a.acts (act.End t end) in omega (arith, e); stays = same_board a.board }
+ended : (a : Around) (t : ThreadId) (end : End) → Follows a (done (act.End t end) (record a { known = a.known ++ t ∷ [] }))
+ended a t end = record {
+  place = refl;
+  events = refl;
+  shared = refl;
+  few = λ h. h;
+  made = omega arith;
+  acts = let e = count_more a.acts (act.End t end) in omega (arith, e);
+  tells = record { more = act.End t end ∷ []; acts = refl; board = refl; known = refl };
+}
 
 -- there is room for one more entry
 abbrev HasRoom : Around → Type 0
@@ -97,19 +151,50 @@ HasRoom a = nat_lt a.entries (most_entries a.place) ≡ true
 one_entry : (n most : ℕ) → nat_lt n most ≡ true → n + 1 ≤ most
 one_entry n most room = grind (arith, common_steps)
 
-entry : (a : Around) (one : Act) → is_entry one ≡ true → HasRoom a → Follows a (entered one a)
-entry a one is room =
-    let few = one_entry a.entries (most_entries a.place) room in
+-- an entry that generates no event
+record IsQuiet (one : Act) : Type 0 where
+  pub entry : is_entry one ≡ true
+  pub no_event : generated_in (one ∷ []) ≡ []
+  pub no_end : ended_in (one ∷ []) ≡ []
+
+few_more : (a : Around) → HasRoom a → a.entries + 1 ≤ most_entries a.place
+few_more a room = one_entry a.entries (most_entries a.place) room
+
+acts_more : (a : Around) (one : Act) → is_entry one ≡ true → count_by is_entry (a.acts ++ one ∷ []) + a.entries ≡ count_by is_entry a.acts + (a.entries + 1)
+acts_more a one is =
     let acts = count_more a.acts one ∙ ap (λ (b : Bool). count_by is_entry a.acts + (if b then 1 else 0)) is in
-    record { place = refl; events = refl; shared = refl; few = λ h. few; made = omega arith; acts = omega (arith, acts); stays = same_board a.board }
+    omega (arith, acts)
 
-entry_made : (a : Around) (one : Act) → is_entry one ≡ true → HasRoom a → Follows a (one_made (entered one a))
-entry_made a one is room = let p = entry a one is room in record { place = refl; events = refl; shared = refl; few = p.few; made = omega arith; acts = p.acts; stays = p.stays }
+told_quiet : (a b : Around) (one : Act) → IsQuiet one → b.acts ≡ a.acts ++ one ∷ [] → b.board ≡ a.board → b.known ≡ a.known → Tells a b
+told_quiet a b one q acts board known = record {
+  more = one ∷ [];
+  acts = acts;
+  board = board ∙ ap (λ (l : List (EventId × Option ℤ)). generate_all l a.board) (sym q.no_event);
+  known = known ∙ (sym (append-nil _) ∙ ap (λ (l : List ThreadId). a.known ++ l) (sym q.no_end));
+}
 
-entry_event : (a : Around) (one : Act) (event : EventId) (v : Option ℤ) → is_entry one ≡ true → HasRoom a → Follows a (entered one (record a { board = generate event v a.board }))
-entry_event a one event v is room =
-    let p = entry a one is room in
-    record { place = refl; events = length-set a.board event.0 _; shared = refl; few = p.few; made = p.made; acts = p.acts; stays = generated_board event v a.board }
+entry : (a : Around) (one : Act) → IsQuiet one → HasRoom a → Follows a (entered one a)
+entry a one q room =
+    let few = few_more a room in
+    record { place = refl; events = refl; shared = refl; few = λ h. few; made = omega arith; acts = acts_more a one q.entry; tells = told_quiet a (entered one a) one q refl refl refl }
+
+entry_made : (a : Around) (one : Act) → IsQuiet one → HasRoom a → Follows a (one_made (entered one a))
+entry_made a one q room =
+    let few = few_more a room in
+    record { place = refl; events = refl; shared = refl; few = λ h. few; made = omega arith; acts = acts_more a one q.entry; tells = told_quiet a (one_made (entered one a)) one q refl refl refl }
+
+entry_event : (a : Around) (t : ThreadId) (event : EventId) (v : Option ℤ) → HasRoom a → Follows a (entered (act.Gen t event v) (record a { board = generate event v a.board }))
+entry_event a t event v room =
+    let few = few_more a room in
+    record {
+      place = refl;
+      events = length-set a.board event.0 _;
+      shared = refl;
+      few = λ h. few;
+      made = omega arith;
+      acts = acts_more a (act.Gen t event v) refl;
+      tells = record { more = act.Gen t event v ∷ []; acts = refl; board = refl; known = sym (append-nil _) };
+    }
 
 -- ---- statements
 
@@ -146,22 +231,22 @@ did_is h (Assign target e) at values b = by_value b.around (eval h values b e) a
 did_is h (Make target s m arguments) at values b =
     by_value b.around (eval_all h values b arguments) at _ (λ args.
     by_room b.around (nat_lt b.around.entries (most_entries b.around.place)) _ at (λ room.
-    chained b.around _ _ (entry_made b.around _ refl room) (set_follows h target _ values _)))
+    chained b.around _ _ (entry_made b.around _ (record { entry = refl; no_event = refl; no_end = refl }) room) (set_follows h target _ values _)))
 did_is h (PrintText line e) at values b =
     by_value b.around (eval_if h values b e) at _ (λ v.
-    by_room b.around (nat_lt b.around.entries (most_entries b.around.place)) _ at (entry b.around _ refl))
+    by_room b.around (nat_lt b.around.entries (most_entries b.around.place)) _ at (entry b.around _ (record { entry = refl; no_event = refl; no_end = refl })))
 did_is h (PrintValue e) at values b =
     by_value b.around (eval h values b e) at _ (λ v.
-    by_room b.around (nat_lt b.around.entries (most_entries b.around.place)) _ at (entry b.around _ refl))
+    by_room b.around (nat_lt b.around.entries (most_entries b.around.place)) _ at (entry b.around _ (record { entry = refl; no_event = refl; no_end = refl })))
 did_is h (Generate event e) at values b =
     by_value b.around (eval_if h values b e) at _ (λ v.
-    by_room b.around (nat_lt b.around.entries (most_entries b.around.place)) _ at (entry_event b.around _ event (number_if v) refl))
+    by_room b.around (nat_lt b.around.entries (most_entries b.around.place)) _ at (entry_event b.around b.id event (number_if v)))
 did_is h (ControlThread control e s) at values b =
     by_value b.around (eval h values b e) at _ (λ v.
-    by_room b.around (nat_lt b.around.entries (most_entries b.around.place)) _ at (entry b.around _ refl))
+    by_room b.around (nat_lt b.around.entries (most_entries b.around.place)) _ at (entry b.around _ (record { entry = refl; no_event = refl; no_end = refl })))
 did_is h (Broadcast event e) at values b =
     by_value b.around (eval_if h values b e) at _ (λ v.
-    by_room b.around (nat_lt b.around.entries (most_entries b.around.place)) _ at (entry b.around _ refl))
+    by_room b.around (nat_lt b.around.entries (most_entries b.around.place)) _ at (entry b.around _ (record { entry = refl; no_event = refl; no_end = refl })))
 
 above : (n : ℤ) → int_le n (pos 0) ≡ false → pos 0 <ℤ n
 above n h = grind (arith, common_steps)
@@ -231,7 +316,7 @@ abbrev GoesSo : {A : Type 0} → (Beside → List (Active A) → Outcome) → Ty
 GoesSo on = (b : Beside) (rs : List (Active _)) → OutcomeIs b.around (on b rs)
 
 ends_so : (end : End) (b : Beside) (left : ℕ) → IsNoOver end → OutcomeIs b.around (ends end b left)
-ends_so end b left never = (ended b.around _ b.id _, λ at e. absurd (never at e))
+ends_so end b left never = (ended b.around b.id _, λ at e. absurd (never at e))
 
 effect_so : {A : Type 0} (c : Control A) (left : ℕ) (on : Beside → List (Active A) → Outcome) → GoesSo on → (effect : Effect) (p : A) (r : Active A) (rs : List (Active A)) (b : Beside) → EffectIs b.around effect → OutcomeIs b.around (effect_on c left on effect p r rs b)
 effect_so c left on h (GoesOn now) p r rs b e = later b.around now.beside.around (on now.beside (record r { values = now.values; at = p } ∷ rs)) e (h _ _)
@@ -268,7 +353,7 @@ step_so c left on h (Runs k m arguments p) r rs b = run_so c left on h (eval_all
 
 no_step_so : {A : Type 0} → GoesSo {A = A} no_step
 no_step_so b [] = ends_so _ b 0 (λ at e. cc)
-no_step_so b (r ∷ rs) = (ended b.around _ b.id _, λ at e. refl)
+no_step_so b (r ∷ rs) = (ended b.around b.id _, λ at e. refl)
 
 on_so : {A : Type 0} (c : Control A) (left : ℕ) (on : Beside → List (Active A) → Outcome) → GoesSo on → GoesSo (step_on c left on)
 on_so c left on h b [] = ends_so _ b (suc left) (λ at e. cc)
@@ -301,30 +386,18 @@ run_follows x t around n = outcome_follows around (run_of x t around n) (run_is 
 
 -- ---- passes
 
-pass_one : (x : Prog) (r : Runner) (rs : List Runner) (around : Around) (goes : Bool) (o : Outcome) (front : List Runner) → Follows around (around_after o)
-    → ((a : Around) → Follows a (pass x rs a).around)
-    → Follows around (if goes then walked front true (pass x rs (around_after o)) else walked (r ∷ []) false (pass x rs around)).around
-pass_one x r rs around true o front p h = chained around (around_after o) _ p (h (around_after o))
-pass_one x r rs around false o front p h = h around
+-- it follows on what was there at first
+abbrev FollowsOn : Around → Moment → Type 0
+FollowsOn a m = Follows a m.around
+
+follows_on : (x : Prog) (a : Around) → IsKeptByRuns x (FollowsOn a)
+follows_on x a front r rest around ready p = chained a around _ p (run_follows x r.thread around r.left)
 
 pub pass_follows : (x : Prog) (rs : List Runner) (around : Around) → Follows around (pass x rs around).around
-pass_follows x [] around = same around
-pass_follows x (r ∷ rs) around = pass_one x r rs around (is_ready r around) (run_of x r.thread around r.left) _ (run_follows x r.thread around r.left) (pass_follows x rs)
-
-walk_chosen : (a : Around) (ran : Bool) (v w : Walk) → Follows a v.around → Follows a w.around → Follows a (if ran then v else w).around
-walk_chosen a true v w p q = p
-walk_chosen a false v w p q = q
-
-pub within_follows : (n : ℕ) (x : Prog) (rs : List Runner) (around : Around) → Follows around (passes_within n x rs around).around
-within_follows zero x rs around = pass_follows x rs around
-within_follows (suc n) x rs around =
-    let w = pass x rs around in
-    walk_chosen around w.ran (passes_within n x w.runners w.around) w
-    (chained around w.around _ (pass_follows x rs around) (within_follows n x w.runners w.around)) (pass_follows x rs around)
+pass_follows x rs around = kept_by_pass x (FollowsOn around) (follows_on x around) rs around (same around)
 
 pub passes_follow : (x : Prog) (rs : List Runner) (around : Around) → Follows around (passes x rs around).around
-unfolding passes
-passes_follow x rs around = within_follows (steps_left rs) x rs around
+passes_follow x rs around = kept_by_passes x (FollowsOn around) (follows_on x around) rs around (same around)
 
 -- ---- instants
 

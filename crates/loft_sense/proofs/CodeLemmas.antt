@@ -23,7 +23,7 @@ use Rattle.loft_sense.specs.Codes.{stop_sets_code, limit_number, wait_sets_code,
 -- ---- stops as they begin
 
 -- the code of a stop that goes on, whose limit is this
-abbrev IsCode : Option ℤ → ℤ → Type 0
+abbrev pub IsCode : Option ℤ → ℤ → Type 0
 IsCode limit code = (code ≡ ok) ⊎ ((code ≡ timeout) × ((n : ℤ) × ((limit ≡ Some n) × (n ≤ℤ pos 0))))
 
 at_most : (n : ℤ) → int_le n (pos 0) ≡ true → n ≤ℤ pos 0
@@ -137,7 +137,7 @@ zero_left (pos n) e = let h : n ≡ 0 = grind (arith, common_steps) in ap (λ (k
 zero_left (negsuc n) e = absurd cc
 
 -- the code of a wait that ends
-abbrev IsAnswer : Wait → ℤ → Type 0
+abbrev pub IsAnswer : Wait → ℤ → Type 0
 IsAnswer w code = (code ≡ ok) ⊎ (((code ≡ timeout) × (left_of w ≡ Some (pos 0))) ⊎ ((code ≡ next) × (w ≡ wait.Next)))
 
 answer_left : (w : Wait) (left : Option ℤ) → left_of w ≡ left → IsAnswer w (code_after left)

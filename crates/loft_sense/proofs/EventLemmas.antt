@@ -1,12 +1,12 @@
 -- The events of an instant, and who waits for them as it closes.
-use Rattle.std.proofs.Common.{◌≡◌, Bool, true, false, List, [], ◌∷◌, length, map, refl, ap, ◌∙◌}
-use Rattle.std.specs.Prelude.{if◌then◌else◌, nat_lt, ◌&&◌, ◌||◌, All, filter}
+use Rattle.std.proofs.Common.{◌≡◌, Bool, true, false, List, [], ◌∷◌, Option, Some, None, length, map, refl, ap, ◌∙◌}
+use Rattle.std.specs.Prelude.{ℤ, if◌then◌else◌, nat_lt, ◌&&◌, ◌||◌, All, filter, is_some, option_map, unwrap_or}
 use Rattle.std.specs.List.{AllByRecursion}
 use Rattle.std.proofs.lemmas.List.Elements.{All-from_recursion, recursion_from_All}
 use Rattle.loft_base.specs.declared.ids.EventId.{EventId}
 use Rattle.loft_base.specs.declared.ids.SchedId.{SchedId}
 use Rattle.loft_base.specs.declared.ids.ThreadId.{ThreadId}
-use Rattle.loft_board.specs.Board.{Board}
+use Rattle.loft_board.specs.Board.{Board, find, has, values}
 use Rattle.loft_tree.specs.declared.heads.Heads.{Heads}
 use Rattle.loft_sense.specs.declared.limits.Limits.{Limits}
 use Rattle.loft_sense.specs.declared.limits.TheConstants.{MAX_LINKED}
@@ -18,7 +18,7 @@ use Rattle.loft_sense.specs.declared.thread.Wait.{Wait}
 use Rattle.loft_sense.specs.declared.thread.Wait.TheVariants as wait
 use Rattle.loft_sense.specs.Machine.{Prog, Mach}
 use Rattle.loft_sense.specs.Around.{Around}
-use Rattle.loft_sense.specs.CanGo.{has_any, ran_out, can_go, is_over}
+use Rattle.loft_sense.specs.CanGo.{count_of, has_any, ran_out, can_go, is_over}
 use Rattle.loft_sense.specs.Passes.{Runner, is_ready}
 use Rattle.loft_sense.specs.Apply.{Applied, is_linked, apply_order, apply}
 use Rattle.loft_sense.specs.Instant.{runner_of, around_of, closed_wait, closed, stays, instant}
@@ -40,6 +40,24 @@ order_stays h s a (order.Resume t) = chosen_stays a.board (is_linked t a.linked)
 order_stays h s a (order.Broadcast event value) = generated_board event value a.board
 order_stays h s a (order.Ended t end) = same_board a.board
 
+-- ---- events by the counts of their values
+
+present_some : (o : Option (List ℤ)) → is_some (option_map length o) ≡ is_some o
+present_some None = refl
+present_some (Some vs) = refl
+
+-- an event is present where it has a count
+pub present_counted : (e : EventId) (board : Board) → is_some (count_of board e) ≡ has e board
+present_counted e board = present_some (find e board)
+
+values_some : (o : Option (List ℤ)) → unwrap_or (option_map length o) 0 ≡ length (unwrap_or o [])
+values_some None = refl
+values_some (Some vs) = refl
+
+-- an event has as many values as it counts, and none where it isn't present
+pub values_counted : (e : EventId) (board : Board) → unwrap_or (count_of board e) 0 ≡ length (values e board)
+values_counted e board = values_some (find e board)
+
 -- ---- waits as an instant closes
 
 no_event : (out any : Bool) → (out || any) ≡ false → any ≡ false
@@ -47,7 +65,7 @@ no_event true any e = absurd cc
 no_event false any e = e
 
 -- no event that a wait names is present where it isn't over, and the close leaves it so
-unmet_wait : (w : Wait) (board : Board) (known : List ThreadId) → is_over w board known ≡ false → has_any (events_in w) board ≡ false
+unmet_wait : (w : Wait) (board : Board) (known : List ThreadId) → is_over w (count_of board) known ≡ false → has_any (events_in w) board ≡ false
 unmet_wait wait.New board known e = absurd cc
 unmet_wait (wait.Coop left) board known e = refl
 unmet_wait (wait.Events events left) board known e = no_event (ran_out left) (has_any events board) e

@@ -1,6 +1,7 @@
 -- Schedulers in a history, and how a history goes on after its choices.
-use Rattle.std.proofs.Common.{◌≡◌, ℕ, Bool, true, false, ◌||◌, List, [], ◌∷◌, ◌++◌, map, refl, sym, ◌∙◌, ap, eq-eqb, Option, Some, None, Ok, append_assoc, append-nil, length}
+use Rattle.std.proofs.Common.{◌≡◌, ℕ, Bool, true, false, List, [], ◌∷◌, ◌++◌, map, refl, sym, ◌∙◌, ap, eq-eqb, Option, Some, None, Ok, append_assoc, append-nil, length}
 use Rattle.std.proofs.lemmas.List.{map-append}
+use Rattle.std.proofs.lemmas.List.Folds.{fold_stays}
 use Rattle.std.specs.Prelude.{◌↔◌, if◌then◌else◌, not, ◌&&◌, nat_lt, IsTrue, ◌<◌, ◌≤◌, ◌==◌, drop}
 use Rattle.std.proofs.lemmas.Bool.{eqb-true, lt-ltb, ltb-true, ltb-false}
 use Rattle.std.proofs.lemmas.Option.{slice_get_past}
@@ -18,9 +19,8 @@ use Rattle.loft_sense.specs.declared.limits.RunOptions.{RunOptions}
 use Rattle.loft_sense.specs.Heads.{same_scheduler}
 use Rattle.loft_sense.specs.Machine.{Prog, heads}
 use Rattle.loft_sense.specs.Instant.{Replayed, one_more, replay_on}
-use Rattle.loft_sense.specs.Async.{async}
 use Rattle.loft_sense.specs.Clients.{orders_from, orders_or_none, outside_of}
-use Rattle.loft_sense.specs.History.{Choice, TakeBy, GiveBy, PickBy, PostBy, ClientBy, choice_of, log, in_instant, is_open, orders_to, waiting_after, jobs_sent, jobs_after, jobs, left_after, left_of, unsent_after, unsent, has_turn, entry_of_first, pick_of, entry_of, with_entry, waiting, replayed, sent_last, hist_on, hist, HasEnded}
+use Rattle.loft_sense.specs.History.{Choice, TakeBy, GiveBy, PickBy, PostBy, ClientBy, choice_of, log, is_open, jobs, left_of, unsent_step, unsent_after, unsent, has_turn, entry_of_first, pick_of, entry_of, with_entry, waiting, replayed, sent_last, hist_on, hist, HasEnded}
 
 -- a scheduler is itself
 pub same_self : (s : SchedId) → same_scheduler s s ≡ true
@@ -139,23 +139,22 @@ allowed_none true next is e = e
 allowed_none false next is e = absurd cc
 
 -- a client that the source doesn't declare has nothing to give
-unsent_after-none : (c : ℕ) (es : List Entry) → unsent_after c [] es ≡ []
-unsent_after-none c [] = refl
-unsent_after-none c (Take s batch ∷ es) = unsent_after-none c es
-unsent_after-none c (Give s sent ∷ es) = unsent_after-none c es
-unsent_after-none c (Pick w job ∷ es) = unsent_after-none c es
-unsent_after-none c (Post w sent ∷ es) = unsent_after-none c es
-unsent_after-none c (Client d sent ∷ es) = ap (λ (left : List Sent). unsent_after c left es) (still_none (c == d) [] refl) ∙ unsent_after-none c es
+unsent_stays : (c : ℕ) (e : Entry) → unsent_step c [] e ≡ []
+unsent_stays c (Take s batch) = refl
+unsent_stays c (Give s sent) = refl
+unsent_stays c (Pick w job) = refl
+unsent_stays c (Post w sent) = refl
+unsent_stays c (Client d sent) = still_none (c == d)
   where
-    still_none : (own : Bool) (left : List Sent) → left ≡ [] → (if own then drop 1 left else left) ≡ []
-    still_none true left e = ap (λ (l : List Sent). drop 1 l) e
-    still_none false left e = e
+    still_none : (own : Bool) → (if own then drop {A = Sent} 1 [] else []) ≡ []
+    still_none true = refl
+    still_none false = refl
 
 outside_none : (h : Heads) (c : ℕ) → length h.clients ≤ c → outside_of h c ≡ []
 outside_none h c beyond = ap (λ (d : Option ClientHead). orders_from h c 0 (orders_or_none d)) (slice_get_past h.clients c beyond)
 
 pub unsent_none : (h : Heads) (c : ℕ) (es : List Entry) → length h.clients ≤ c → unsent h c es ≡ []
-unsent_none h c es beyond = ap (λ (left : List Sent). unsent_after c left es) (outside_none h c beyond) ∙ unsent_after-none c es
+unsent_none h c es beyond = ap (λ (left : List Sent). unsent_after c left es) (outside_none h c beyond) ∙ fold_stays (unsent_step c) [] (unsent_stays c) es
 
 all_unsent : (h : Heads) (c : ℕ) (es : List Entry) (declared : Bool) → nat_lt c (length h.clients) ≡ declared → (c < length h.clients → unsent h c es ≡ []) → unsent h c es ≡ []
 all_unsent h c es true e given = given (ltb-true c (length h.clients) e)
@@ -201,46 +200,6 @@ log-append s (Give q sent ∷ xs) ys = log-append s xs ys
 log-append s (Pick w job ∷ xs) ys = log-append s xs ys
 log-append s (Post w sent ∷ xs) ys = log-append s xs ys
 log-append s (Client c sent ∷ xs) ys = log-append s xs ys
-
-pub waiting_after-append : (s : SchedId) (before : List Order) (xs ys : List Entry) → waiting_after s before (xs ++ ys) ≡ waiting_after s (waiting_after s before xs) ys
-waiting_after-append s before [] ys = refl
-waiting_after-append s before (Take q batch ∷ xs) ys = waiting_after-append s (if same_scheduler s q then [] else before) xs ys
-waiting_after-append s before (Give q sent ∷ xs) ys = waiting_after-append s (before ++ orders_to s sent) xs ys
-waiting_after-append s before (Pick w job ∷ xs) ys = waiting_after-append s before xs ys
-waiting_after-append s before (Post w sent ∷ xs) ys = waiting_after-append s (before ++ orders_to s (sent ∷ [])) xs ys
-waiting_after-append s before (Client c sent ∷ xs) ys = waiting_after-append s (before ++ orders_to s (sent ∷ [])) xs ys
-
-pub in_instant-append : (s : SchedId) (xs ys : List Entry) (was : Bool) → in_instant s was (xs ++ ys) ≡ in_instant s (in_instant s was xs) ys
-in_instant-append s [] ys was = refl
-in_instant-append s (Take q batch ∷ xs) ys was = in_instant-append s xs ys (same_scheduler s q || was)
-in_instant-append s (Give q sent ∷ xs) ys was = in_instant-append s xs ys (not (same_scheduler s q) && was)
-in_instant-append s (Pick w job ∷ xs) ys was = in_instant-append s xs ys was
-in_instant-append s (Post w sent ∷ xs) ys was = in_instant-append s xs ys was
-in_instant-append s (Client c sent ∷ xs) ys was = in_instant-append s xs ys was
-
-pub jobs_after-append : (xs ys : List Entry) (before : List Thread) → jobs_after before (xs ++ ys) ≡ jobs_after (jobs_after before xs) ys
-jobs_after-append [] ys before = refl
-jobs_after-append (Take q batch ∷ xs) ys before = jobs_after-append xs ys before
-jobs_after-append (Give q sent ∷ xs) ys before = jobs_after-append xs ys (before ++ jobs_sent sent)
-jobs_after-append (Pick w job ∷ xs) ys before = jobs_after-append xs ys (drop 1 before)
-jobs_after-append (Post w sent ∷ xs) ys before = jobs_after-append xs ys (before ++ jobs_sent (sent ∷ []))
-jobs_after-append (Client c sent ∷ xs) ys before = jobs_after-append xs ys (before ++ jobs_sent (sent ∷ []))
-
-pub left_after-append : (x : Prog) (o : RunOptions) (w : ℕ) (xs ys : List Entry) (left : List Sent) → left_after x o w left (xs ++ ys) ≡ left_after x o w (left_after x o w left xs) ys
-left_after-append x o w [] ys left = refl
-left_after-append x o w (Take q batch ∷ xs) ys left = left_after-append x o w xs ys left
-left_after-append x o w (Give q sent ∷ xs) ys left = left_after-append x o w xs ys left
-left_after-append x o w (Pick v job ∷ xs) ys left = left_after-append x o w xs ys (if w == v then async x job o.limits.block else left)
-left_after-append x o w (Post v sent ∷ xs) ys left = left_after-append x o w xs ys (if w == v then drop 1 left else left)
-left_after-append x o w (Client c sent ∷ xs) ys left = left_after-append x o w xs ys left
-
-pub unsent_after-append : (c : ℕ) (xs ys : List Entry) (left : List Sent) → unsent_after c left (xs ++ ys) ≡ unsent_after c (unsent_after c left xs) ys
-unsent_after-append c [] ys left = refl
-unsent_after-append c (Take q batch ∷ xs) ys left = unsent_after-append c xs ys left
-unsent_after-append c (Give q sent ∷ xs) ys left = unsent_after-append c xs ys left
-unsent_after-append c (Pick v job ∷ xs) ys left = unsent_after-append c xs ys left
-unsent_after-append c (Post v sent ∷ xs) ys left = unsent_after-append c xs ys left
-unsent_after-append c (Client d sent ∷ xs) ys left = unsent_after-append c xs ys (if c == d then drop 1 left else left)
 
 -- ---- further batches and notes
 

@@ -1,10 +1,14 @@
 pub mod StepLemmas
+pub mod MomentLemmas
 pub mod AroundLemmas
 pub mod PassLemmas
 pub mod RunnerLemmas
 pub mod EventLemmas
 pub mod CodeLemmas
+pub mod OriginLemmas
 pub mod HistoryLemmas
+pub mod CloseLemmas
+pub mod OwnLemmas
+pub mod GrowthLemmas
 pub mod LegalLemmas
 pub mod LegalEntries
-pub mod OwnLemmas

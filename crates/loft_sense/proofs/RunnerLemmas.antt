@@ -1,5 +1,5 @@
 -- What the passes keep of each thread.
-use Rattle.std.proofs.Common.{◌≡◌, ℕ, zero, suc, ◌+◌, ◌≤◌, Bool, true, false, List, [], ◌∷◌, ◌++◌, reverse, map, refl, sym, ◌∙◌, ap, subst, arith, append_assoc}
+use Rattle.std.proofs.Common.{◌≡◌, ℕ, ◌+◌, ◌≤◌, Bool, true, false, List, [], ◌∷◌, ◌++◌, reverse, map, refl, sym, ◌∙◌, ap, subst, arith, append_assoc}
 use Rattle.std.specs.Prelude.{if◌then◌else◌, ◌||◌, All}
 use Rattle.std.specs.List.{AllByRecursion}
 use Rattle.std.proofs.lemmas.List.{reverse-append}
@@ -17,13 +17,15 @@ use Rattle.loft_sense.specs.Around.{Around, Beside}
 use Rattle.loft_sense.specs.Run.{Active, Outcome, Held, Left, Ended, ends, no_step, go, here, beside, active_of}
 use Rattle.loft_sense.specs.Tree.{tree}
 use Rattle.loft_sense.specs.Code.{code}
-use Rattle.loft_sense.specs.Passes.{Runner, Walk, is_ready, run_of, runners_after, around_after, walked, pass, passes_within, steps_left, passes}
+use Rattle.loft_sense.specs.Passes.{Runner, Walk, is_ready, run_of, runners_after, around_after, walked, pass, passes_within, passes}
+use Rattle.loft_sense.specs.Moments.{Moment, IsKeptByRuns}
 use Rattle.loft_sense.specs.Apply.{apply}
 use Rattle.loft_sense.specs.Instant.{runner_of, around_of, has_run}
 use Rattle.loft_sense.specs.Runs.{instant_walk}
 use Rattle.loft_sense.specs.Codes.{IsPending}
 use Rattle.loft_sense.proofs.StepLemmas.{IsBelow, run_takes_step}
 use Rattle.loft_sense.proofs.AroundLemmas.{OutcomeIs, run_is}
+use Rattle.loft_sense.proofs.MomentLemmas.{kept_within, kept_by_passes}
 
 -- ---- what each run keeps, all passes keep
 
@@ -35,30 +37,26 @@ both Q (r ∷ rs) rest p q = (p.0, both Q rs rest p.1 q)
 abbrev pub IsKept : Prog → (Runner → Type 0) → Type 0
 IsKept x Q = (r : Runner) (around : Around) → Q r → AllByRecursion Q (runners_after r (run_of x r.thread around r.left))
 
-pass_one : (x : Prog) (Q : Runner → Type 0) (r : Runner) (rs : List Runner) (around : Around) (goes : Bool) (o : Outcome) → Q r → AllByRecursion Q (runners_after r o)
-    → ((a : Around) → AllByRecursion Q (pass x rs a).runners)
-    → AllByRecursion Q (if goes then walked (runners_after r o) true (pass x rs (around_after o)) else walked (r ∷ []) false (pass x rs around)).runners
-pass_one x Q r rs around true o p kept h = both Q (runners_after r o) _ kept (h (around_after o))
-pass_one x Q r rs around false o p kept h = (p, h around)
+-- of the threads in front, of one, and of the rest
+parted : (Q : Runner → Type 0) (front : List Runner) (r : Runner) (rest : List Runner) → AllByRecursion Q (front ++ r ∷ rest) → AllByRecursion Q front × (Q r × AllByRecursion Q rest)
+parted Q [] r rest p = (tt, p)
+parted Q (f ∷ fs) r rest p = let q = parted Q fs r rest p.1 in ((p.0, q.0), q.1)
 
-pass_keeps : (x : Prog) (Q : Runner → Type 0) → IsKept x Q → (rs : List Runner) → AllByRecursion Q rs → (around : Around) → AllByRecursion Q (pass x rs around).runners
-pass_keeps x Q h [] p around = tt
-pass_keeps x Q h (r ∷ rs) p around = pass_one x Q r rs around (is_ready r around) (run_of x r.thread around r.left) p.0 (h r around p.0) (pass_keeps x Q h rs p.1)
+-- this holds of each thread
+abbrev OfEach : (Runner → Type 0) → Moment → Type 0
+OfEach Q m = AllByRecursion Q m.runners
 
-walk_chosen : (Q : Runner → Type 0) (ran : Bool) (v w : Walk) → AllByRecursion Q v.runners → AllByRecursion Q w.runners → AllByRecursion Q (if ran then v else w).runners
-walk_chosen Q true v w p q = p
-walk_chosen Q false v w p q = q
+each_kept : (x : Prog) (Q : Runner → Type 0) → IsKept x Q → IsKeptByRuns x (OfEach Q)
+each_kept x Q h front r rest around ready p =
+    let q = parted Q front r rest p in
+    let after = runners_after r (run_of x r.thread around r.left) in
+    both Q front (after ++ rest) q.0 (both Q after rest (h r around q.1.0) q.1.1)
 
 pub within_keeps : (x : Prog) (Q : Runner → Type 0) → IsKept x Q → (n : ℕ) (rs : List Runner) → AllByRecursion Q rs → (around : Around) → AllByRecursion Q (passes_within n x rs around).runners
-within_keeps x Q h zero rs p around = pass_keeps x Q h rs p around
-within_keeps x Q h (suc n) rs p around =
-    let w = pass x rs around in
-    let q = pass_keeps x Q h rs p around in
-    walk_chosen Q w.ran (passes_within n x w.runners w.around) w (within_keeps x Q h n w.runners q w.around) q
+within_keeps x Q h n rs p around = kept_within x (OfEach Q) (each_kept x Q h) n rs around p
 
-passes_keep : (x : Prog) (Q : Runner → Type 0) → IsKept x Q → (rs : List Runner) → AllByRecursion Q rs → (around : Around) → AllByRecursion Q (passes x rs around).runners
-unfolding passes
-passes_keep x Q h rs p around = within_keeps x Q h (steps_left rs) rs p around
+pub passes_keep : (x : Prog) (Q : Runner → Type 0) → IsKept x Q → (rs : List Runner) → AllByRecursion Q rs → (around : Around) → AllByRecursion Q (passes x rs around).runners
+passes_keep x Q h rs p around = kept_by_passes x (OfEach Q) (each_kept x Q h) rs around p
 
 begin_all : (Q : Runner → Type 0) (budget : ℕ) → ((s : Standing) → Q (runner_of budget s)) → (ss : List Standing) → AllByRecursion Q (map (runner_of budget) ss)
 begin_all Q budget h [] = tt
@@ -138,7 +136,7 @@ over_only_without_steps x t around n at after left e = (subst (OutcomeIs around)
 pub held_pending : (x : Prog) (t : Thread) (around : Around) (n : ℕ) (u : Thread) (after : Around) (left : ℕ) → run_of x t around n ≡ Held u after left → IsPending u.wait
 held_pending x t around n u after left e = (subst (OutcomeIs around) e (run_is x t around n)).1
 
-new_pending : (t : Thread) → t.wait ≡ New → IsPending t.wait
+pub new_pending : (t : Thread) → t.wait ≡ New → IsPending t.wait
 new_pending t e = subst IsPending (sym e) (record { unmarked = λ f. cc; instants = λ n g. absurd cc })
 
 -- the wait of a thread that ran began in this instant

@@ -15,6 +15,10 @@ use Rattle.loft_tree.specs.declared.heads.Signature.{Signature}
 use Rattle.loft_tree.specs.declared.heads.SlotHead.{SlotHead}
 use Rattle.loft_tree.specs.declared.heads.Heads.{Heads}
 
+-- the scheduler of this index
+abbrev pub scheduler : ℕ → SchedId
+scheduler k = record { 0 = k }
+
 abbrev pub same_scheduler : SchedId → SchedId → Bool
 same_scheduler a b = a.0 == b.0
 

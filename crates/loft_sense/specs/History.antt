@@ -1,11 +1,12 @@
 -- Histories: the entries of all actors, in the order in which they were made (docs/SEMANTICS.md, "History").
 use Rattle.std.specs.Prelude.{◌≡◌, ℕ, ◌+◌, ◌<◌, nat_lt, ◌==◌, Bool, true, false, ◌||◌, ◌&&◌, not, List, [], ◌∷◌, ◌++◌, length, drop, Option, Some, None, Result, Ok, Err, if◌then◌else◌, IsTrue}
+use Rattle.std.specs.List.{fold, flat_map}
 use Rattle.loft_base.specs.declared.ids.SchedId.{SchedId}
 use Rattle.loft_base.specs.declared.ids.Maker.TheVariants.{Source}
 use Rattle.loft_tree.specs.declared.heads.Start.{Start}
 use Rattle.loft_tree.specs.declared.heads.Heads.{Heads}
 use Rattle.loft_sense.specs.declared.order.Order.{Order}
-use Rattle.loft_sense.specs.declared.order.Order.TheVariants.{Create, Arrive, Stop, Suspend, Resume, Broadcast, Ended}
+use Rattle.loft_sense.specs.declared.order.Order.TheVariants.{Create, Arrive, Ended}
 use Rattle.loft_sense.specs.declared.thread.Thread.{Thread}
 use Rattle.loft_sense.specs.declared.order.To.{To}
 use Rattle.loft_sense.specs.declared.order.To.TheVariants.{Sched, Others, All, Workers}
@@ -37,23 +38,36 @@ choice_of (Pick w job) = PickBy w
 choice_of (Post w sent) = PostBy w
 choice_of (Client c sent) = ClientBy c
 
+-- what an entry sends: a Take and a Pick send nothing
+abbrev pub sends : Entry → List Sent
+sends (Give s sent) = sent
+sends (Post w sent) = sent ∷ []
+sends (Client c sent) = sent ∷ []
+sends e = []
+
+-- all that entries send, in order
+abbrev pub sent_in : List Entry → List Sent
+sent_in es = flat_map sends es
+
+-- ---- what entries leave
+
 -- the batches that a scheduler took, in order
 abbrev pub log : SchedId → List Entry → List (List Order)
 log s [] = []
 log s (Take q batch ∷ es) = if same_scheduler s q then batch ∷ log s es else log s es
-log s (Give q sent ∷ es) = log s es
-log s (Pick w job ∷ es) = log s es
-log s (Post w sent ∷ es) = log s es
-log s (Client c sent ∷ es) = log s es
+log s (e ∷ es) = log s es
+
+-- What follows folds the entries: a step says what one entry leaves of what was there before it.
+
+-- a scheduler's Take begins its instant, and its Give ends it
+abbrev pub instant_step : SchedId → Bool → Entry → Bool
+instant_step s was (Take q batch) = same_scheduler s q || was
+instant_step s was (Give q sent) = not (same_scheduler s q) && was
+instant_step s was e = was
 
 -- whether a scheduler is in an instant after these entries, where it was or wasn't before them
 abbrev pub in_instant : SchedId → Bool → List Entry → Bool
-in_instant s was [] = was
-in_instant s was (Take q batch ∷ es) = in_instant s (same_scheduler s q || was) es
-in_instant s was (Give q sent ∷ es) = in_instant s (not (same_scheduler s q) && was) es
-in_instant s was (Pick w job ∷ es) = in_instant s was es
-in_instant s was (Post w sent ∷ es) = in_instant s was es
-in_instant s was (Client c sent ∷ es) = in_instant s was es
+in_instant s was es = fold (instant_step s) was es
 
 -- the scheduler's last entry is a Take
 abbrev pub is_open : SchedId → List Entry → Bool
@@ -81,14 +95,15 @@ starts_from s k (t ∷ ts) =
 abbrev pub starts_of : Heads → SchedId → List Order
 starts_of h s = starts_from s 0 h.starts
 
--- what waits for a scheduler after these entries, where this waited before them: its Take leaves nothing, every other entry adds what it sends
+-- a scheduler's Take leaves nothing that waits for it, every other entry adds what it sends
+abbrev pub waiting_step : SchedId → List Order → Entry → List Order
+waiting_step s before (Take q batch) = if same_scheduler s q then [] else before
+waiting_step s before (Pick w job) = before
+waiting_step s before e = before ++ orders_to s (sends e)
+
+-- what waits for a scheduler after these entries, where this waited before them
 abbrev pub waiting_after : SchedId → List Order → List Entry → List Order
-waiting_after s before [] = before
-waiting_after s before (Take q batch ∷ es) = waiting_after s (if same_scheduler s q then [] else before) es
-waiting_after s before (Give q sent ∷ es) = waiting_after s (before ++ orders_to s sent) es
-waiting_after s before (Pick w job ∷ es) = waiting_after s before es
-waiting_after s before (Post w sent ∷ es) = waiting_after s (before ++ orders_to s (sent ∷ [])) es
-waiting_after s before (Client c sent ∷ es) = waiting_after s (before ++ orders_to s (sent ∷ [])) es
+waiting_after s before es = fold (waiting_step s) before es
 
 -- what waits for a scheduler: at first the starts of the source
 abbrev pub waiting : Heads → SchedId → List Entry → List Order
@@ -106,14 +121,15 @@ abbrev pub jobs_sent : List Sent → List Thread
 jobs_sent [] = []
 jobs_sent (m ∷ ms) = job_before m.to m.order (jobs_sent ms)
 
--- the threads that wait for a worker after these entries, where these waited before them: a Pick takes the first, every other entry adds what it sends
+-- a Pick takes the first thread that waits for a worker, every other entry adds what it sends
+abbrev pub jobs_step : List Thread → Entry → List Thread
+jobs_step before (Take s batch) = before
+jobs_step before (Pick w job) = drop 1 before
+jobs_step before e = before ++ jobs_sent (sends e)
+
+-- the threads that wait for a worker after these entries, where these waited before them
 abbrev pub jobs_after : List Thread → List Entry → List Thread
-jobs_after before [] = before
-jobs_after before (Take s batch ∷ es) = jobs_after before es
-jobs_after before (Give s sent ∷ es) = jobs_after (before ++ jobs_sent sent) es
-jobs_after before (Pick w job ∷ es) = jobs_after (drop 1 before) es
-jobs_after before (Post w sent ∷ es) = jobs_after (before ++ jobs_sent (sent ∷ [])) es
-jobs_after before (Client c sent ∷ es) = jobs_after (before ++ jobs_sent (sent ∷ [])) es
+jobs_after before es = fold jobs_step before es
 
 -- the threads that wait for a worker, the one that has waited longest first
 abbrev pub jobs : List Entry → List Thread
@@ -121,48 +137,46 @@ jobs es = jobs_after [] es
 
 -- the last order of an unlinked block: its thread is linked again, or has ended
 abbrev pub ends_block : Order → Bool
-ends_block (Create t m arguments) = false
 ends_block (Arrive t) = true
-ends_block (Stop t) = false
-ends_block (Suspend t) = false
-ends_block (Resume t) = false
-ends_block (Broadcast event value) = false
 ends_block (Ended t end) = true
+ends_block order = false
+
+-- a worker's Pick takes a job in hand, and its Post of the job's last order lays it down
+abbrev pub busy_step : ℕ → Bool → Entry → Bool
+busy_step w had (Pick v job) = w == v || had
+busy_step w had (Post v sent) = if w == v then not (ends_block sent.order) else had
+busy_step w had e = had
 
 -- whether a worker has a job in hand after these entries, where it had one or not before them
 abbrev pub in_hand : ℕ → Bool → List Entry → Bool
-in_hand w had [] = had
-in_hand w had (Take s batch ∷ es) = in_hand w had es
-in_hand w had (Give s sent ∷ es) = in_hand w had es
-in_hand w had (Pick v job ∷ es) = in_hand w (w == v || had) es
-in_hand w had (Post v sent ∷ es) = in_hand w (if w == v then not (ends_block sent.order) else had) es
-in_hand w had (Client c sent ∷ es) = in_hand w had es
+in_hand w had es = fold (busy_step w) had es
 
 -- the worker's last entry is a Pick, or a Post that isn't the last of its job
 abbrev pub is_busy : ℕ → List Entry → Bool
 is_busy w h = in_hand w false h
 
--- what a worker has still to post after these entries, where this was left before them: its Pick leaves all that the job sends, its Post all but the first
+-- a worker's Pick leaves all that the job sends, its Post all but the first
+abbrev pub left_step : Prog → RunOptions → ℕ → List Sent → Entry → List Sent
+left_step x o w left (Pick v job) = if w == v then async x job o.limits.block else left
+left_step x o w left (Post v sent) = if w == v then drop 1 left else left
+left_step x o w left e = left
+
+-- what a worker has still to post after these entries, where this was left before them
 abbrev pub left_after : Prog → RunOptions → ℕ → List Sent → List Entry → List Sent
-left_after x o w left [] = left
-left_after x o w left (Take s batch ∷ es) = left_after x o w left es
-left_after x o w left (Give s sent ∷ es) = left_after x o w left es
-left_after x o w left (Pick v job ∷ es) = left_after x o w (if w == v then async x job o.limits.block else left) es
-left_after x o w left (Post v sent ∷ es) = left_after x o w (if w == v then drop 1 left else left) es
-left_after x o w left (Client c sent ∷ es) = left_after x o w left es
+left_after x o w left es = fold (left_step x o w) left es
 
 -- what a worker's job in hand has still to post
 abbrev pub left_of : Prog → RunOptions → ℕ → List Entry → List Sent
 left_of x o w h = left_after x o w [] h
 
+-- a client's order is the first of what it has still to give
+abbrev pub unsent_step : ℕ → List Sent → Entry → List Sent
+unsent_step c left (Client d sent) = if c == d then drop 1 left else left
+unsent_step c left e = left
+
 -- what a client has still to give after these entries, where this was left before them
 abbrev pub unsent_after : ℕ → List Sent → List Entry → List Sent
-unsent_after c left [] = left
-unsent_after c left (Take s batch ∷ es) = unsent_after c left es
-unsent_after c left (Give s sent ∷ es) = unsent_after c left es
-unsent_after c left (Pick w job ∷ es) = unsent_after c left es
-unsent_after c left (Post w sent ∷ es) = unsent_after c left es
-unsent_after c left (Client d sent ∷ es) = unsent_after c (if c == d then drop 1 left else left) es
+unsent_after c left es = fold (unsent_step c) left es
 
 -- what a client of the source has still to give: all but as many as it has given
 abbrev pub unsent : Heads → ℕ → List Entry → List Sent
@@ -170,21 +184,16 @@ unsent h c es = unsent_after c (outside_of h c) es
 
 abbrev pub is_create : Order → Bool
 is_create (Create t m arguments) = true
-is_create (Arrive t) = false
-is_create (Stop t) = false
-is_create (Suspend t) = false
-is_create (Resume t) = false
-is_create (Broadcast event value) = false
-is_create (Ended t end) = false
+is_create order = false
+
+-- a client's create is one more
+abbrev pub creates_step : ℕ → ℕ → Entry → ℕ
+creates_step c before (Client d sent) = if c == d && is_create sent.order then before + 1 else before
+creates_step c before e = before
 
 -- how many creates a client has given after these entries, where it had given so many before them
 abbrev pub creates_after : ℕ → ℕ → List Entry → ℕ
-creates_after c before [] = before
-creates_after c before (Take s batch ∷ es) = creates_after c before es
-creates_after c before (Give s sent ∷ es) = creates_after c before es
-creates_after c before (Pick w job ∷ es) = creates_after c before es
-creates_after c before (Post w sent ∷ es) = creates_after c before es
-creates_after c before (Client d sent ∷ es) = creates_after c (if c == d && is_create sent.order then before + 1 else before) es
+creates_after c before es = fold (creates_step c) before es
 
 abbrev pub creates : ℕ → List Entry → ℕ
 creates c es = creates_after c 0 es

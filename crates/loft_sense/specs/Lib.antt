@@ -12,10 +12,12 @@ pub mod Tree
 pub mod Code
 pub mod Stands
 pub mod Passes
+pub mod Moments
 pub mod Apply
 pub mod Instant
 pub mod Runs
 pub mod Codes
+pub mod CodeOrigins
 pub mod Async
 pub mod Rest
 pub mod Fits

@@ -1,7 +1,8 @@
 -- Words of the laws of runs, passes and instants (docs/SEMANTICS.md, "Run" and "Passes").
-use Rattle.std.specs.Prelude.{◌≡◌, ℤ, Bool, true, false, IsTrue, List, [], ◌++◌, map}
+use Rattle.std.specs.Prelude.{◌≡◌, ℤ, Bool, true, false, IsTrue, List, [], ◌∷◌, ◌++◌, Option, map}
 use Rattle.loft_base.specs.declared.ids.EventId.{EventId}
-use Rattle.loft_board.specs.Board.{Board, has, values as event_values}
+use Rattle.loft_base.specs.declared.ids.ThreadId.{ThreadId}
+use Rattle.loft_board.specs.Board.{Board, has, values as event_values, generate_all}
 use Rattle.loft_sense.specs.declared.thread.Wait.{Wait}
 use Rattle.loft_sense.specs.declared.thread.Wait.TheVariants as wait
 use Rattle.loft_sense.specs.declared.note.Act.{Act}
@@ -9,6 +10,7 @@ use Rattle.loft_sense.specs.declared.note.Act.TheVariants.{Print, Gen, Out, End}
 use Rattle.loft_sense.specs.declared.limits.Limits.{Limits}
 use Rattle.loft_sense.specs.declared.order.Order.{Order}
 use Rattle.loft_sense.specs.Machine.{Prog, Mach}
+use Rattle.loft_sense.specs.Around.{Around}
 use Rattle.loft_sense.specs.Passes.{Walk, passes}
 use Rattle.loft_sense.specs.Apply.{apply}
 use Rattle.loft_sense.specs.Instant.{runner_of, around_of}
@@ -19,6 +21,26 @@ is_entry (Print t line) = true
 is_entry (Gen t event value) = true
 is_entry (Out t sent) = true
 is_entry (End t end) = false
+
+-- the events that acts generated, each with its value where there is one
+abbrev pub generated_in : List Act → List (EventId × Option ℤ)
+generated_in [] = []
+generated_in (Gen t event value ∷ acts) = (event, value) ∷ generated_in acts
+generated_in (act ∷ acts) = generated_in acts
+
+-- the threads whose ends are among acts
+abbrev pub ended_in : List Act → List ThreadId
+ended_in [] = []
+ended_in (End t end ∷ acts) = t ∷ ended_in acts
+ended_in (act ∷ acts) = ended_in acts
+
+-- What was done after a tells of b: the acts of b are those of a and more, its board is that of a with the events that these
+-- generated, and the threads known in it are those of a and those whose ends are among these.
+pub record Tells (a b : Around) : Type 0 where
+  pub more : List Act
+  pub acts : b.acts ≡ a.acts ++ more
+  pub board : b.board ≡ generate_all (generated_in more) a.board
+  pub known : b.known ≡ a.known ++ ended_in more
 
 -- each event of a board is present on a later one too, with its values as the first ones
 pub record KeepsEvents (board later : Board) : Type 0 where

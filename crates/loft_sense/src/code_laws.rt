@@ -4,24 +4,29 @@ ghost use Rattle.std.specs.Prelude.{◌≡◌, ◌⊎◌, ℕ, true, false, if�
 ghost use Rattle.std.specs.Prelude.{ℤ, pos, ◌-ℤ◌, ◌≤ℤ◌, int_lt, List, Option, Some, All};
 ghost use Rattle.std.specs.Option.{option_map};
 ghost use Rattle.loft_base.specs.declared.ids.EventId.{EventId};
+ghost use Rattle.loft_base.specs.declared.ids.SchedId.{SchedId};
 ghost use Rattle.loft_base.specs.declared.ids.Value.{Value};
 ghost use Rattle.loft_tree.specs.declared.heads.Heads.{Heads};
 ghost use Rattle.loft_tree.specs.Resolved.{Action, Pause};
 ghost use Rattle.loft_sense.specs.declared.limits.Limits.{Limits};
 ghost use Rattle.loft_sense.specs.declared.order.At.{At};
 ghost use Rattle.loft_sense.specs.declared.order.Order.{Order};
+ghost use Rattle.loft_sense.specs.declared.order.To.{To};
 ghost use Rattle.loft_sense.specs.declared.thread.Thread.{Thread};
 ghost use Rattle.loft_sense.specs.declared.thread.Wait.{Wait};
 ghost use Rattle.loft_sense.specs.declared.thread.Wait.TheVariants.{Index, Next};
 ghost use Rattle.loft_sense.specs.Machine.{Prog, Mach};
 ghost use Rattle.loft_sense.specs.Around.{Around, Beside};
 ghost use Rattle.loft_sense.specs.Statements.{GoesOn, Now, ok, timeout, next, did, begun, answered};
-ghost use Rattle.loft_sense.specs.Run.{Held};
+ghost use Rattle.loft_sense.specs.Run.{Held, Left};
 ghost use Rattle.loft_sense.specs.Passes.{Runner, run_of, passes_within};
-ghost use Rattle.loft_sense.specs.Instant.{closed_wait, has_run, lowered};
+ghost use Rattle.loft_sense.specs.Apply.{apply};
+ghost use Rattle.loft_sense.specs.Instant.{closed_wait, has_run, lowered, replay};
+ghost use Rattle.loft_sense.specs.Fits.{Fits};
 ghost use Rattle.loft_sense.specs.Runs.{instant_walk};
 ghost use Rattle.loft_sense.specs.Codes.{IsPending, left_of, limit_number};
 ghost use Rattle.loft_sense.specs.Codes.{stop_sets_code, wait_sets_code};
+ghost use Rattle.loft_sense.specs.CodeOrigins.{CodeComesFrom, ArrivesNew, IsSetByClose};
 
 /// A stop that goes on as it begins sets the code to OK, or to TIMEOUT where it has a limit of at
 /// most 0, and never to NEXT. A stop that is no wait for events, a value or a thread leaves the
@@ -70,6 +75,36 @@ pub fn waits_are_pending_until_the_close()
     ensures ran { (x : Prog) (limits : Limits) (m : Mach) (batch : List Order)
         → All (λ r. has_run r ≡ true → IsPending r.thread.wait)
         (instant_walk x limits m batch).runners }
+{}
+
+/// A run leaves the code of its thread, or sets it to OK, to TIMEOUT where no instant was left of its
+/// wait or where, as it runs, it begins a stop whose limit is at most 0, or to NEXT where its wait was
+/// marked (`CodeComesFrom`): where a stop holds the thread (`held`), and where it leaves (`left`).
+pub fn codes_come_from_waits_and_limits()
+    ensures held { (x : Prog) (t : Thread) (around : Around) (n : ℕ)
+        → (u : Thread) (after : Around) (left : ℕ)
+        → run_of x t around n ≡ Held u after left → CodeComesFrom x t around u.code }
+    ensures left { (x : Prog) (t : Thread) (around : Around) (n : ℕ)
+        → (u : Thread) (to : To) (after : Around) (left : ℕ)
+        → run_of x t around n ≡ Left u to after left → CodeComesFrom x t around u.code }
+{}
+
+/// A mark (`marked`), or a number 0 (`ran_out`), that a thread's wait has as an instant begins was set
+/// by the close of an earlier instant, and was pending before it. Threads arrive with new waits, as
+/// `Fits` says.
+pub fn earlier_closes_set_marks_and_zeros()
+    ensures marked { (x : Prog) (limits : Limits) (s : SchedId)
+        → (batches : List (List Order)) (batch : List Order)
+        → All (All ArrivesNew) batches → All ArrivesNew batch
+        → All (λ q. q.thread.wait ≡ Next → IsSetByClose x limits s batches q.thread)
+        (apply x (replay x limits s batches).machine batch).linked }
+    ensures ran_out { (x : Prog) (limits : Limits) (s : SchedId)
+        → (batches : List (List Order)) (batch : List Order)
+        → All (All ArrivesNew) batches → All ArrivesNew batch
+        → All (λ q. left_of q.thread.wait ≡ Some (pos 0)
+        → IsSetByClose x limits s batches q.thread)
+        (apply x (replay x limits s batches).machine batch).linked }
+    ensures fits { (x : Prog) (s : SchedId) (o : Order) → Fits x s o → ArrivesNew o }
 {}
 
 /// The close marks no wait but one for a value, and lowers the number left in a wait by one where

@@ -1,8 +1,10 @@
 //! Laws of instants and of histories. Each is what the contract of an empty function says.
 
-ghost use Rattle.std.specs.Prelude.{◌≡◌, ◌<◌, ◌↔◌, ℕ, false, List, map, length, drop, All, None, Ok};
+ghost use Rattle.std.specs.Prelude.{◌≡◌, ◌<◌, ◌↔◌, ℕ, false, IsTrue, List, [], ◌∷◌, ◌++◌};
+ghost use Rattle.std.specs.Prelude.{map, length, drop, All, None, Ok};
 ghost use Rattle.loft_base.specs.declared.ids.SchedId.{SchedId};
 ghost use Rattle.loft_tree.specs.declared.heads.Heads.{Heads};
+ghost use Rattle.loft_sense.specs.declared.entry.Actor.{Actor};
 ghost use Rattle.loft_sense.specs.declared.entry.Actor.TheVariants.{Sched, Worker, Client};
 ghost use Rattle.loft_sense.specs.declared.entry.Entry.{Entry};
 ghost use Rattle.loft_sense.specs.declared.limits.RunOptions.{RunOptions};
@@ -12,7 +14,8 @@ ghost use Rattle.loft_sense.specs.Passes.{Runner, is_ready, pass, passes};
 ghost use Rattle.loft_sense.specs.History.{log, is_open, left_of, is_busy, creates, unsent};
 ghost use Rattle.loft_sense.specs.History.{Choice, choice_of, entry_of, hist, HasEnded};
 ghost use Rattle.loft_sense.specs.Clients.{outside_of};
-ghost use Rattle.loft_sense.specs.Legal.{of, AtEach, IsLegal, HasNoCallers, ComesNext};
+ghost use Rattle.loft_sense.specs.Legal.{actor_of, same_actor, of, AtEach, IsFaithful, IsNextOf};
+ghost use Rattle.loft_sense.specs.Legal.{IsLegal, HasNoCallers, ComesNext};
 
 /// The history that choices make is legal, no caller has an entry in it, and its choices are these:
 /// where every choice is allowed, each batch and each job is what waited, each scheduler takes and
@@ -50,6 +53,19 @@ pub fn own_entries_tell()
         (creates c own ≡ creates c es) × (unsent h c own ≡ unsent h c es) }
     ensures given { (h : Heads) (c : ℕ) (es : List Entry)
         → unsent h c es ≡ drop (length (of (Client c) es)) (outside_of h c) }
+{}
+
+/// An actor's own list grows by one entry exactly where this is its next: it was as it has to be
+/// before, and stays so (`grows`). Which entry is the next of an actor is told by the whole history,
+/// of whomever its other entries are (`in_history`). So a list that grows by next entries, from none
+/// (`begins`), is as it has to be: of a scheduler, a worker, a client of the source, or a caller.
+pub fn own_lists_grow()
+    ensures begins { (x : Prog) (o : RunOptions) (a : Actor) → IsFaithful x o a [] }
+    ensures grows { (x : Prog) (o : RunOptions) (a : Actor) (own : List Entry) (e : Entry)
+        → All (λ d. IsTrue (same_actor a (actor_of d))) own
+        → IsFaithful x o a (own ++ e ∷ []) ↔ IsFaithful x o a own × IsNextOf x o a own e }
+    ensures in_history { (x : Prog) (o : RunOptions) (a : Actor) (h : List Entry) (e : Entry)
+        → IsFaithful x o a (of a h ++ e ∷ []) ↔ IsFaithful x o a (of a h) × IsNextOf x o a h e }
 {}
 
 /// A history has ended exactly where no choice is allowed after it. At least one worker is asked:

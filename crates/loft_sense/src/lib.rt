@@ -15,6 +15,7 @@ pub mod shared_thread;
 pub mod thread;
 
 pub use code_laws::{
+    codes_come_from_waits_and_limits, earlier_closes_set_marks_and_zeros,
     stops_set_codes_as_they_begin, the_close_marks_and_lowers, waits_are_pending_until_the_close,
     waits_set_codes_as_they_end,
 };
@@ -22,7 +23,7 @@ pub use engine::Engine;
 pub use entry::{Actor, Entry};
 pub use laws::{
     ended_histories_go_no_further, legal_histories_are_made, legal_histories_grow_by_entries,
-    made_histories_are_legal, own_entries_tell, passes_end,
+    made_histories_are_legal, own_entries_tell, own_lists_grow, passes_end,
 };
 pub use limits::{
     Limits, MAX_BLOCK, MAX_BLOCK_ENTRIES, MAX_BUDGET, MAX_ENTRIES, MAX_FRAMES, MAX_INSTANTS,
@@ -35,9 +36,10 @@ pub use note::{
 };
 pub use order::{At, End, Mark, Marks, Order, Orders, Sent, Sents, Stop, To};
 pub use run_laws::{
-    events_stay_present_in_an_instant, instants_keep_what_is_declared, instants_make_few_entries,
+    Claim, acts_tell_what_was_done, events_stay_present_in_an_instant,
+    instants_keep_what_is_declared, instants_make_few_entries, moments_go_run_by_run,
     nobody_waits_for_a_present_event, passes_go_in_order, runs_keep_what_is_declared,
-    runs_make_few_entries, threads_run_within_the_budget,
+    runs_make_few_entries, threads_run_within_the_budget, what_runs_keep_holds_between_them,
 };
 pub use shared_thread::{SharedThread, ThreadGroup};
 pub use thread::{Counts, Events, Frame, Frames, Thread, Threads, Wait};

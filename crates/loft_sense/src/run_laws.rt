@@ -17,11 +17,15 @@ ghost use Rattle.loft_sense.specs.Around.{Around};
 ghost use Rattle.loft_sense.specs.CanGo.{has_any};
 ghost use Rattle.loft_sense.specs.Statements.{most_entries};
 ghost use Rattle.loft_sense.specs.Run.{Ended, beside, ends};
-ghost use Rattle.loft_sense.specs.Runs.{is_entry, events_in, instant_walk, KeepsEvents};
+ghost use Rattle.loft_sense.specs.Runs.{is_entry, events_in, instant_walk, KeepsEvents, Tells};
 ghost use Rattle.loft_sense.specs.Passes.{Runner, run_of, runners_after, around_after};
 ghost use Rattle.loft_sense.specs.Passes.{walked, pass, passes_within, passes};
+ghost use Rattle.loft_sense.specs.Moments.{Moment, moment, end_of, moments_of_pass, moments};
+ghost use Rattle.loft_sense.specs.Moments.{RunByRun, last_or, IsKeptByRuns};
 ghost use Rattle.loft_sense.specs.Apply.{Applied, apply_order, apply};
 ghost use Rattle.loft_sense.specs.Instant.{instant};
+
+use std::marker::Brand;
 
 /// A run of a thread makes no more entries than an instant of its place may have. Its prints,
 /// generated events and orders are its entries, and its creates are among them.
@@ -108,6 +112,53 @@ pub fn passes_go_in_order()
     ensures order { (x : Prog) (rs rest : List Runner) (around : Around)
         → let front = pass x rs around in
         pass x (rs ++ rest) around ≡ walked front.runners front.ran (pass x rest front.around) }
+{}
+
+/// The acts tell what was done: over a run, a pass and all passes the acts are those before it and
+/// more, the board is the one before it with the events that these generated, each with its value, in
+/// this order, and the known threads are those before it and those whose ends are among these.
+pub fn acts_tell_what_was_done()
+    ensures run { (x : Prog) (t : Thread) (around : Around) (n : ℕ)
+        → Tells around (around_after (run_of x t around n)) }
+    ensures pass { (x : Prog) (rs : List Runner) (around : Around)
+        → Tells around (pass x rs around).around }
+    ensures passes { (x : Prog) (rs : List Runner) (around : Around)
+        → Tells around (passes x rs around).around }
+{}
+
+/// A claim about the moments of an instant, for proofs alone: what a law says of any claim, it says
+/// of each type that has this trait.
+pub trait Claim {
+    /// What is claimed of a moment.
+    ghost holds: { Moment → Type 0 };
+}
+
+impl Claim for Brand {
+    ghost holds = { λ m. Unit {0} };
+}
+
+/// From what a pass, or all passes of an instant, begin with, each of their moments is one run of a
+/// thread that can go after the moment before it, and the last is what they leave.
+pub fn moments_go_run_by_run()
+    ensures pass { (x : Prog) (rs : List Runner) (around : Around)
+        → RunByRun x (moment rs around) (moments_of_pass x rs around) }
+    ensures pass_ends { (x : Prog) (rs : List Runner) (around : Around)
+        → last_or (moment rs around) (moments_of_pass x rs around) ≡ end_of (pass x rs around) }
+    ensures passes { (x : Prog) (rs : List Runner) (around : Around)
+        → RunByRun x (moment rs around) (moments x rs around) }
+    ensures passes_end { (x : Prog) (rs : List Runner) (around : Around)
+        → last_or (moment rs around) (moments x rs around) ≡ end_of (passes x rs around) }
+{}
+
+/// What holds as a pass, or the passes of an instant, begin, and is kept by each run of a thread that
+/// can go, holds after each run, and of what they leave.
+pub fn what_runs_keep_holds_between_them<C: Claim>()
+    ensures pass { (x : Prog) → IsKeptByRuns x C.holds → (rs : List Runner) (around : Around)
+        → C.holds (moment rs around)
+        → All C.holds (moments_of_pass x rs around) × C.holds (end_of (pass x rs around)) }
+    ensures passes { (x : Prog) → IsKeptByRuns x C.holds → (rs : List Runner) (around : Around)
+        → C.holds (moment rs around)
+        → All C.holds (moments x rs around) × C.holds (end_of (passes x rs around)) }
 {}
 
 /// Within an instant an event that is present stays present, and its values stay the first ones

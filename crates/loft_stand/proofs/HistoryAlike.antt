@@ -3,6 +3,7 @@ use Rattle.std.proofs.Common.{◌≡◌, ℕ, ◌+◌, ◌<◌, ◌≤◌, ◌==
 use Rattle.std.specs.Prelude.{◌↔◌, ◌&&◌, not, drop, nat_lt, if◌then◌else◌, codes, IsTrue}
 use Rattle.std.specs.List.{flat_map}
 use Rattle.std.proofs.lemmas.Bool.{ltb-true}
+use Rattle.std.proofs.lemmas.List.Sums.{fold-append}
 use Rattle.loft_base.specs.declared.ids.SchedId.{SchedId}
 use Rattle.loft_tree.specs.declared.heads.Heads.{Heads}
 use Rattle.loft_tree.specs.Fits.{Each}
@@ -22,11 +23,12 @@ use Rattle.loft_sense.specs.Machine.{Prog, heads, empty}
 use Rattle.loft_sense.specs.Instant.{AfterInstant, Replayed, one_more, replay_on}
 use Rattle.loft_sense.specs.Fits.{IsThread, IsValue, IsEventOf, Fits}
 use Rattle.loft_sense.specs.Clients.{made_by}
-use Rattle.loft_sense.specs.History.{Choice, TakeBy, GiveBy, PickBy, PostBy, ClientBy, choice_of, log, is_open, waiting, jobs, left_after, left_of, unsent, creates, replayed, has_turn, sent_last, entry_of_first, pick_of, entry_of, with_entry, hist_on, hist, has_finished, HasEnded}
+use Rattle.loft_sense.specs.History.{Choice, TakeBy, GiveBy, PickBy, PostBy, ClientBy, choice_of, log, is_open, waiting, jobs, left_after, left_of, unsent, creates, replayed, has_turn, sent_last, entry_of_first, pick_of, entry_of, with_entry, hist_on, hist, has_finished, HasEnded, left_step}
 use Rattle.loft_sense.specs.Legal.{AtEach, IsCallersOrder, FitsOne, IsLegal, IsCallersEntry, ComesNext}
 use Rattle.loft_sense.specs.Lines.{text_of}
 use Rattle.loft_sense.specs.Report.{head_lines, block_lines, scheduler_lines, left_line, schedulers_from, left_part, report_lines, report}
-use Rattle.loft_sense.proofs.HistoryLemmas.{choice_kept, left_after-append}
+use Rattle.loft_sense.proofs.HistoryLemmas.{choice_kept}
+use Rattle.loft_sense.proofs.GrowthLemmas.{at_each_before}
 use Rattle.loft_sense.proofs.LegalEntries.{split_on, legal_exactly}
 use Rattle.loft_stand.specs.WellFormed.{IsWellFormed}
 use Rattle.loft_stand.specs.Alike.{RunsAlike}
@@ -81,10 +83,6 @@ call_same x y same h (Post w sent) call = absurd call
 call_same x y same h (Client c sent) call =
     (subst (λ (d : Heads). length d.clients ≤ c) same call.0, (call.1.0, one_same x y same sent.to (made_by c (creates c h)) sent.order call.1.0 call.1.1))
 
--- what holds at each entry does so in a prefix of the history
-at_each_before : (P : List Entry → Entry → Type 0) (before after : List Entry) → AtEach P (before ++ after) → AtEach P before
-at_each_before P before after each b e a same = each b e (a ++ after) (ap (λ (l : List Entry). l ++ after) same ∙ append_assoc b (e ∷ a) after)
-
 module _ (x y : Prog) (well : IsWellFormed x) (alike : RunsAlike x y) (o : RunOptions) where
   -- ---- a scheduler's own instants
 
@@ -97,7 +95,7 @@ module _ (x y : Prog) (well : IsWellFormed x) (alike : RunsAlike x y) (o : RunOp
 
   history_replayed : (h : List Entry) (s : SchedId) → HistoryFits x well o h → IsScheduler (heads x) s → replayed x o.limits s h ≡ replayed y o.limits s h
   history_replayed h s f declared =
-      replay_same s (record { machine = empty x s; notes = [] }) (log s h) (begun_fits x well o s declared) (f.took s)
+      replay_same s (record { machine = empty x s; notes = [] }) (log s h) (begun_fits x well o s declared) (f.took s declared)
       ∙ ap (λ (d : Heads). replay_on y o.limits (record { machine = record (empty x s) { shared = shared_values d s }; notes = [] }) (log s h)) alike.heads
 
   -- ---- histories
@@ -134,7 +132,7 @@ module _ (x y : Prog) (well : IsWellFormed x) (alike : RunsAlike x y) (o : RunOp
   next_alike : (h : List Entry) (e : Entry) → AlikeSoFar h → ComesNext x o h e → AlikeSoFar (h ++ e ∷ [])
   next_alike h e f next = record {
     fits = entry_fits x well o h e f.fits next;
-    left = λ w. left_after-append x o w h (e ∷ []) [] ∙ (one_left h e f next w ∙ sym (left_after-append y o w h (e ∷ []) []));
+    left = λ w. fold-append (left_step x o w) [] h (e ∷ []) ∙ (one_left h e f next w ∙ sym (fold-append (left_step y o w) [] h (e ∷ [])));
   }
 
   none_yet : AlikeSoFar []

@@ -56,7 +56,7 @@ module _ (x : Prog) (s : SchedId) where
     pub runners : Each RunnerFits w.runners
     pub around : AroundFits (heads x) (Sched s) w.around
 
-  runners_fit : (r : Runner) (o : Outcome) (rest : List Runner) → r.leaving ≡ None → LeavesStanding x (Sched s) o → Each RunnerFits rest → Each RunnerFits (runners_after r o ++ rest)
+  pub runners_fit : (r : Runner) (o : Outcome) (rest : List Runner) → r.leaving ≡ None → LeavesStanding x (Sched s) o → Each RunnerFits rest → Each RunnerFits (runners_after r o ++ rest)
   runners_fit r (Held t around left) rest e f g = (subst (λ leaving. Going leaving t) (sym e) (f.0, f.1), g)
   runners_fit r (Left t to around left) rest e f g = ((f.0, f.1, f.2), g)
   runners_fit r (Ended end around left) rest e f g = g
@@ -166,7 +166,7 @@ module _ (x : Prog) (s : SchedId) where
 
 -- what an unlinked thread finds around it
 pub alone_fits : (x : Prog) → AroundFits (heads x) Unlinked (alone x)
-alone_fits x = record { declared = tt; there = refl; shared = tt; board = length-replicate (length (heads x).events) None; acts = tt }
+alone_fits x = record { declared = tt; there = refl; board = length-replicate (length (heads x).events) None; acts = tt }
 
 module _ (x : Prog) (well : IsWellFormed x) where
   pub pass_fits : (s : SchedId) (rs : List Runner) → Each (RunnerFits x s) rs → PassesFit x s rs
@@ -199,7 +199,7 @@ module _ (x : Prog) (well : IsWellFormed x) where
 
   -- what the first thread finds around it
   pub first_around : (m : Mach) (batch : List Order) → MachFits x m → Each (Fits x m.s) batch → AroundFits (heads x) (Sched m.s) (around_of m (apply x m batch))
-  first_around m batch f g = record { declared = f.declared; there = refl; shared = f.shared; board = (batch_applied m batch f g).board; acts = tt }
+  first_around m batch f g = record { declared = f.declared; there = refl; board = (batch_applied m batch f g).board; acts = tt }
 
   -- a machine and what its instant sends
   pub record AfterFits (m : Mach) (sent : List Sent) : Type 0 where
@@ -216,7 +216,7 @@ module _ (x : Prog) (well : IsWellFormed x) where
       let last = passes x rs (around_of m a) in
       let w = passes_fit m.s rs (begin_fit x m.s limits.budget a.linked applied.linked) (around_of m a) (first_around m batch f g) in
       record {
-        machine = record { declared = f.declared; linked = linked_closed x m.s last.runners w.runners; shared = w.around.shared };
+        machine = record { declared = f.declared; linked = linked_closed x m.s last.runners w.runners };
         sents =
             each_append (SentFits x) a.sent (sent_by (Sched m.s) last.around.acts ++ leavers last.runners) applied.sent
             (each_append (SentFits x) (sent_by (Sched m.s) last.around.acts) (leavers last.runners)
@@ -238,13 +238,13 @@ module _ (x : Prog) (well : IsWellFormed x) where
 
 -- all that is sent fits, and at each scheduler that to which it is addressed
 abbrev AllFit : Prog → List Sent → Type 0
-AllFit x sent = All (SentFits x) sent × ((s : SchedId) → All (Fits x s) (orders_to s sent))
+AllFit x sent = All (SentFits x) sent × ((s : SchedId) → IsScheduler (heads x) s → All (Fits x s) (orders_to s sent))
 
 all_fit : (x : Prog) (sent : List Sent) → Each (SentFits x) sent → AllFit x sent
-all_fit x sent f = (all_of (SentFits x) sent f, λ s. all_of (Fits x s) (orders_to s sent) (orders_fit x s sent f))
+all_fit x sent f = (all_of (SentFits x) sent f, λ s declared. all_of (Fits x s) (orders_to s sent) (orders_fit x s declared sent f))
 
 pub empty_fits : (x : Prog) (s : SchedId) → IsScheduler (heads x) s → MachFits x (empty x s)
-empty_fits x s declared = record { declared = declared; linked = tt; shared = refl }
+empty_fits x s declared = record { declared = declared; linked = tt }
 
 pub machine_fits : (x : Prog) → IsWellFormed x → (limits : Limits) (m : Mach) (batch : List Order) → MachFits x m → All (Fits x m.s) batch
     → MachFits x (instant x limits m batch).machine

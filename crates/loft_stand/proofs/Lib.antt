@@ -18,6 +18,9 @@ pub mod ThereLemmas
 pub mod KeptLemmas
 pub mod OrderLemmas
 pub mod InstantLemmas
+pub mod HistoryWalk
 pub mod HistoryFits
+pub mod ThreadWalk
+pub mod ThreadLaws
 pub mod AlikeLemmas
 pub mod HistoryAlike

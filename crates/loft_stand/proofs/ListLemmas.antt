@@ -15,6 +15,10 @@ pub each_append : {A : Type 0} (P : A → Type 0) (xs ys : List A) → Each P xs
 each_append P [] ys f g = g
 each_append P (x ∷ xs) ys f g = (f.0, each_append P xs ys f.1 g)
 
+pub each_parts : {A : Type 0} (P : A → Type 0) (xs ys : List A) → Each P (xs ++ ys) → Each P xs × Each P ys
+each_parts P [] ys f = (tt, f)
+each_parts P (x ∷ xs) ys f = let rest = each_parts P xs ys f.1 in ((f.0, rest.0), rest.1)
+
 pub each_reverse : {A : Type 0} (P : A → Type 0) (xs : List A) → Each P xs → Each P (reverse xs)
 each_reverse P [] f = tt
 each_reverse P (x ∷ xs) f = subst (Each P) (sym (reverse-append (x ∷ []) xs)) (each_append P (reverse xs) (x ∷ []) (each_reverse P xs f.1) (f.0, tt))

@@ -1,9 +1,8 @@
 -- What fits where it is sent, and what a batch that fits leaves.
-use Rattle.std.proofs.Common.{◌≡◌, ◌==◌, ◌<◌, ℕ, zero, suc, ◌+◌, Bool, true, false, List, [], ◌∷◌, ◌++◌, length, Option, Some, None, slice_get, refl, sym, ap, ◌∙◌, subst, arith}
+use Rattle.std.proofs.Common.{◌≡◌, ◌<◌, ℕ, zero, suc, ◌+◌, Bool, true, false, List, [], ◌∷◌, ◌++◌, length, Option, Some, None, slice_get, refl, sym, ap, ◌∙◌, subst, arith}
 use Rattle.std.specs.Prelude.{if◌then◌else◌, nat_lt}
 use Rattle.std.specs.Prelude.{All}
 use Rattle.std.proofs.lemmas.List.{length-set}
-use Rattle.std.proofs.lemmas.Bool.{eqb-true}
 use Rattle.loft_sense.specs.History.{is_addressed, orders_to, starts_from}
 use Rattle.loft_base.specs.declared.ids.SchedId.{SchedId}
 use Rattle.loft_base.specs.declared.ids.ModuleId.{ModuleId}
@@ -39,7 +38,7 @@ use Rattle.loft_sense.specs.declared.order.To.{To}
 use Rattle.loft_sense.specs.declared.order.To.TheVariants as to
 use Rattle.loft_sense.specs.declared.thread.Thread.{Thread}
 use Rattle.loft_sense.specs.declared.thread.Wait.TheVariants as wait
-use Rattle.loft_sense.specs.Heads.{scheduler_or_first, first_values}
+use Rattle.loft_sense.specs.Heads.{same_scheduler, scheduler_or_first, first_values}
 use Rattle.loft_sense.specs.Legal.{FitsOne}
 use Rattle.loft_sense.specs.Machine.{Prog, heads}
 use Rattle.loft_sense.specs.CanGo.{same_thread}
@@ -48,6 +47,7 @@ use Rattle.loft_sense.specs.Clients.{control_of, orders_from, orders_or_none, ou
 use Rattle.loft_sense.specs.Fits.{IsMaker, IsThread, IsValue, ThreadNames, EndNames, Fits}
 use Rattle.loft_sense.specs.Apply.{Applied, new_thread, link, is_linked, unlink, suspend, tell_end, apply_order, apply_orders}
 use Rattle.loft_sense.specs.Instant.{sent_by}
+use Rattle.loft_sense.proofs.HistoryLemmas.{is_same}
 use Rattle.loft_stand.specs.Points.{OrderFits, OutFits, ActFits, StandsThere}
 use Rattle.loft_stand.specs.Machines.{ThreadFits, FitsAt, SentFits}
 use Rattle.loft_stand.specs.WellFormed.{IsWellFormed}
@@ -59,8 +59,12 @@ use Rattle.loft_stand.proofs.ProgramLemmas.{Begins as StartBegins, starts_begin,
 -- ---- what is sent
 
 tells_end : (x : Prog) (place : Place) (t : ThreadId) (end : End) → IsThread (heads x) t → EndNames (heads x) end → SentFits x (tell_end place t end)
-tells_end x (Sched s) t end is names = λ q. (is, names)
-tells_end x Unlinked t end is names = λ q. (is, names)
+tells_end x (Sched s) t end is names = λ q declared there. (is, names)
+tells_end x Unlinked t end is names = λ q declared there. (is, names)
+
+-- what fits at a scheduler fits where it goes to that alone
+at_one : (x : Prog) (s : SchedId) (o : Order) → Fits x s o → FitsAt x (to.Sched s) o
+at_one x s o f q declared there = subst (λ (r : SchedId). Fits x r o) (sym (is_same q s there)) f
 
 order_fits : (x : Prog) (s : SchedId) (o : Order) → OrderFits (heads x) s o → Fits x s o
 order_fits x s (order.Create t m args) f = f
@@ -72,7 +76,7 @@ order_fits x s (order.Broadcast e v) f = f
 order_fits x s (order.Ended t end) f = absurd f
 
 out_fits : (x : Prog) (t : To) (o : Order) → OutFits (heads x) t o → FitsAt x t o
-out_fits x (to.Sched s) o f = order_fits x s o f
+out_fits x (to.Sched s) o f = at_one x s o (order_fits x s o f)
 out_fits x (to.Others s) o f = absurd f
 out_fits x to.All o f = absurd f
 out_fits x to.Workers o f = absurd f
@@ -89,30 +93,26 @@ abbrev pub Leaves : Prog → Thread → To → Type 0
 Leaves x t to = (t.wait ≡ wait.New) × StandsThere x t to × ThreadNames (heads x) t
 
 pub leaver_fits : (x : Prog) (t : Thread) (to : To) → Leaves x t to → FitsAt x to (order.Arrive t)
-leaver_fits x t (to.Sched s) f = f
+leaver_fits x t (to.Sched s) f = at_one x s (order.Arrive t) f
 leaver_fits x t (to.Others s) f = absurd f.1
 leaver_fits x t to.All f = absurd f.1
 leaver_fits x t to.Workers f = (f.0, (f.1, f.2))
 
 -- ---- orders to a scheduler
 
-addressed_one : (x : Prog) (s q : SchedId) (o : Order) (os : List Order) (b : Bool) → (s.0 == q.0) ≡ b → Fits x q o → Each (Fits x s) os → Each (Fits x s) (if b then o ∷ os else os)
-addressed_one x s q o os true e f g = let same : q ≡ s = ap (λ (k : ℕ). record { 0 = k }) (sym (eqb-true s.0 q.0 e)) in (subst (λ r. Fits x r o) same f, g)
-addressed_one x s q o os false e f g = g
+one_more : (x : Prog) (s : SchedId) (o : Order) (os : List Order) (b : Bool) → (b ≡ true → Fits x s o) → Each (Fits x s) os → Each (Fits x s) (if b then o ∷ os else os)
+one_more x s o os true f g = (f refl, g)
+one_more x s o os false f g = g
 
-others_one : (x : Prog) (s : SchedId) (o : Order) (os : List Order) (b : Bool) → Fits x s o → Each (Fits x s) os → Each (Fits x s) (if b then o ∷ os else os)
-others_one x s o os true f g = (f, g)
-others_one x s o os false f g = g
+addressed_to : (x : Prog) (s : SchedId) → IsScheduler (heads x) s → (t : To) (o : Order) (os : List Order) → FitsAt x t o → Each (Fits x s) os → Each (Fits x s) (if is_addressed s t then o ∷ os else os)
+addressed_to x s declared (to.Sched q) o os f g = one_more x s o os (is_addressed s (to.Sched q)) (f s declared) g
+addressed_to x s declared (to.Others q) o os f g = one_more x s o os (is_addressed s (to.Others q)) (f s declared) g
+addressed_to x s declared to.All o os f g = (f s declared refl, g)
+addressed_to x s declared to.Workers o os f g = g
 
-addressed_to : (x : Prog) (s : SchedId) (t : To) (o : Order) (os : List Order) → FitsAt x t o → Each (Fits x s) os → Each (Fits x s) (if is_addressed s t then o ∷ os else os)
-addressed_to x s (to.Sched q) o os f g = addressed_one x s q o os (s.0 == q.0) refl f g
-addressed_to x s (to.Others q) o os f g = others_one x s o os (is_addressed s (to.Others q)) (f s) g
-addressed_to x s to.All o os f g = (f s, g)
-addressed_to x s to.Workers o os f g = g
-
-pub orders_fit : (x : Prog) (s : SchedId) (ms : List Sent) → Each (SentFits x) ms → Each (Fits x s) (orders_to s ms)
-orders_fit x s [] f = tt
-orders_fit x s (m ∷ ms) f = addressed_to x s m.to m.order (orders_to s ms) f.0 (orders_fit x s ms f.1)
+pub orders_fit : (x : Prog) (s : SchedId) → IsScheduler (heads x) s → (ms : List Sent) → Each (SentFits x) ms → Each (Fits x s) (orders_to s ms)
+orders_fit x s declared [] f = tt
+orders_fit x s declared (m ∷ ms) f = addressed_to x s declared m.to m.order (orders_to s ms) f.0 (orders_fit x s declared ms f.1)
 
 -- ---- batches
 
@@ -211,8 +211,8 @@ module _ (x : Prog) (s : SchedId) where
 starts_fit_from : (x : Prog) (s : SchedId) (k : ℕ) (ts : List Start) → Each (StartBegins (heads x)) ts → Each (Fits x s) (starts_from s k ts)
 starts_fit_from x s k [] f = tt
 starts_fit_from x s k (t ∷ ts) f =
-    addressed_one x s t.scheduler (order.Create (record { maker = maker.Source; seq = k }) t.module t.arguments) (starts_from s (k + 1) ts) (s.0 == t.scheduler.0) refl
-    (tt, f.0.0, f.0.1) (starts_fit_from x s (k + 1) ts f.1)
+    let made : Order = order.Create (record { maker = maker.Source; seq = k }) t.module t.arguments in
+    one_more x s made (starts_from s (k + 1) ts) (same_scheduler s t.scheduler) (λ same. subst (λ (r : SchedId). Fits x r made) (sym (is_same s t.scheduler same)) (tt, f.0.0, f.0.1)) (starts_fit_from x s (k + 1) ts f.1)
 
 pub starts_fit : (x : Prog) → IsWellFormed x → (s : SchedId) → All (Fits x s) (starts_from s 0 (heads x).starts)
 starts_fit x well s = all_of (Fits x s) (starts_from s 0 (heads x).starts) (starts_fit_from x s 0 (heads x).starts (starts_begin x well))
@@ -256,8 +256,8 @@ client_for_one x c (Some client) at events all = orders_for_one x c 0 client.ord
 pub outside_for_one : (x : Prog) → IsWellFormed x → (c : ℕ) → Each (IsForOne x) (outside_of (heads x) c)
 outside_for_one x well c = client_for_one x c (slice_get (heads x).clients c) refl (events_hold x well) (clients_order x well)
 
-one_fits : (x : Prog) (to : To) (q : Order) → FitsOne x to q → FitsAt x to q
-one_fits x (to.Sched s) q f = f.1
+pub one_fits : (x : Prog) (to : To) (q : Order) → FitsOne x to q → FitsAt x to q
+one_fits x (to.Sched s) q f = at_one x s q f.1
 one_fits x (to.Others s) q f = absurd f
 one_fits x to.All q f = absurd f
 one_fits x to.Workers q f = absurd f

@@ -94,33 +94,33 @@ module _ (x : Prog) where
       record { id = id; wait = names; values = each_reverse (FrameNames (heads x)) (map (frame_of (control_of x)) (s ∷ rs)) (own, outer_names r.module rs outer) }
 
   -- the module of the innermost frame has ended
-  ended : (place : Place) (b : Beside) (r : Active (PointOf x)) (rs : List (Active (PointOf x))) → BesideFits (heads x) place b → (f : FrameFits x place r) → OuterFit x r.module rs
-      → length (r ∷ rs) ≤ MAX_FRAMES → place ≡ f.head.end → PointFits x place b rs
-  ended place b r rs beside f outer few e =
+  ended : (place : Place) (count : ℕ) (b : Beside) (r : Active (PointOf x)) (rs : List (Active (PointOf x))) → BesideFits (heads x) place count b → (f : FrameFits x place r) → OuterFit x r.module rs
+      → length (r ∷ rs) ≤ MAX_FRAMES → place ≡ f.head.end → PointFits x place count b rs
+  ended place count b r rs beside f outer few e =
       let at_end : end_of (heads x) r.module ≡ place = end_is (heads x) r.module f.head f.declared ∙ sym e in
       record { beside = beside; frames = subst (λ p. FramesFit x p rs) at_end (outer_run r.module rs outer); few = omega (arith, few) }
 
   -- ---- steps
 
-  module _ (leads : LeadsToPoints x) (place : Place) where
+  module _ (leads : LeadsToPoints x) (place : Place) (count : ℕ) where
     -- it goes on by on or other at a point that fits, or it has left the thread
     data Lands (on other : Beside → List (Active (PointOf x)) → Outcome) : Outcome → Outcome → Type 0 where
-      goes : (d : Beside) (qs : List (Active (PointOf x))) → PointFits x place d qs → Lands on other (on d qs) (other d qs)
+      goes : (d : Beside) (qs : List (Active (PointOf x))) → PointFits x place count d qs → Lands on other (on d qs) (other d qs)
       leaves : (o : Outcome) → LeavesStanding x place o → Lands on other o o
 
-    ends_leave : (end : End) (b : Beside) (left : ℕ) → EndNames (heads x) end → BesideFits (heads x) place b → LeavesStanding x place (ends end b left)
+    ends_leave : (end : End) (b : Beside) (left : ℕ) → EndNames (heads x) end → BesideFits (heads x) place count b → LeavesStanding x place (ends end b left)
     ends_leave end b left names beside =
         let acts : Each (ActFits (heads x)) (b.around.acts ++ act.End b.id end ∷ []) = each_append (ActFits (heads x)) b.around.acts (act.End b.id end ∷ []) beside.around.acts ((beside.id, names), tt) in
-        let around : AroundFits (heads x) place _ = record { acts = acts; declared = beside.around.declared; there = beside.around.there; shared = beside.around.shared; board = beside.around.board } in
+        let around : AroundFits (heads x) place _ = record { acts = acts; declared = beside.around.declared; there = beside.around.there; board = beside.around.board } in
         (names, around)
 
     module _ (left : ℕ) (on other : Beside → List (Active (PointOf x)) → Outcome) where
-      dies : (end : End) (b : Beside) → EndNames (heads x) end → BesideFits (heads x) place b → Lands on other (ends end b left) (ends end b left)
+      dies : (end : End) (b : Beside) → EndNames (heads x) end → BesideFits (heads x) place count b → Lands on other (ends end b left) (ends end b left)
       dies end b names beside = leaves (ends end b left) (ends_leave end b left names beside)
 
       -- the innermost frame, and the frames below it
       module _ (r : Active (PointOf x)) (rs : List (Active (PointOf x))) (b : Beside) (f : FrameFits x place r) (outer : OuterFit x r.module rs) (few : length (r ∷ rs) ≤ MAX_FRAMES)
-          (beside : BesideFits (heads x) place b) where
+          (beside : BesideFits (heads x) place count b) where
         -- a point of its module
         abbrev IsAt : PointOf x → Place → Type 0
         IsAt p q = PointIsAt x r.module f.head p q
@@ -129,7 +129,7 @@ module _ (x : Prog) where
         frame_at k vs p = record r { stop = k; values = vs; at = p }
 
         -- it goes on with these values at this point
-        goes_at : (k : ℕ) (vs : List Value) (p : PointOf x) (d : Beside) → ValuesFit (heads x) (slots_of f.head) vs → IsAt p place → BesideFits (heads x) place d
+        goes_at : (k : ℕ) (vs : List Value) (p : PointOf x) (d : Beside) → ValuesFit (heads x) (slots_of f.head) vs → IsAt p place → BesideFits (heads x) place count d
             → Lands on other (on d (frame_at k vs p ∷ rs)) (other d (frame_at k vs p ∷ rs))
         goes_at k vs p d vals at bs =
             let frame : FrameFits x place (frame_at k vs p) = record { head = f.head; declared = f.declared; values = vals; at = at } in
@@ -147,7 +147,7 @@ module _ (x : Prog) where
         count_lands None g fg = dies (Div (here r)) b (is_point place r f) beside
         count_lands (Some a) g fg = goes_at r.stop r.values (g (number_of a)) b f.values (fg (number_of a)) beside
 
-        act_lands : (p : PointOf x) (effect : Effect) → EffectFits (heads x) (slots_of f.head) place place (λ wt. ⊥) (λ t. ⊥) effect → IsAt p place
+        act_lands : (p : PointOf x) (effect : Effect) → EffectFits (heads x) (slots_of f.head) place count place (λ wt. ⊥) (λ t. ⊥) effect → IsAt p place
             → Lands on other (effect_on (control_of x) left on effect p r rs b) (effect_on (control_of x) left other effect p r rs b)
         act_lands p (GoesOn now) e fp = goes_at r.stop now.values p now.beside e.0 fp e.1
         act_lands p (Waits wt) e fp = absurd e.0
@@ -172,7 +172,7 @@ module _ (x : Prog) where
         stop_names : (k : ℕ) (p : PointOf x) (wt : Wait) → WaitNames (heads x) wt → ThreadNames (heads x) (thread_at wt k p)
         stop_names k p wt names = thread_names wt place r (stopped r k p) rs b f refl outer beside.id names
 
-        hold_lands : (k : ℕ) (pause : Pause) (p : PointOf x) (effect : Effect) → EffectFits (heads x) (slots_of f.head) place (place_after pause place) (IsWaitOf pause) (IsLeaveOf pause place) effect
+        hold_lands : (k : ℕ) (pause : Pause) (p : PointOf x) (effect : Effect) → EffectFits (heads x) (slots_of f.head) place count (place_after pause place) (IsWaitOf pause) (IsLeaveOf pause place) effect
             → StopsAt x r.module f.head k (Pauses pause) p (place_after pause place)
             → Lands on other (effect_on (control_of x) left on effect p (stopped r k p) rs b) (effect_on (control_of x) left other effect p (stopped r k p) rs b)
         hold_lands k pause p (GoesOn now) e s = goes_at k now.values p now.beside e.0 (subst (IsAt p) e.2 s.1) e.1
@@ -213,16 +213,16 @@ module _ (x : Prog) where
 
         next_lands : (next : Next (PointOf x)) → NextFits (heads x) (slots_of f.head) place next → LeadsAt x r.module f.head place next
             → Lands on other (step (control_of x) left on next r rs b) (step (control_of x) left other next r rs b)
-        next_lands Finish e s = goes b rs (ended place b r rs beside f outer few s)
+        next_lands Finish e s = goes b rs (ended place count b r rs beside f outer few s)
         next_lands Stuck e s = absurd e
         next_lands (Acts action p) e s =
-            act_lands p (did (heads x) action (here r) r.values b) (did_fits (heads x) (slots_of f.head) place (here r) r.values b (is_point place r f) f.values beside action e) s
+            act_lands p (did (heads x) action (here r) r.values b) (did_fits (heads x) (slots_of f.head) place count (here r) r.values b (is_point place r f) f.values beside action e) s
         next_lands (Passes p) e s = goes_at r.stop r.values p b f.values s beside
         next_lands (Tests test p q) e s = test_lands (eval (heads x) r.values b test) p q s.0 s.1
         next_lands (Counts count g) e s = count_lands (eval (heads x) r.values b count) g s
         next_lands (Holds k pause p) e s =
             hold_lands k pause p (begun (heads x) pause (here (stopped r k p)) r.values b)
-            (begun_fits (heads x) (slots_of f.head) place (here (stopped r k p)) r.values b (is_point place r f) f.values beside pause e) s
+            (begun_fits (heads x) (slots_of f.head) place count (here (stopped r k p)) r.values b (is_point place r f) f.values beside pause e) s
         next_lands (Runs k m arguments p) e s =
             run_lands k m p e.1.0 (eval_all (heads x) r.values b arguments) e.1.1 e.0
             (all_of (eval_all (heads x) r.values b arguments) (eval_all_fits (heads x) (slots_of f.head) place r.values b f.values beside.id (kinds_of e.1.0.parameters) arguments e.1.2)) s
@@ -231,7 +231,7 @@ module _ (x : Prog) where
             all_of o is vs same = subst (IfThere (ValuesFit (heads x) (kinds_of e.1.0.parameters))) same is
 
     -- a step from a point that fits
-    step_lands : (left : ℕ) (on other : Beside → List (Active (PointOf x)) → Outcome) (b : Beside) (rs : List (Active (PointOf x))) → PointFits x place b rs
+    step_lands : (left : ℕ) (on other : Beside → List (Active (PointOf x)) → Outcome) (b : Beside) (rs : List (Active (PointOf x))) → PointFits x place count b rs
         → Lands on other (step_on (control_of x) left on b rs) (step_on (control_of x) left other b rs)
     step_lands left on other b [] f = dies (suc left) on other Done b tt f.beside
     step_lands left on other b (r ∷ rs) f =
@@ -239,12 +239,12 @@ module _ (x : Prog) where
         let next = leads.next r.module frame.head r.at place frame.declared frame.at in
         next_lands left on other r rs b frame f.frames.1 f.few f.beside ((control x).next r.module r.at) next.0 next.1
 
-    land_same : (on other : Beside → List (Active (PointOf x)) → Outcome) (o u : Outcome) → ((d : Beside) (qs : List (Active (PointOf x))) → PointFits x place d qs → on d qs ≡ other d qs)
+    land_same : (on other : Beside → List (Active (PointOf x)) → Outcome) (o u : Outcome) → ((d : Beside) (qs : List (Active (PointOf x))) → PointFits x place count d qs → on d qs ≡ other d qs)
         → Lands on other o u → o ≡ u
     land_same on other o u same (goes d qs f) = same d qs f
     land_same on other o u same (leaves v f) = refl
 
-    land_leaves : (on other : Beside → List (Active (PointOf x)) → Outcome) (o u : Outcome) → ((d : Beside) (qs : List (Active (PointOf x))) → PointFits x place d qs → LeavesStanding x place (on d qs))
+    land_leaves : (on other : Beside → List (Active (PointOf x)) → Outcome) (o u : Outcome) → ((d : Beside) (qs : List (Active (PointOf x))) → PointFits x place count d qs → LeavesStanding x place (on d qs))
         → Lands on other o u → LeavesStanding x place o
     land_leaves on other o u leave (goes d qs f) = leave d qs f
     land_leaves on other o u leave (leaves v f) = f
@@ -252,7 +252,7 @@ module _ (x : Prog) where
     -- ---- frames that have not ended
 
     live_one : (b : Beside) (m : ModuleId) (head : Signature) (next : Next (PointOf x)) (ls rs : List (Active (PointOf x))) → LeadsAt x m head place next
-        → (place ≡ head.end → PointFits x place b ls) → PointFits x place b rs → PointFits x place b (if_finish next ls rs)
+        → (place ≡ head.end → PointFits x place count b ls) → PointFits x place count b rs → PointFits x place count b (if_finish next ls rs)
     live_one b m head Finish ls rs e f g = f e
     live_one b m head Stuck ls rs e f g = g
     live_one b m head (Acts action p) ls rs e f g = g
@@ -262,36 +262,36 @@ module _ (x : Prog) where
     live_one b m head (Holds k pause p) ls rs e f g = g
     live_one b m head (Runs k called arguments p) ls rs e f g = g
 
-    pub live_point : (b : Beside) (rs : List (Active (PointOf x))) → PointFits x place b rs → PointFits x place b (live (control_of x) rs)
+    pub live_point : (b : Beside) (rs : List (Active (PointOf x))) → PointFits x place count b rs → PointFits x place count b (live (control_of x) rs)
     live_point b [] f = f
     live_point b (r ∷ rs) f =
         let frame = f.frames.0 in
         live_one b r.module frame.head ((control x).next r.module r.at) (live (control_of x) rs) (r ∷ rs) (leads.next r.module frame.head r.at place frame.declared frame.at).1
-        (λ e. live_point b rs (ended place b r rs f.beside frame f.frames.1 f.few e)) f
+        (λ e. live_point b rs (ended place count b r rs f.beside frame f.frames.1 f.few e)) f
 
     -- ---- runs
 
-    front_fits : (b : Beside) (rs : List (Active (PointOf x))) → PointFits x place b rs → FrontFits x place rs
+    front_fits : (b : Beside) (rs : List (Active (PointOf x))) → PointFits x place count b rs → FrontFits x place rs
     front_fits b [] f = tt
     front_fits b (r ∷ rs) f =
         let frame = f.frames.0 in
         (frame.head, frame.declared, frame.values, (leads.next r.module frame.head r.at place frame.declared frame.at).0)
 
     -- what comes next at a point that fits
-    pub next_there : (b : Beside) (rs : List (Active (PointOf x))) → PointFits x place b rs → FrontFits x place (live (control_of x) rs)
+    pub next_there : (b : Beside) (rs : List (Active (PointOf x))) → PointFits x place count b rs → FrontFits x place (live (control_of x) rs)
     next_there b rs f = front_fits b (live (control_of x) rs) (live_point b rs f)
 
     -- a step from a point that fits goes on only at points that fit
-    pub goes_only : (b : Beside) (rs : List (Active (PointOf x))) → PointFits x place b rs → GoesOnlyTo (control_of x) (PointFits x place) b rs
+    pub goes_only : (b : Beside) (rs : List (Active (PointOf x))) → PointFits x place count b rs → GoesOnlyTo (control_of x) (PointFits x place count) b rs
     goes_only b rs f left on other same =
         land_same on other (step_on (control_of x) left on b (live (control_of x) rs)) (step_on (control_of x) left other b (live (control_of x) rs)) same
         (step_lands left on other b (live (control_of x) rs) (live_point b rs f))
 
-    pub no_step_leaves : (b : Beside) (rs : List (Active (PointOf x))) → PointFits x place b rs → LeavesStanding x place (no_step b rs)
+    pub no_step_leaves : (b : Beside) (rs : List (Active (PointOf x))) → PointFits x place count b rs → LeavesStanding x place (no_step b rs)
     no_step_leaves b [] f = ends_leave Done b 0 tt f.beside
     no_step_leaves b (r ∷ rs) f = ends_leave (Over (here r)) b 0 (is_point place r f.frames.0) f.beside
 
-    pub going_leaves : (left : ℕ) (b : Beside) (rs : List (Active (PointOf x))) → PointFits x place b rs → LeavesStanding x place (going (control_of x) left b rs)
+    pub going_leaves : (left : ℕ) (b : Beside) (rs : List (Active (PointOf x))) → PointFits x place count b rs → LeavesStanding x place (going (control_of x) left b rs)
     going_leaves zero b rs f = no_step_leaves b (live (control_of x) rs) (live_point b rs f)
     going_leaves (suc left) b rs f =
         let on = going (control_of x) left in

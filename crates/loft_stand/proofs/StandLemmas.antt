@@ -41,15 +41,15 @@ head_of None vs e = absurd e
 head_of (Some head) vs e = (head, refl, e)
 
 -- the wait is answered
-answers : (h : Heads) (slots : List Kind) (place : Place) (kind : StopKind) (o : Option Pause) (w : Wait) (values : List Value) (b : Beside) → IsPauseOf kind o → KindFits h slots kind place → WaitAgrees kind w
-    → ValuesFit h slots values → BesideFits h place b → NowFits h slots place (answered h o w values b)
-answers h slots place Begins o w values b is fit agrees vals bs = subst (λ u. NowFits h slots place (answered h o u values b)) (sym agrees) (vals, bs)
-answers h slots place (Pauses pause) o w values b is fit agrees vals bs =
-    subst (λ p. NowFits h slots place (answered h p w values b)) (sym is) (answered_fits h slots place values b vals bs (Some pause) w fit)
-answers h slots place (Calls m) o w values b is fit agrees vals bs = absurd agrees
+answers : (h : Heads) (slots : List Kind) (place : Place) (count : ℕ) (kind : StopKind) (o : Option Pause) (w : Wait) (values : List Value) (b : Beside) → IsPauseOf kind o → KindFits h slots kind place → WaitAgrees kind w
+    → ValuesFit h slots values → BesideFits h place count b → NowFits h slots place count (answered h o w values b)
+answers h slots place count Begins o w values b is fit agrees vals bs = subst (λ u. NowFits h slots place count (answered h o u values b)) (sym agrees) (vals, bs)
+answers h slots place count (Pauses pause) o w values b is fit agrees vals bs =
+    subst (λ p. NowFits h slots place count (answered h p w values b)) (sym is) (answered_fits h slots place count values b vals bs (Some pause) w fit)
+answers h slots place count (Calls m) o w values b is fit agrees vals bs = absurd agrees
 
-beside_thread : (h : Heads) (t : Thread) (place : Place) (around : Around) → ThreadNames h t → AroundFits h place around → BesideFits h place (beside t around)
-beside_thread h t place around names fit = record { id = names.id; around = fit }
+beside_thread : (h : Heads) (t : Thread) (place : Place) (around : Around) → ThreadNames h t → AroundFits h place around → BesideFits h place (length around.shared) (beside t around)
+beside_thread h t place around names fit = record { id = names.id; around = fit; shared = refl }
 
 module _ (x : Prog) (leads : LeadsToPoints x) where
   -- ---- frames as they go on
@@ -95,16 +95,16 @@ module _ (x : Prog) (leads : LeadsToPoints x) where
   -- ---- the first point
 
   -- where a thread of these frames goes on, with the wait answered
-  pub record GoesOnAt (place : Place) (w : Wait) (b : Beside) (rs : List (Active (PointOf x))) : Type 0 where
+  pub record GoesOnAt (place : Place) (count : ℕ) (w : Wait) (b : Beside) (rs : List (Active (PointOf x))) : Type 0 where
     pub now : Beside
     pub frames : List (Active (PointOf x))
-    pub point : PointFits x place now frames
+    pub point : PointFits x place count now frames
     pub goes : (left : ℕ) → go_on (control_of x) (suc left) w b rs ≡ going (control_of x) left now frames
 
-  goes_on_at : (place : Place) (w : Wait) (b : Beside) (fs : List Frame) → FramesStand x w place fs → Each (FrameNames (heads x)) fs → length fs ≤ MAX_FRAMES → BesideFits (heads x) place b
-      → GoesOnAt place w b (map (active_of (control_of x)) fs)
-  goes_on_at place w b [] stand names few bs = absurd stand
-  goes_on_at place w b (f ∷ fs) stand names few bs =
+  goes_on_at : (place : Place) (count : ℕ) (w : Wait) (b : Beside) (fs : List Frame) → FramesStand x w place fs → Each (FrameNames (heads x)) fs → length fs ≤ MAX_FRAMES → BesideFits (heads x) place count b
+      → GoesOnAt place count w b (map (active_of (control_of x)) fs)
+  goes_on_at place count w b [] stand names few bs = absurd stand
+  goes_on_at place count w b (f ∷ fs) stand names few bs =
       let at = stand.0.0 in
       let own = wakes f at stand.0.1 names.0 in
       let slots = slots_of own.frame.head in
@@ -112,8 +112,8 @@ module _ (x : Prog) (leads : LeadsToPoints x) where
       let m : length (map (active_of (control_of x)) fs) ≡ length fs = length-map fs (active_of (control_of x)) in
       let pause = (control x).pause f.module f.stop in
       let now = answered (heads x) pause w f.values b in
-      let answer : NowFits (heads x) slots place now =
-      answers (heads x) slots place at.kind pause w f.values b (stop_pauses x f.module f.stop at stand.0.1.stop)
+      let answer : NowFits (heads x) slots place count now =
+      answers (heads x) slots place count at.kind pause w f.values b (stop_pauses x f.module f.stop at stand.0.1.stop)
       (subst (λ p. KindFits (heads x) slots at.kind p) stand.0.3 own.kind) stand.0.2 own.frame.values bs in
       let first : FrameFits x place (record (frame_again f) { values = now.values }) = record {
         head = own.frame.head;
@@ -129,33 +129,33 @@ module _ (x : Prog) (leads : LeadsToPoints x) where
       }
 
   first_point : (t : Thread) (place : Place) (around : Around) → Stands x t place → ThreadNames (heads x) t → AroundFits (heads x) place around
-      → GoesOnAt place t.wait (beside t around) (actives_of (control_of x) t)
+      → GoesOnAt place (length around.shared) t.wait (beside t around) (actives_of (control_of x) t)
   first_point t place around stands names fit =
-      goes_on_at place t.wait (beside t around) (reverse t.frames) stands.frames (each_reverse (FrameNames (heads x)) t.frames names.values)
+      goes_on_at place (length around.shared) t.wait (beside t around) (reverse t.frames) stands.frames (each_reverse (FrameNames (heads x)) t.frames names.values)
       (omega (arith, length-reverse t.frames, stands.few)) (beside_thread (heads x) t place around names fit)
 
   -- no step is left
-  idle_leaves : (place : Place) (w : Wait) (b : Beside) (fs : List Frame) → FramesStand x w place fs → Each (FrameNames (heads x)) fs → length fs ≤ MAX_FRAMES → BesideFits (heads x) place b
+  idle_leaves : (place : Place) (count : ℕ) (w : Wait) (b : Beside) (fs : List Frame) → FramesStand x w place fs → Each (FrameNames (heads x)) fs → length fs ≤ MAX_FRAMES → BesideFits (heads x) place count b
       → LeavesStanding x place (no_step b (map (active_of (control_of x)) fs))
-  idle_leaves place w b [] stand names few bs = absurd stand
-  idle_leaves place w b (f ∷ fs) stand names few bs =
+  idle_leaves place count w b [] stand names few bs = absurd stand
+  idle_leaves place count w b (f ∷ fs) stand names few bs =
       let frame = subst (λ p. FrameFits x p (frame_again f)) stand.0.3 (wakes f stand.0.0 stand.0.1 names.0).frame in
       let m : length (map (active_of (control_of x)) fs) ≡ length fs = length-map fs (active_of (control_of x)) in
-      no_step_leaves x leads place b (map (active_of (control_of x)) (f ∷ fs)) (record { beside = bs; frames = (frame, outer_wakes f.module fs stand.1 names.1); few = omega (arith, few, m) })
+      no_step_leaves x leads place count b (map (active_of (control_of x)) (f ∷ fs)) (record { beside = bs; frames = (frame, outer_wakes f.module fs stand.1 names.1); few = omega (arith, few, m) })
 
   -- a thread that stands, run, leaves one that stands
   leaves_standing : (t : Thread) (place : Place) (around : Around) (left : ℕ) → Stands x t place → ThreadNames (heads x) t → AroundFits (heads x) place around
       → LeavesStanding x place (go (control_of x) t around left)
   unfolding go
   leaves_standing t place around zero stands names fit =
-      idle_leaves place t.wait (beside t around) (reverse t.frames) stands.frames (each_reverse (FrameNames (heads x)) t.frames names.values)
+      idle_leaves place (length around.shared) t.wait (beside t around) (reverse t.frames) stands.frames (each_reverse (FrameNames (heads x)) t.frames names.values)
       (omega (arith, length-reverse t.frames, stands.few)) (beside_thread (heads x) t place around names fit)
   leaves_standing t place around (suc left) stands names fit =
       let first = first_point t place around stands names fit in
-      subst (LeavesStanding x place) (sym (first.goes left)) (going_leaves x leads place left first.now first.frames first.point)
+      subst (LeavesStanding x place) (sym (first.goes left)) (going_leaves x leads place (length around.shared) left first.now first.frames first.point)
 
   begins_at : (t : Thread) (place : Place) (around : Around) → Stands x t place → ThreadNames (heads x) t → AroundFits (heads x) place around
-      → (b : Beside) × (rs : List (Active (PointOf x))) × PointFits x place b rs × ((left : ℕ) → go (control_of x) t around (suc left) ≡ going (control_of x) left b rs)
+      → (b : Beside) × (rs : List (Active (PointOf x))) × PointFits x place (length around.shared) b rs × ((left : ℕ) → go (control_of x) t around (suc left) ≡ going (control_of x) left b rs)
   unfolding go
   begins_at t place around stands names fit =
       let first = first_point t place around stands names fit in
@@ -169,21 +169,21 @@ run_leaves (Tree p) is = leaves_standing (Tree p) (leads_to_points (Tree p) is)
 run_leaves (Code c) is = leaves_standing (Code c) (leads_to_points (Code c) is)
 
 pub run_begins : (x : Prog) → IsWellFormed x → (t : Thread) (place : Place) (around : Around) → Stands x t place → ThreadNames (heads x) t → AroundFits (heads x) place around
-    → (b : Beside) × (rs : List (Active (PointOf x))) × PointFits x place b rs × ((left : ℕ) → run_of x t around (suc left) ≡ going (control x) left b rs)
+    → (b : Beside) × (rs : List (Active (PointOf x))) × PointFits x place (length around.shared) b rs × ((left : ℕ) → run_of x t around (suc left) ≡ going (control x) left b rs)
 run_begins (Tree p) is = begins_at (Tree p) (leads_to_points (Tree p) is)
 run_begins (Code c) is = begins_at (Code c) (leads_to_points (Code c) is)
 
-pub run_goes_on : (x : Prog) → IsWellFormed x → (place : Place) (b : Beside) (rs : List (Active (PointOf x))) → PointFits x place b rs → GoesOnlyTo (control x) (PointFits x place) b rs
+pub run_goes_on : (x : Prog) → IsWellFormed x → (place : Place) (count : ℕ) (b : Beside) (rs : List (Active (PointOf x))) → PointFits x place count b rs → GoesOnlyTo (control x) (PointFits x place count) b rs
 run_goes_on (Tree p) is = goes_only (Tree p) (leads_to_points (Tree p) is)
 run_goes_on (Code c) is = goes_only (Code c) (leads_to_points (Code c) is)
 
-pub next_fits_there : (x : Prog) → IsWellFormed x → (place : Place) (b : Beside) (rs : List (Active (PointOf x))) → PointFits x place b rs → FrontFits x place (live (control x) rs)
+pub next_fits_there : (x : Prog) → IsWellFormed x → (place : Place) (count : ℕ) (b : Beside) (rs : List (Active (PointOf x))) → PointFits x place count b rs → FrontFits x place (live (control x) rs)
 next_fits_there (Tree p) is = next_there (Tree p) (leads_to_points (Tree p) is)
 next_fits_there (Code c) is = next_there (Code c) (leads_to_points (Code c) is)
 
-front_lands : (c : Automata) → IsWellFormed (Code c) → (place : Place) (b : Beside) (rs : List (Active Point)) → PointFits (Code c) place b rs → FrontLands c place rs
-front_lands c is place b [] f = tt
-front_lands c is place b (r ∷ rs) f = lands_on c is r.module f.frames.0.head f.frames.0.declared r.at place f.frames.0.at
+front_lands : (c : Automata) → IsWellFormed (Code c) → (place : Place) (count : ℕ) (b : Beside) (rs : List (Active Point)) → PointFits (Code c) place count b rs → FrontLands c place rs
+front_lands c is place count b [] f = tt
+front_lands c is place count b (r ∷ rs) f = lands_on c is r.module f.frames.0.head f.frames.0.declared r.at place f.frames.0.at
 
-pub run_lands : (c : Automata) → IsWellFormed (Code c) → (place : Place) (b : Beside) (rs : List (Active Point)) → PointFits (Code c) place b rs → FrontLands c place (live (code c) rs)
-run_lands c is place b rs f = front_lands c is place b (live (code c) rs) (live_point (Code c) (leads_to_points (Code c) is) place b rs f)
+pub run_lands : (c : Automata) → IsWellFormed (Code c) → (place : Place) (count : ℕ) (b : Beside) (rs : List (Active Point)) → PointFits (Code c) place count b rs → FrontLands c place (live (code c) rs)
+run_lands c is place count b rs f = front_lands c is place count b (live (code c) rs) (live_point (Code c) (leads_to_points (Code c) is) place count b rs f)

@@ -11,10 +11,13 @@ use Rattle.loft_tree.specs.declared.heads.Place.{Place}
 use Rattle.loft_tree.specs.declared.heads.SharedHead.{SharedHead}
 use Rattle.loft_tree.specs.declared.heads.Heads.{Heads}
 use Rattle.loft_sense.specs.Heads.{is_at, shared_values, rank, rank_among}
-use Rattle.loft_sense.specs.Around.{Around}
+use Rattle.loft_sense.specs.Around.{Around, Beside}
+use Rattle.loft_sense.specs.Machine.{Prog, heads}
+use Rattle.loft_sense.specs.Run.{Active}
 use Rattle.loft_sense.specs.CanGo.{is_index}
+use Rattle.loft_stand.specs.WellFormed.{PointOf}
 use Rattle.loft_stand.specs.WorkFits.{IsShared, IsEvent}
-use Rattle.loft_stand.specs.Points.{SharedFit, AroundFits}
+use Rattle.loft_stand.specs.Points.{HasValues, AroundFits, PointFits}
 use Rattle.loft_stand.proofs.ListLemmas.{within_some}
 
 fewer_kept : (x : SharedHead) (b : Bool) (front all : List SharedHead) → length front < length all → length (cond b (x ∷ front) front) < length (cond b (x ∷ all) all)
@@ -32,15 +35,20 @@ fewer_before s (y ∷ ys) zero x at kept = let same : y ≡ x = cc in one_kept y
 fewer_before s (y ∷ ys) (suc k) x at kept = fewer_kept y (is_at s y) (filter (is_at s) (take k ys)) (filter (is_at s) ys) (fewer_before s ys k x at kept)
 
 -- a shared variable of the place has a value
-pub shared_there : (h : Heads) (place : Place) (around : Around) (x : SharedId) → IsShared h place x → AroundFits h place around → (i : ℤ) × (slice_get around.shared (rank h x) ≡ Some i)
-shared_there h place around x is fit =
+shared_there : (h : Heads) (place : Place) (shared : List ℤ) (x : SharedId) → IsShared h place x → HasValues h place (length shared) → (i : ℤ) × (slice_get shared (rank h x) ≡ Some i)
+shared_there h place shared x is all_there =
     let head = is.0 in
     let s = head.scheduler in
-    let size : length around.shared ≡ length (shared_values h s) = subst (λ p. SharedFit h p around.shared) (sym is.2) fit.shared in
+    let size : length shared ≡ length (shared_values h s) = subst (λ p. HasValues h p (length shared)) (sym is.2) all_there in
     let all : length (shared_values h s) ≡ length (filter (is_at s) h.shared) = length-map (filter (is_at s) h.shared) (λ y. y.value) in
     let before : length (filter (is_at s) (take x.0 h.shared)) < length (filter (is_at s) h.shared) = fewer_before s h.shared x.0 head is.1 (eq-eqb s.0 s.0 refl) in
     let same : rank h x ≡ length (filter (is_at s) (take x.0 h.shared)) = ap (λ o. rank_among (take x.0 h.shared) o) is.1 in
-    within_some around.shared (rank h x) (omega (arith, size, all, before, same))
+    within_some shared (rank h x) (omega (arith, size, all, before, same))
+
+-- so it is at each point of a run that begins with a value for each
+pub shared_at_point : (x : Prog) (place : Place) (count : ℕ) (b : Beside) (rs : List (Active (PointOf x))) → PointFits x place count b rs → HasValues (heads x) place count
+    → (y : SharedId) → IsShared (heads x) place y → (i : ℤ) × (slice_get b.around.shared (rank (heads x) y) ≡ Some i)
+shared_at_point x place count b rs f all_there y is = shared_there (heads x) place b.around.shared y is (subst (HasValues (heads x) place) (sym f.beside.shared) all_there)
 
 -- the board has room for an event
 pub event_there : (h : Heads) (place : Place) (around : Around) (e : EventId) → IsEvent h place e → AroundFits h place around → e.0 < length around.board

@@ -6,3 +6,4 @@ pub mod WorkAgrees
 pub mod Points
 pub mod Machines
 pub mod Alike
+pub mod Threads

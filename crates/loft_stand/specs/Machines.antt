@@ -1,5 +1,5 @@
 -- Machines and what they send, as threads that stand leave them (docs/SEMANTICS.md, "Instant" and "Fits").
-use Rattle.std.specs.Prelude.{◌≡◌, length}
+use Rattle.std.specs.Prelude.{◌≡◌, IsTrue}
 use Rattle.loft_base.specs.declared.ids.SchedId.{SchedId}
 use Rattle.loft_tree.specs.declared.heads.Place.{Place}
 use Rattle.loft_tree.specs.declared.heads.Place.TheVariants.{Sched, Unlinked}
@@ -12,37 +12,29 @@ use Rattle.loft_sense.specs.declared.order.To.{To}
 use Rattle.loft_sense.specs.declared.order.To.TheVariants as to
 use Rattle.loft_sense.specs.declared.thread.Thread.{Thread}
 use Rattle.loft_sense.specs.declared.thread.Wait.TheVariants.{New}
-use Rattle.loft_sense.specs.Heads.{shared_values}
 use Rattle.loft_sense.specs.Machine.{Prog, heads, Mach}
 use Rattle.loft_sense.specs.Stands.{Stands}
 use Rattle.loft_sense.specs.Fits.{ThreadNames, Fits}
+use Rattle.loft_sense.specs.History.{is_addressed}
 
 -- the thread stands at this place, and names only declared threads
 abbrev pub ThreadFits : Prog → Place → Thread → Type 0
 ThreadFits x place t = Stands x t place × ThreadNames (heads x) t
 
--- a declared scheduler whose threads stand there, with a value for each of its shared variables
+-- a declared scheduler whose threads stand there
 pub record MachFits (x : Prog) (m : Mach) : Type 0 where
   pub declared : IsScheduler (heads x) m.s
   pub linked : Each (λ s. ThreadFits x (Sched m.s) s.thread) m.linked
-  pub shared : length m.shared ≡ length (shared_values (heads x) m.s)
 
--- for the workers: a thread that stands unlinked
+-- what goes to the workers fits: a thread that arrives there is new and stands unlinked
 abbrev pub IsForWorkers : Prog → Order → Type 0
-IsForWorkers x (order.Create t m args) = ⊥
 IsForWorkers x (order.Arrive t) = (t.wait ≡ New) × ThreadFits x Unlinked t
-IsForWorkers x (order.Stop t) = ⊥
-IsForWorkers x (order.Suspend t) = ⊥
-IsForWorkers x (order.Resume t) = ⊥
-IsForWorkers x (order.Broadcast e v) = ⊥
-IsForWorkers x (order.Ended t end) = ⊥
+IsForWorkers x o = Unit {0}
 
--- the order fits at each scheduler to which it may be addressed
+-- the order fits as it is addressed: at each scheduler to which it goes, or with the workers
 abbrev pub FitsAt : Prog → To → Order → Type 0
-FitsAt x (to.Sched s) o = Fits x s o
-FitsAt x (to.Others s) o = (q : SchedId) → Fits x q o
-FitsAt x to.All o = (q : SchedId) → Fits x q o
 FitsAt x to.Workers o = IsForWorkers x o
+FitsAt x to o = (q : SchedId) → IsScheduler (heads x) q → IsTrue (is_addressed q to) → Fits x q o
 
 abbrev pub SentFits : Prog → Sent → Type 0
 SentFits x sent = FitsAt x sent.to sent.order

@@ -1,5 +1,5 @@
 -- Points of a run at which all is there that the thread asks for (docs/SEMANTICS.md, "Stands").
-use Rattle.std.specs.Prelude.{◌≡◌, ◌≤◌, IsTrue, true, ℕ, ℤ, List, [], ◌∷◌, length, Some, None, slice_get}
+use Rattle.std.specs.Prelude.{◌≡◌, ◌≤◌, IsTrue, true, ℕ, List, [], ◌∷◌, length, Some, None, slice_get}
 use Rattle.loft_base.specs.declared.ids.ModuleId.{ModuleId}
 use Rattle.loft_base.specs.declared.ids.SchedId.{SchedId}
 use Rattle.loft_base.specs.declared.ids.Value.{Value}
@@ -46,10 +46,10 @@ ValuesFit h [] (v ∷ vs) = ⊥
 ValuesFit h (kind ∷ kinds) [] = ⊥
 ValuesFit h (kind ∷ kinds) (v ∷ vs) = ValueFits h kind v × ValuesFit h kinds vs
 
--- a value for each shared variable of the place
-abbrev pub SharedFit : Heads → Place → List ℤ → Type 0
-SharedFit h (Sched s) shared = length shared ≡ length (shared_values h s)
-SharedFit h Unlinked shared = Unit {0}
+-- so many shared values are one for each shared variable of the place
+abbrev pub HasValues : Heads → Place → ℕ → Type 0
+HasValues h (Sched s) count = count ≡ length (shared_values h s)
+HasValues h Unlinked count = Unit {0}
 
 -- an order that a statement may send to a scheduler
 abbrev pub OrderFits : Heads → SchedId → Order → Type 0
@@ -75,19 +75,19 @@ ActFits h (act.Gen t event value) = Unit {0}
 ActFits h (act.Out t sent) = OutFits h sent.to sent.order
 ActFits h (act.End t end) = IsThread h t × EndNames h end
 
--- What stands around a thread that is linked at this place: the place is declared, its shared variables have values, the
--- board has room for each event, and what was done in this instant so far fits.
+-- What stands around a thread that is linked at this place: the place is declared, the board has room for each event, and what
+-- was done in this instant so far fits.
 pub record AroundFits (h : Heads) (place : Place) (around : Around) : Type 0 where
   pub declared : IsPlace h place
   pub there : around.place ≡ place
-  pub shared : SharedFit h place around.shared
   pub board : length around.board ≡ length h.events
   pub acts : Each (ActFits h) around.acts
 
--- what stands beside the frames of such a thread
-pub record BesideFits (h : Heads) (place : Place) (b : Beside) : Type 0 where
+-- what stands beside the frames of such a thread, with so many shared values
+pub record BesideFits (h : Heads) (place : Place) (count : ℕ) (b : Beside) : Type 0 where
   pub id : IsThread h b.id
   pub around : AroundFits h place b.around
+  pub shared : length b.around.shared ≡ count
 
 -- ---- points of a module
 
@@ -123,9 +123,9 @@ abbrev pub FramesFit : (x : Prog) → Place → List (Active (PointOf x)) → Ty
 FramesFit x place [] = Unit {0}
 FramesFit x place (r ∷ rs) = FrameFits x place r × OuterFit x r.module rs
 
--- a point of a run
-pub record PointFits (x : Prog) (place : Place) (b : Beside) (rs : List (Active (PointOf x))) : Type 0 where
-  pub beside : BesideFits (heads x) place b
+-- a point of a run, with so many shared values
+pub record PointFits (x : Prog) (place : Place) (count : ℕ) (b : Beside) (rs : List (Active (PointOf x))) : Type 0 where
+  pub beside : BesideFits (heads x) place count b
   pub frames : FramesFit x place rs
   pub few : length rs ≤ MAX_FRAMES
 

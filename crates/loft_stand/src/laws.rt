@@ -38,7 +38,7 @@ ghost use Rattle.loft_stand.specs.WellFormed.{IsWellFormed, PointOf, control};
 ghost use Rattle.loft_stand.specs.Numbered.{IsNumbered};
 ghost use Rattle.loft_stand.specs.Left.{IsLeft, LeavesAfter};
 ghost use Rattle.loft_stand.specs.WorkFits.{IsShared, IsEvent, HasKind, ArgumentsFit};
-ghost use Rattle.loft_stand.specs.Points.{ValueFits, ValuesFit, AroundFits, PointFits};
+ghost use Rattle.loft_stand.specs.Points.{ValueFits, ValuesFit, HasValues, AroundFits, PointFits};
 ghost use Rattle.loft_stand.specs.Points.{FrontFits, FrontLands, GoesOnlyTo, LeavesStanding};
 ghost use Rattle.loft_stand.specs.Machines.{ThreadFits, MachFits, SentFits};
 
@@ -67,34 +67,39 @@ pub fn threads_keep_standing()
 {}
 
 /// A thread that stands in a well-formed program and is run there finds all that it asks for. It
-/// goes on at a point that fits, and each step from such a point goes on only at such points. What
-/// comes next at one names only what is declared and there, with the kinds that it takes: each
-/// slot has a value of its kind, each shared variable a value, each event its room on the board,
-/// each stop what it waits for, each index that a wait for a value ends with its value, and each
-/// expression a value of its kind, unless a divisor is 0. In code what comes next is an operation
-/// that is there and no jump, where the thread is linked and with as many counts as its depth, and
-/// a `turn` has a count.
+/// goes on at a point that fits, and each step from such a point goes on only at such points, with
+/// as many shared values. What comes next at one names only what is declared and there, with the
+/// kinds that it takes: each slot has a value of its kind, each event its room on the board, each
+/// stop what it waits for, each index that a wait for a value ends with its value, and each
+/// expression a value of its kind, unless a divisor is 0. Where there are as many shared values as
+/// shared variables, as there are in each machine of a history, each has its value. In code what
+/// comes next is an operation that is there and no jump, where the thread is linked and with as many
+/// counts as its depth, and a `turn` has a count.
 pub fn well_formed_programs_never_stick()
     ensures begins { (x : Prog) → IsWellFormed x
         → (t : Thread) (place : Place) (around : Around)
         → Stands x t place → ThreadNames (heads x) t → AroundFits (heads x) place around
-        → (b : Beside) × (rs : List (Active (PointOf x))) × PointFits x place b rs
+        → (b : Beside) × (rs : List (Active (PointOf x)))
+        × PointFits x place (length around.shared) b rs
         × ((left : ℕ) → run_of x t around (suc left) ≡ going (control x) left b rs) }
     ensures goes_on { (x : Prog) → IsWellFormed x
-        → (place : Place) (b : Beside) (rs : List (Active (PointOf x))) → PointFits x place b rs
-        → GoesOnlyTo (control x) (PointFits x place) b rs }
+        → (place : Place) (count : ℕ) (b : Beside) (rs : List (Active (PointOf x)))
+        → PointFits x place count b rs
+        → GoesOnlyTo (control x) (PointFits x place count) b rs }
     ensures next { (x : Prog) → IsWellFormed x
-        → (place : Place) (b : Beside) (rs : List (Active (PointOf x))) → PointFits x place b rs
-        → FrontFits x place (live (control x) rs) }
+        → (place : Place) (count : ℕ) (b : Beside) (rs : List (Active (PointOf x)))
+        → PointFits x place count b rs → FrontFits x place (live (control x) rs) }
     ensures operations { (c : Automata) → IsWellFormed (Code c)
-        → (place : Place) (b : Beside) (rs : List (Active Point)) → PointFits (Code c) place b rs
-        → FrontLands c place (live (code c) rs) }
+        → (place : Place) (count : ℕ) (b : Beside) (rs : List (Active Point))
+        → PointFits (Code c) place count b rs → FrontLands c place (live (code c) rs) }
     ensures slots { (h : Heads) (slots : List Kind) (values : List Value) (k : ℕ) (kind : Kind)
         → ValuesFit h slots values → slice_get slots k ≡ Some kind
         → (v : Value) × (slice_get values k ≡ Some v) × ValueFits h kind v }
-    ensures shared { (h : Heads) (place : Place) (around : Around) (y : SharedId)
-        → IsShared h place y → AroundFits h place around
-        → (i : ℤ) × (slice_get around.shared (rank h y) ≡ Some i) }
+    ensures shared { (x : Prog)
+        → (place : Place) (count : ℕ) (b : Beside) (rs : List (Active (PointOf x)))
+        → PointFits x place count b rs → HasValues (heads x) place count
+        → (y : SharedId) → IsShared (heads x) place y
+        → (i : ℤ) × (slice_get b.around.shared (rank (heads x) y) ≡ Some i) }
     ensures events { (h : Heads) (place : Place) (around : Around) (e : EventId)
         → IsEvent h place e → AroundFits h place around → e.0 < length around.board }
     ensures pauses { (x : Prog) (m : ModuleId) (k : ℕ) (at : StopAt) (pause : Pause)
@@ -128,12 +133,15 @@ pub fn instants_keep_standing()
         → (limits : Limits) (m : Mach) (batch : List Order)
         → MachFits x m → All (Fits x m.s) batch
         → let sent = (instant x limits m batch).note.sent in
-        All (SentFits x) sent × ((s : SchedId) → All (Fits x s) (orders_to s sent)) }
+        All (SentFits x) sent × ((s : SchedId) → IsScheduler (heads x) s
+        → All (Fits x s) (orders_to s sent)) }
     ensures unlinked { (x : Prog) → IsWellFormed x
         → (t : Thread) (block : ℕ) → ThreadFits x Unlinked t
         → let sent = async x t block in
-        All (SentFits x) sent × ((s : SchedId) → All (Fits x s) (orders_to s sent)) }
+        All (SentFits x) sent × ((s : SchedId) → IsScheduler (heads x) s
+        → All (Fits x s) (orders_to s sent)) }
     ensures clients { (x : Prog) → IsWellFormed x
         → (c : ℕ) → let sent = outside_of (heads x) c in
-        All (SentFits x) sent × ((s : SchedId) → All (Fits x s) (orders_to s sent)) }
+        All (SentFits x) sent × ((s : SchedId) → IsScheduler (heads x) s
+        → All (Fits x s) (orders_to s sent)) }
 {}

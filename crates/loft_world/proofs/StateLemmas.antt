@@ -4,6 +4,7 @@ use Rattle.std.proofs.lemmas.List.{take_at, set-set, set-get_or}
 use Prim.Native.Nat.{zero}
 use Rattle.std.specs.Prelude.{if◌then◌else◌, OnOk, OnErr}
 use Rattle.std.proofs.lemmas.Bool.{cases_eq}
+use Rattle.std.proofs.lemmas.List.Sums.{fold_push}
 use mathlib.Core.Logic.{◌⊎◌, inl, inr}
 use Rattle.loft_base.specs.declared.ids.SchedId.{SchedId}
 use Rattle.loft_tree.specs.declared.heads.Heads.{Heads}
@@ -12,10 +13,10 @@ use Rattle.loft_sense.specs.declared.entry.Entry.TheVariants.{Take, Give, Pick, 
 use Rattle.loft_sense.specs.declared.order.Order.{Order}
 use Rattle.loft_sense.specs.declared.order.Sent.{Sent}
 use Rattle.loft_sense.specs.declared.thread.Thread.{Thread}
-use Rattle.loft_sense.specs.Heads.{same_scheduler}
-use Rattle.loft_sense.specs.History.{orders_to, starts_of, waiting_after, waiting, jobs_sent, jobs_after, jobs, is_create, creates_after, creates}
+use Rattle.loft_sense.specs.Heads.{scheduler}
+use Rattle.loft_sense.specs.History.{sends, orders_to, starts_of, waiting_after, waiting, jobs_sent, jobs_after, jobs, is_create, creates_after, creates, creates_step, jobs_step, waiting_step}
 use Rattle.loft_sense.specs.Legal.{AtEach, TakesDue, IsFirst}
-use Rattle.loft_world.specs.State.{scheduler, each_with, IsWorld, sends, IsSending}
+use Rattle.loft_world.specs.State.{each_with, IsWorld, IsSending}
 
 -- ---- entries in order
 
@@ -39,30 +40,6 @@ at_each-append P (d ∷ es) e each now (b ∷ before) f after q =
     (at_each-append (λ (l : List Entry). P (d ∷ l)) es e (λ l g k r. each (d ∷ l) g k (ap (λ (m : List Entry). d ∷ m) r)) now before f after (same_rest q))
 
 -- ---- one entry more
-
-waiting_after-append : (s : SchedId) (before : List Order) (es : List Entry) (e : Entry) → waiting_after s before (es ++ e ∷ []) ≡ waiting_after s (waiting_after s before es) (e ∷ [])
-waiting_after-append s before [] e = refl
-waiting_after-append s before (Take q batch ∷ es) e = waiting_after-append s (if same_scheduler s q then [] else before) es e
-waiting_after-append s before (Give q sent ∷ es) e = waiting_after-append s (before ++ orders_to s sent) es e
-waiting_after-append s before (Pick w job ∷ es) e = waiting_after-append s before es e
-waiting_after-append s before (Post w sent ∷ es) e = waiting_after-append s (before ++ orders_to s (sent ∷ [])) es e
-waiting_after-append s before (Client c sent ∷ es) e = waiting_after-append s (before ++ orders_to s (sent ∷ [])) es e
-
-jobs_after-append : (before : List Thread) (es : List Entry) (e : Entry) → jobs_after before (es ++ e ∷ []) ≡ jobs_after (jobs_after before es) (e ∷ [])
-jobs_after-append before [] e = refl
-jobs_after-append before (Take s batch ∷ es) e = jobs_after-append before es e
-jobs_after-append before (Give s sent ∷ es) e = jobs_after-append (before ++ jobs_sent sent) es e
-jobs_after-append before (Pick w job ∷ es) e = jobs_after-append (drop 1 before) es e
-jobs_after-append before (Post w sent ∷ es) e = jobs_after-append (before ++ jobs_sent (sent ∷ [])) es e
-jobs_after-append before (Client c sent ∷ es) e = jobs_after-append (before ++ jobs_sent (sent ∷ [])) es e
-
-creates_after-append : (c before : ℕ) (es : List Entry) (e : Entry) → creates_after c before (es ++ e ∷ []) ≡ creates_after c (creates_after c before es) (e ∷ [])
-creates_after-append c before [] e = refl
-creates_after-append c before (Take s batch ∷ es) e = creates_after-append c before es e
-creates_after-append c before (Give s sent ∷ es) e = creates_after-append c before es e
-creates_after-append c before (Pick w job ∷ es) e = creates_after-append c before es e
-creates_after-append c before (Post w sent ∷ es) e = creates_after-append c before es e
-creates_after-append c before (Client d sent ∷ es) e = creates_after-append c (if c == d && is_create sent.order then before + 1 else before) es e
 
 one_or_none : (b : Bool) (n : ℕ) → (if b then n + 1 else n) ≤ n + 1
 one_or_none true n = omega arith
@@ -162,14 +139,14 @@ sending h es waits threads count counted e sent w only what counts = record {
         ∙ ap (λ (l : List Order). l ++ orders_to (scheduler k) sent) (w.orders.each k d within)
         ∙ ap (λ (m : List Sent). waiting h (scheduler k) es ++ orders_to (scheduler k) m) (sym what)
         ∙ adds_orders (scheduler k) (waiting h (scheduler k) es) e only
-        ∙ sym (waiting_after-append (scheduler k) (starts_of h (scheduler k)) es e);
+        ∙ sym (fold_push (waiting_step (scheduler k)) (starts_of h (scheduler k)) es e);
   };
   unlinked =
       ap (λ (l : List Thread). l ++ jobs_sent sent) w.unlinked
       ∙ ap (λ (m : List Sent). jobs es ++ jobs_sent m) (sym what)
       ∙ adds_jobs (jobs es) e only
-      ∙ sym (jobs_after-append [] es e);
-  clients = λ c. counts c ∙ ap (λ n. creates_after c n (e ∷ [])) (w.clients c) ∙ sym (creates_after-append c 0 es e);
+      ∙ sym (fold_push jobs_step [] es e);
+  clients = λ c. counts c ∙ ap (λ n. creates_after c n (e ∷ [])) (w.clients c) ∙ sym (fold_push (creates_step c) 0 es e);
 }
 
 -- ---- entries that take
@@ -189,20 +166,20 @@ taking h es waits threads count s batch w declared due = record {
     many = length-set waits s.0 [] ∙ w.orders.many;
     each = λ k d within. by k d within (cases_eq k s.0);
   };
-  unlinked = w.unlinked ∙ sym (jobs_after-append [] es (Take s batch));
-  clients = λ c. w.clients c ∙ sym (creates_after-append c 0 es (Take s batch));
+  unlinked = w.unlinked ∙ sym (fold_push jobs_step [] es (Take s batch));
+  clients = λ c. w.clients c ∙ sym (fold_push (creates_step c) 0 es (Take s batch));
 }
   where
     by : (k : ℕ) (d : List Order) → k < length h.schedulers → (k ≡ s.0) ⊎ (k ≡ s.0 → ⊥) → get_or (set waits s.0 []) k d ≡ waiting h (scheduler k) (es ++ Take s batch ∷ [])
     by k d within (inl same) =
         ap (λ n. get_or (set waits s.0 []) n d) same
         ∙ get_or-set_same waits s.0 [] d (omega (arith, w.orders.many))
-        ∙ sym (waiting_after-append (scheduler k) (starts_of h (scheduler k)) es (Take s batch)
+        ∙ sym (fold_push (waiting_step (scheduler k)) (starts_of h (scheduler k)) es (Take s batch)
         ∙ ap (λ n. if n == s.0 then [] else waiting h (scheduler k) es) same ∙ taken_here s.0 [] (waiting h (scheduler k) es))
     by k d within (inr apart) =
         get_or-set_other waits s.0 k [] d apart
         ∙ w.orders.each k d within
-        ∙ sym (waiting_after-append (scheduler k) (starts_of h (scheduler k)) es (Take s batch) ∙ taken_there k s.0 [] (waiting h (scheduler k) es) apart)
+        ∙ sym (fold_push (waiting_step (scheduler k)) (starts_of h (scheduler k)) es (Take s batch) ∙ taken_there k s.0 [] (waiting h (scheduler k) es) apart)
 
 -- the first element and the rest of a list that has one
 pub first_and_rest : (first : Thread) (all rest : List Thread) → 0 < length all → first ≡ get_or all 0 first → rest ≡ drop 1 all → all ≡ first ∷ rest
@@ -222,10 +199,10 @@ picking h es waits threads rest count n job w first =
       routed = at_each-append (TakesDue h) es (Pick n job) w.routed (first_of_jobs job rest (jobs es) all);
       orders = record {
         many = w.orders.many;
-        each = λ k d within. w.orders.each k d within ∙ sym (waiting_after-append (scheduler k) (starts_of h (scheduler k)) es (Pick n job));
+        each = λ k d within. w.orders.each k d within ∙ sym (fold_push (waiting_step (scheduler k)) (starts_of h (scheduler k)) es (Pick n job));
       };
-      unlinked = ap (drop 1) all ∙ sym (jobs_after-append [] es (Pick n job));
-      clients = λ c. w.clients c ∙ sym (creates_after-append c 0 es (Pick n job));
+      unlinked = ap (drop 1) all ∙ sym (fold_push jobs_step [] es (Pick n job));
+      clients = λ c. w.clients c ∙ sym (fold_push (creates_step c) 0 es (Pick n job));
     }
 
 -- what a world keeps, along equations of its parts

@@ -2,16 +2,17 @@
 use Rattle.std.specs.Prelude.{◌≡◌, ℕ, ◌+◌, ◌<◌, List, [], ◌∷◌, ◌++◌, length, slice_index_or, unwrap_or}
 use Rattle.std.specs.Ordering.{nat_cmp}
 use Rattle.std.specs.BTreeMap.{BTreeMap, get}
-use Rattle.loft_base.specs.declared.ids.SchedId.{SchedId}
 use Rattle.loft_tree.specs.declared.heads.Heads.{Heads}
+use Rattle.loft_tree.specs.NamedFits.{IsScheduler}
 use Rattle.loft_sense.specs.declared.entry.Entry.{Entry}
 use Rattle.loft_sense.specs.declared.entry.Entry.TheVariants as entry
 use Rattle.loft_sense.specs.declared.order.Order.{Order}
-use Rattle.loft_sense.specs.declared.order.Order.TheVariants.{Create, Arrive, Stop, Suspend, Resume, Broadcast, Ended}
+use Rattle.loft_sense.specs.declared.order.Order.TheVariants.{Arrive, Ended}
 use Rattle.loft_sense.specs.declared.order.Sent.{Sent}
 use Rattle.loft_sense.specs.declared.order.To.{To}
-use Rattle.loft_sense.specs.declared.order.To.TheVariants.{Sched, Others, All, Workers}
+use Rattle.loft_sense.specs.declared.order.To.TheVariants.{Sched}
 use Rattle.loft_sense.specs.declared.thread.Thread.{Thread}
+use Rattle.loft_sense.specs.Heads.{scheduler}
 use Rattle.loft_sense.specs.History.{orders_to, waiting, jobs, creates}
 use Rattle.loft_sense.specs.Legal.{IsRouted}
 
@@ -27,31 +28,18 @@ no_entries h = record { heads = h; history = [] }
 abbrev pub with_entry : State → Entry → State
 with_entry w e = record w { history = w.history ++ e ∷ [] }
 
-abbrev pub IsScheduler : Heads → SchedId → Type 0
-IsScheduler h s = s.0 < length h.schedulers
-
 -- the address is one declared scheduler
 abbrev pub IsToOne : Heads → To → Type 0
 IsToOne h (Sched s) = IsScheduler h s
-IsToOne h (Others s) = ⊥
-IsToOne h All = ⊥
-IsToOne h Workers = ⊥
+IsToOne h to = ⊥
 
 -- an order of a kind that clients give: a thread's leaving and its end come from threads alone
 abbrev pub IsForClients : Order → Type 0
-IsForClients (Create t m arguments) = Unit {0}
 IsForClients (Arrive t) = ⊥
-IsForClients (Stop t) = Unit {0}
-IsForClients (Suspend t) = Unit {0}
-IsForClients (Resume t) = Unit {0}
-IsForClients (Broadcast event value) = Unit {0}
 IsForClients (Ended t end) = ⊥
+IsForClients order = Unit {0}
 
 -- ---- what lies beside the history
-
--- the scheduler of this index
-abbrev pub scheduler : ℕ → SchedId
-scheduler k = record { 0 = k }
 
 -- what waits for each scheduler, the first of which has index k, with what is sent
 abbrev pub each_with : ℕ → List Sent → List (List Order) → List (List Order)
@@ -74,18 +62,8 @@ pub record IsWorld (h : Heads) (es : List Entry) (waits : List (List Order)) (th
   pub unlinked : threads ≡ jobs es
   pub clients : (c : ℕ) → count c ≡ creates c es
 
--- what an entry sends
-abbrev pub sends : Entry → List Sent
-sends (entry.Take s batch) = []
-sends (entry.Give s sent) = sent
-sends (entry.Pick w job) = []
-sends (entry.Post w sent) = sent ∷ []
-sends (entry.Client c sent) = sent ∷ []
-
 -- an entry of a scheduler or a worker that only sends
 abbrev pub IsSending : Entry → Type 0
-IsSending (entry.Take s batch) = ⊥
 IsSending (entry.Give s sent) = Unit {0}
-IsSending (entry.Pick w job) = ⊥
 IsSending (entry.Post w sent) = Unit {0}
-IsSending (entry.Client c sent) = ⊥
+IsSending e = ⊥

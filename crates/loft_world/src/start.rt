@@ -4,7 +4,8 @@ ghost use Rattle.std.specs.Prelude.{◌≡◌, [], ◌∷◌, ◌++◌, length, 
 ghost use Rattle.loft_base.specs.declared.ids.Maker.TheVariants.{Source};
 ghost use Rattle.loft_sense.specs.declared.order.Order.TheVariants.{Create};
 ghost use Rattle.loft_sense.specs.History.{starts_of};
-ghost use Rattle.loft_world.specs.State.{scheduler, AreEach};
+ghost use Rattle.loft_sense.specs.Heads.{scheduler};
+ghost use Rattle.loft_world.specs.State.{AreEach};
 
 use loft_base::{Maker, NoMemory, Sequence, ThreadId};
 use loft_sense::{Order, Orders};

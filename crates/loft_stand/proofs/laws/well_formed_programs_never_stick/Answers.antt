@@ -1,7 +1,7 @@
 use Rattle.loft_stand.proofs.ValueLemmas.{value_at, eval_fits, eval_all_fits}
 use Rattle.loft_stand.proofs.ProgramLemmas.{pause_found}
 use Rattle.loft_stand.proofs.StandLemmas.{run_begins, run_goes_on, next_fits_there, run_lands}
-use Rattle.loft_stand.proofs.ThereLemmas.{shared_there, event_there, index_there}
+use Rattle.loft_stand.proofs.ThereLemmas.{shared_at_point, event_there, index_there}
 use Rattle.loft_stand.proofs.laws.well_formed_programs_never_stick.Goals as goal
 
 pub returns-clause-begins : goal.returns-clause-begins
@@ -20,7 +20,7 @@ pub returns-clause-slots : goal.returns-clause-slots
 returns-clause-slots c = value_at
 
 pub returns-clause-shared : goal.returns-clause-shared
-returns-clause-shared c = shared_there
+returns-clause-shared c = shared_at_point
 
 pub returns-clause-events : goal.returns-clause-events
 returns-clause-events c = event_there

@@ -1,6 +1,6 @@
 use Rattle.std.proofs.Common.{◌≡◌, ◌++◌, ◌≤◌, drop, take, length}
 use Rattle.loft_sense.specs.History.{orders_to}
-use Rattle.loft_world.specs.State.{scheduler}
+use Rattle.loft_sense.specs.Heads.{scheduler}
 use Rattle.loft_world.proofs.orders.add_some.Given as goal
 
 -- the orders so far and those of the rest are all of them, and those that were there come first

@@ -1,6 +1,6 @@
 use Rattle.std.proofs.Common.{◌≡◌, ◌++◌, drop}
 use Rattle.loft_sense.specs.History.{starts_from}
-use Rattle.loft_world.specs.State.{scheduler}
+use Rattle.loft_sense.specs.Heads.{scheduler}
 use Rattle.loft_world.proofs.start.starts_at.Given as goal
 
 -- the creates so far, and those of the starts that are left

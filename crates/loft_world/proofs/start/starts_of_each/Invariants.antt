@@ -1,5 +1,6 @@
 use Rattle.loft_sense.specs.History.{starts_of}
-use Rattle.loft_world.specs.State.{scheduler, AreEach}
+use Rattle.loft_sense.specs.Heads.{scheduler}
+use Rattle.loft_world.specs.State.{AreEach}
 use Rattle.loft_world.proofs.start.starts_of_each.Given as goal
 
 -- those of the schedulers so far

@@ -5,7 +5,8 @@ use Rattle.loft_sense.specs.declared.order.Order.{Order}
 use Rattle.loft_sense.specs.declared.thread.Thread.{Thread}
 use Rattle.loft_sense.specs.History.{starts_of}
 use Rattle.loft_sense.specs.Legal.{TakesDue}
-use Rattle.loft_world.specs.State.{scheduler, AreEach, IsWorld, count_in}
+use Rattle.loft_sense.specs.Heads.{scheduler}
+use Rattle.loft_world.specs.State.{AreEach, IsWorld, count_in}
 use Rattle.loft_world.proofs.world.World.make.Goals as goal
 
 due_in_none : (h : Heads) (before : List Entry) (e : Entry) (after : List Entry) → [] ≡ before ++ e ∷ after → TakesDue h before e
