@@ -1,17 +1,13 @@
 -- The orders of clients, one by one.
-use Rattle.std.proofs.Common.{arith, ◌≡◌, ℕ, zero, suc, ◌+◌, ◌<◌, List, [], ◌∷◌, length, refl, ◌∙◌, ap, subst, Some, None, slice_get}
+use Rattle.std.proofs.Common.{arith, ◌≡◌, ℕ, zero, suc, ◌+◌, List, [], ◌∷◌, refl, ◌∙◌, ap, subst, Some, None, slice_get}
 use Rattle.std.specs.Prelude.{drop, if◌then◌else◌}
-use Rattle.loft_base.specs.declared.ids.EventId.{EventId}
 use Rattle.loft_tree.specs.declared.kinds.Control.TheVariants as control
 use Rattle.loft_tree.specs.declared.heads.ClientOrder.{ClientOrder}
 use Rattle.loft_tree.specs.declared.heads.ClientOrder.TheVariants as client
 use Rattle.loft_tree.specs.declared.heads.Heads.{Heads}
-use Rattle.loft_tree.specs.Fits.{Each}
 use Rattle.loft_sense.specs.declared.order.Sent.{Sent}
-use Rattle.loft_sense.specs.Machine.{Prog, heads}
 use Rattle.loft_sense.specs.Clients.{orders_from}
 use Rattle.loft_sense.specs.History.{is_create}
-use Rattle.loft_sense.specs.Legal.{FitsOne}
 
 one_on : (i : ℕ) → suc (i + 1) ≡ suc i + 1
 one_on i = omega arith
@@ -28,20 +24,7 @@ none_there [] (suc i) e = refl
 none_there (x ∷ xs) zero e = cc
 none_there (x ∷ xs) (suc i) e = none_there xs i e
 
-abbrev IsFine : Prog → Sent → Type 0
-IsFine x m = FitsOne x m.to m.order
-
--- the first of some orders fits where all do
-pub first_fits : (x : Prog) (c k : ℕ) (q : ClientOrder) (os : List ClientOrder) → Each (IsFine x) (orders_from (heads x) c k (q ∷ os)) → Each (IsFine x) (orders_from (heads x) c k (q ∷ []))
-first_fits x c k (client.Create s m arguments) os f = (f.0, tt)
-first_fits x c k (client.Control control t s) os f = (f.0, tt)
-first_fits x c k (client.Broadcast e v) os f = (f.0, tt)
-
--- an event that a client broadcasts is declared
-pub event_there : (x : Prog) (c k : ℕ) (q : ClientOrder) (e : EventId) (v : _) → q ≡ client.Broadcast e v → Each (IsFine x) (orders_from (heads x) c k (q ∷ [])) → e.0 < length (heads x).events
-event_there x c k q e v is f = (subst (λ (p : ClientOrder). Each (IsFine x) (orders_from (heads x) c k (p ∷ []))) is f).0.1.declared
-
-abbrev Continues : Heads → ℕ → ℕ → ClientOrder → List ClientOrder → Sent → Type 0
+abbrev pub Continues : Heads → ℕ → ℕ → ClientOrder → List ClientOrder → Sent → Type 0
 Continues h c k q os m = orders_from h c k (q ∷ os) ≡ m ∷ orders_from h c (if is_create m.order then k + 1 else k) os
 
 goes_on : (h : Heads) (c k : ℕ) (q : ClientOrder) (os : List ClientOrder) (own m : Sent) → Continues h c k q os own → own ≡ m → Continues h c k q os m
