@@ -1,5 +1,5 @@
 -- How a scheduler stands, by one entry more.
-use Rattle.std.proofs.Common.{arith, ◌≡◌, ℕ, suc, ◌-◌, Bool, true, false, List, [], ◌∷◌, ◌++◌, length, refl, sym, ◌∙◌, ap, subst, append-nil, ◌||◌, Some, Result, Ok, Err, slice_get}
+use Rattle.std.proofs.Common.{arith, ◌≡◌, ℕ, suc, ◌-◌, Bool, true, false, List, [], ◌∷◌, ◌++◌, length, sym, ◌∙◌, ap, subst, append-nil, ◌||◌, Some, Result, Ok, Err, slice_get}
 use Rattle.std.specs.Prelude.{OnOk, ◌↔◌, if◌then◌else◌, not, ◌&&◌}
 use Rattle.loft_base.specs.declared.ids.SchedId.{SchedId}
 use Rattle.loft_sense.specs.declared.entry.Actor.TheVariants as actor

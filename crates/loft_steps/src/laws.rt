@@ -1,8 +1,8 @@
 //! Laws of the parts of turns and jobs. Each is what the contract of an empty function says.
 
-ghost use Rattle.std.specs.Prelude.{◌≡◌, ◌++◌, ◌∷◌, [], ◌↔◌, ℕ, true, false, not, List};
+ghost use Rattle.std.specs.Prelude.{◌≡◌, ◌++◌, ◌∷◌, [], ◌↔◌, ℕ, true, false, length, not, List};
 ghost use Rattle.loft_base.specs.declared.ids.SchedId.{SchedId};
-ghost use Rattle.loft_sense.specs.declared.entry.Actor.TheVariants.{Sched};
+ghost use Rattle.loft_sense.specs.declared.entry.Actor.TheVariants.{Client, Sched};
 ghost use Rattle.loft_sense.specs.declared.entry.Entry.{Entry};
 ghost use Rattle.loft_sense.specs.declared.entry.Entry.TheVariants.{Take, Give, Pick, Post};
 ghost use Rattle.loft_sense.specs.declared.limits.Limits.{Limits};
@@ -12,10 +12,13 @@ ghost use Rattle.loft_sense.specs.declared.order.Order.{Order};
 ghost use Rattle.loft_sense.specs.declared.order.Sent.{Sent};
 ghost use Rattle.loft_sense.specs.declared.thread.Thread.{Thread};
 ghost use Rattle.loft_sense.specs.Async.{async};
+ghost use Rattle.loft_sense.specs.Clients.{outside_of};
 ghost use Rattle.loft_sense.specs.Machine.{Prog, Mach};
-ghost use Rattle.loft_sense.specs.History.{ends_block, is_busy, is_open, left_of};
-ghost use Rattle.loft_sense.specs.Legal.{of};
+ghost use Rattle.loft_sense.specs.History.{creates, ends_block, is_busy, is_open, left_of, unsent};
+ghost use Rattle.loft_sense.specs.Legal.{of, Gives};
+ghost use Rattle.loft_steps.specs.Clients.{orders_at};
 ghost use Rattle.loft_steps.specs.Turns.{IsReplay};
+ghost use Rattle.loft_tree.specs.declared.heads.Heads.{Heads};
 
 /// A Take begins a turn of its scheduler, and a Give ends it and leaves the scheduler as it was
 /// (docs/SEMANTICS.md, "Turns"). How it stands is told by its own entries as well as by the whole
@@ -42,4 +45,13 @@ pub fn jobs_follow_their_entries()
     ensures post { (x : Prog) (o : RunOptions) (w : ℕ) (es : List Entry) (m : Sent)
         (rest : List Sent) → left_of x o w es ≡ m ∷ rest → let next = es ++ Post w m ∷ [] in
         (left_of x o w next ≡ rest) × (is_busy w next ≡ not (ends_block m.order)) }
+{}
+
+/// What a client of the source has still to give is what comes after as many of its orders as it has
+/// entries, its creates numbered on, where these entries give what they should
+/// (docs/SEMANTICS.md, "History").
+pub fn orders_follow_their_entries()
+    ensures { (h : Heads) (c : ℕ) (es : List Entry)
+        → let own = of (Client c) es in Gives (outside_of h c) own
+        → unsent h c es ≡ orders_at h c (length own) (creates c es) }
 {}

@@ -7,5 +7,7 @@ mod laws;
 mod turns;
 
 pub use client::next_order;
-pub use laws::{jobs_follow_their_entries, turns_follow_their_entries};
+pub use laws::{
+    jobs_follow_their_entries, orders_follow_their_entries, turns_follow_their_entries,
+};
 pub use turns::{give_last, make_instant, take_where_due};
