@@ -88,9 +88,8 @@ impl World {
         Ok(batch)
     }
 
-    /// As `take`, and the orders move into the entry: none is copied. Who takes them has seen them
-    /// before, as `left`.
-    pub fn record_take(&mut self, alloc: Global, s: SchedId) -> Result<(), NoMemory>
+    /// Adds the entry of a Take. The orders that wait move into it.
+    fn record_take(&mut self, alloc: Global, s: SchedId) -> Result<(), NoMemory>
         requires declared { IsScheduler self.old.heads s }
         requires closed { is_open s self.old.history ≡ false }
         ensures ok { OnOk result (self.new ≡ with_entry self.old

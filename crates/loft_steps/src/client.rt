@@ -1,18 +1,14 @@
 //! The orders of the source's clients, as they are sent.
 
-ghost use Rattle.std.specs.Prelude.{◌≡◌, ◌∷◌, [], ◌+◌, ◌^◌, ◌<◌, IfOk, IsTrue, is_some, slice_get};
+ghost use Rattle.std.specs.Prelude.{◌≡◌, ◌∷◌, [], ◌+◌, ◌^◌, ◌<◌, drop, IfOk, IsTrue, is_some, slice_get};
 ghost use Rattle.std.specs.Option.{option_map};
 ghost use Rattle.loft_tree.specs.Fits.{Each};
-ghost use Rattle.loft_sense.specs.Clients.{control_of, orders_from, orders_or_none};
-ghost use Rattle.loft_sense.specs.Legal.{FitsOne};
-ghost use Rattle.loft_sense.specs.Machine.{heads as heads_of};
-ghost use Rattle.loft_turns.specs.Course.{orders_left};
+ghost use Rattle.loft_sense.specs.Clients.{control_of, orders_from};
+ghost use Rattle.loft_steps.specs.Clients.{orders_of, orders_at, HasEvent};
 
-use crate::setting::Setting;
 use loft_base::{Maker, NoMemory, Sequence, ThreadId};
 use loft_sense::{Order, Sent, To};
 use loft_tree::{ClientOrder, Control, Heads};
-use loft_world::World;
 use std::alloc::Global;
 
 /// The order that stops, suspends or resumes a thread.
@@ -27,17 +23,15 @@ fn control_of(control: Control, thread: ThreadId) -> Order
 }
 
 /// A client's order as it is sent, where its next create is this one, counted from 0.
-fn sent_of<X: Setting>(
+fn sent_of(
     alloc: Global,
-    world: &World,
+    heads: &Heads,
     client: u32,
     create: u64,
     order: &ClientOrder,
 ) -> Result<Sent, NoMemory>
-    requires heads { world.now.heads ≡ heads_of X.program }
-    requires fits { Each (λ m. FitsOne X.program m.to m.order)
-        (orders_from (heads_of X.program) client create (order.now ∷ [])) }
-    ensures { IfOk result (λ sent. orders_from (heads_of X.program) client create (order.now ∷ [])
+    requires event { HasEvent heads.now order.now }
+    ensures { IfOk result (λ sent. orders_from heads.now client create (order.now ∷ [])
         ≡ sent ∷ []) }
 {
     Ok(match order {
@@ -65,7 +59,7 @@ fn sent_of<X: Setting>(
             order: control_of(*control, *thread),
         },
         ClientOrder::Broadcast { event, value } => Sent {
-            to: To::Sched(world.home(*event)),
+            to: To::Sched(heads.events[event.0 as usize].scheduler),
             order: Order::Broadcast {
                 event: *event,
                 value: *value,
@@ -78,32 +72,31 @@ fn sent_of<X: Setting>(
 /// and for a client that isn't declared.
 fn order_of(heads: &Heads, client: u32, index: usize) -> Option<&ClientOrder>
     ensures order { option_map (λ order. order.now) result
-        ≡ slice_get (orders_or_none (slice_get heads.now.clients client)) index }
+        ≡ slice_get (orders_of heads.now client) index }
     ensures next { IsTrue (is_some result) → index + 1 < 2 ^ 64 }
 {
     let client = heads.clients.as_slice().get(client as usize)?;
     client.orders.as_slice().get(index)
 }
 
-/// The same as it is sent.
-pub(crate) fn order_at<X: Setting>(
+/// The order of a client at this index, counted from 0, as it is sent, where so many of the orders
+/// before it are creates. None where the client has no more orders, and for a client that isn't
+/// declared. It needs no world.
+pub fn next_order(
     alloc: Global,
     heads: &Heads,
-    world: &World,
     client: u32,
     index: usize,
+    creates: u64,
 ) -> Result<Option<Sent>, NoMemory>
-    requires declared { heads.now ≡ heads_of X.program }
-    requires heads { world.now.heads ≡ heads_of X.program }
-    requires fits { Each (λ m. FitsOne X.program m.to m.order) (orders_left X.program
-        client world.now.history index) }
+    requires events { Each (HasEvent heads.now) (drop index (orders_of heads.now client)) }
     ensures order { IfOk result (λ sent.
-        sent ≡ slice_get (orders_left X.program client world.now.history index) 0) }
+        sent ≡ slice_get (orders_at heads.now client index creates) 0) }
     ensures next { IfOk result (λ sent. IsTrue (is_some sent) → index + 1 < 2 ^ 64) }
 {
     let Some(order) = order_of(heads, client, index) else {
         return Ok(None);
     };
-    let sent = sent_of::<X>(alloc, world, client, world.creates(client), order)?;
+    let sent = sent_of(alloc, heads, client, creates, order)?;
     Ok(Some(sent))
 }
