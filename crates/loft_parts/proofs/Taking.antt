@@ -1,5 +1,5 @@
 -- What a reader takes that keeps why it stopped: one part after another, lists, and chains of operators.
-use Rattle.std.proofs.Common.{◌≡◌, ℕ, zero, suc, ◌+◌, ◌<◌, ◌⊎◌, inl, inr, true, false, List, [], ◌∷◌, ◌++◌, length, map, Option, Some, None, Ok, Err, refl, sym, ◌∙◌, ap, subst, arith}
+use Rattle.std.proofs.Common.{◌≡◌, ℕ, suc, ◌+◌, ◌<◌, ◌⊎◌, inl, inr, true, false, List, [], ◌∷◌, ◌++◌, length, map, Option, Some, None, Ok, Err, refl, sym, ◌∙◌, ap, subst, arith}
 use Rattle.std.proofs.lemmas.List.{length-map, map_push}
 use Rattle.loft_tree.specs.declared.kinds.BinaryOperator.{BinaryOperator}
 use Rattle.loft_tree.specs.Source.{Expression, Binary}
@@ -52,9 +52,10 @@ module _ (lim : Limits Language) (n : ℕ) {a : Type 0} (f : Form a) (xs : List 
   pub more_listed : (x : a) (mid new : Reader) (ys : List a) → next_begins f (symbols_at old.cursor) ≡ true → Takes old mid x (reads lim n f old.cursor)
       → (new.stopped ≡ None → (mid.stopped ≡ None) × (ys ≡ xs ++ x ∷ [])) → ((g : Fault) → new.stopped ≡ Some (stop.Fault g) → mid.stopped ≡ Some (stop.Fault g)) → new.cursor ≡ mid.cursor
       → Remains first new (with_front ys (reads lim n (many f) new.cursor)) total
-  more_listed x mid new ys begins takes pushed fails same =
-      ( (λ h. ((so_far.0 going).0, rw ((pushed h).1, same) (list_more rules lim n f xs (symbols_at old.cursor) (state_at old.cursor) total (so_far.0 going).1 x (place_of mid.cursor) some begins (takes.0 (pushed h).0).1)))
-      , (λ g h. inr ((so_far.0 going).0, list_fails rules lim n f xs (symbols_at old.cursor) (state_at old.cursor) total (so_far.0 going).1 (stop.Fault g) some begins (of_part old.stopped g going (takes.1 g (fails g h))))) )
+  more_listed x mid new ys begins takes pushed fails same = (
+    (λ h. ((so_far.0 going).0, rw ((pushed h).1, same) (list_more rules lim n f xs (symbols_at old.cursor) (state_at old.cursor) total (so_far.0 going).1 x (place_of mid.cursor) some begins (takes.0 (pushed h).0).1))),
+    (λ g h. inr ((so_far.0 going).0, list_fails rules lim n f xs (symbols_at old.cursor) (state_at old.cursor) total (so_far.0 going).1 (stop.Fault g) some begins (of_part old.stopped g going (takes.1 g (fails g h))))),
+  )
 
 -- an item more, as it is seen
 pub appended : {X A : Type 0} (view : X → A) (xs ys : List X) (x : X) → ys ≡ xs ++ x ∷ [] → map view ys ≡ map view xs ++ view x ∷ []
@@ -68,30 +69,33 @@ first_of view xs ys x e k = rw (k, e) refl
 pub all_listed : (lim : Limits Language) (n : ℕ) {a : Type 0} (f : Form a) (xs : List a) (first at : Reader) (total : Read Language (List a))
     → Remains first at (with_front xs (reads lim n (many f) at.cursor)) total → 0 < least f → (at.stopped ≡ None → next_begins f (symbols_at at.cursor) ≡ false)
     → Takes first at xs total
-all_listed lim n f xs first at total so_far some ends =
-    ( (λ h. ((so_far.0 h).0, list_done rules lim n f xs (symbols_at at.cursor) (state_at at.cursor) total (so_far.0 h).1 some (ends h)))
-    , so_far.1 )
+all_listed lim n f xs first at total so_far some ends = (
+  (λ h. ((so_far.0 h).0, list_done rules lim n f xs (symbols_at at.cursor) (state_at at.cursor) total (so_far.0 h).1 some (ends h))),
+  so_far.1,
+)
 
 module _ (lim : Limits Language) (n : ℕ) (f : Form (BinaryOperator × Expression)) (t : Expression) (first old : Reader) (total : Read Language Expression) (going : old.stopped ≡ None) (so_far : Remains first old (finish t (reads lim n (many f) old.cursor)) total) (some : 0 < least f) where
   pub more_chained : (x : BinaryOperator × Expression) (mid new : Reader) (u : Expression) → next_begins f (symbols_at old.cursor) ≡ true → Takes old mid x (reads lim n f old.cursor)
       → (new.stopped ≡ None → (mid.stopped ≡ None) × (u ≡ Binary x.0 t x.1)) → ((g : Fault) → new.stopped ≡ Some (stop.Fault g) → mid.stopped ≡ Some (stop.Fault g)) → new.cursor ≡ mid.cursor
       → Remains first new (finish u (reads lim n (many f) new.cursor)) total
-  more_chained x mid new u begins takes bound fails same =
-      ( (λ h. ((so_far.0 going).0, rw ((bound h).1, same) (chain_more lim n f t (symbols_at old.cursor) (state_at old.cursor) total (so_far.0 going).1 x (place_of mid.cursor) some begins (takes.0 (bound h).0).1)))
-      , (λ g h. inr ((so_far.0 going).0, chain_fails lim n f t (symbols_at old.cursor) (state_at old.cursor) total (so_far.0 going).1 (stop.Fault g) some begins (of_part old.stopped g going (takes.1 g (fails g h))))) )
+  more_chained x mid new u begins takes bound fails same = (
+    (λ h. ((so_far.0 going).0, rw ((bound h).1, same) (chain_more lim n f t (symbols_at old.cursor) (state_at old.cursor) total (so_far.0 going).1 x (place_of mid.cursor) some begins (takes.0 (bound h).0).1))),
+    (λ g h. inr ((so_far.0 going).0, chain_fails lim n f t (symbols_at old.cursor) (state_at old.cursor) total (so_far.0 going).1 (stop.Fault g) some begins (of_part old.stopped g going (takes.1 g (fails g h))))),
+  )
 
 pub all_chained : (lim : Limits Language) (n : ℕ) (f : Form (BinaryOperator × Expression)) (t : Expression) (first at : Reader) (total : Read Language Expression)
     → Remains first at (finish t (reads lim n (many f) at.cursor)) total → 0 < least f → (at.stopped ≡ None → next_begins f (symbols_at at.cursor) ≡ false)
     → Takes first at t total
-all_chained lim n f t first at total so_far some ends =
-    ( (λ h. ((so_far.0 h).0, chain_done lim n f t (symbols_at at.cursor) (state_at at.cursor) total (so_far.0 h).1 some (ends h)))
-    , so_far.1 )
+all_chained lim n f t first at total so_far some ends = (
+  (λ h. ((so_far.0 h).0, chain_done lim n f t (symbols_at at.cursor) (state_at at.cursor) total (so_far.0 h).1 some (ends h))),
+  so_far.1,
+)
 
 -- ---- one part after another
 
 -- the second part is read where the first one ends
 pub joined : {A B : Type 0} (old mid new : Reader) (x : A) (y : B) (r : Read Language A) (next : A × Place Language → Read Language B) → Takes old mid x r → Takes mid new y (next (x, place_of mid.cursor)) → Takes old new y (r >>= next)
-joined old mid new x y r next t u = ( (λ h. let m = u.0 h in let o = t.0 m.0 in (o.0, rw o.1 m.1)), (λ f h. each f (u.1 f h)) )
+joined old mid new x y r next t u = ((λ h. let m = u.0 h in let o = t.0 m.0 in (o.0, rw o.1 m.1)), (λ f h. each f (u.1 f h)))
   where
     begun : (f : Fault) → (old.stopped ≡ Some (stop.Fault f)) ⊎ ((old.stopped ≡ None) × (r ≡ Err f)) → (old.stopped ≡ Some (stop.Fault f)) ⊎ ((old.stopped ≡ None) × ((r >>= next) ≡ Err f))
     begun f (inl e) = inl e
@@ -135,7 +139,7 @@ pub pushed : {a B : Type 0} (mid next new : Reader) (xs ys : List a) (x : a) (z 
     → (next.stopped ≡ None → (mid.stopped ≡ None) × (ys ≡ xs ++ x ∷ [])) → ((f : Fault) → next.stopped ≡ Some (stop.Fault f) → mid.stopped ≡ Some (stop.Fault f)) → next.cursor ≡ mid.cursor
     → Takes next new z (found ys (place_of next.cursor)) → Takes mid new z (found (xs ++ x ∷ []) (place_of mid.cursor))
 pushed mid next new xs ys x z found item fault same u =
-    ( (λ h. let n = u.0 h in let m = item n.0 in (m.0, moved n.0 ∙ n.1)), (λ f h. each f (u.1 f h)) )
+    ((λ h. let n = u.0 h in let m = item n.0 in (m.0, moved n.0 ∙ n.1)), (λ f h. each f (u.1 f h)))
   where
     moved : next.stopped ≡ None → found (xs ++ x ∷ []) (place_of mid.cursor) ≡ found ys (place_of next.cursor)
     moved h = rw ((item h).1, same) refl

@@ -7,7 +7,7 @@ use Rattle.loft_grammar.specs.Items.{module_item, head, local}
 use Rattle.loft_grammar.specs.Limits.{limits, nesting}
 use Rattle.loft_grammar.specs.Readers.{Takes}
 use Rattle.loft_grammar.specs.View.{symbols_at, state_at, variables_of}
-use Rattle.loft_parts.specs.Ends.{body_end, body_end_of}
+use Rattle.loft_parts.specs.Ends.{body_end}
 use Rattle.loft_parts.proofs.Flat.{flat_head, flat_locals}
 use Rattle.loft_parts.proofs.Taking.{in_turn, meaning}
 use Rattle.loft_parts.proofs.item.module_item.Goals as goal
