@@ -1,11 +1,14 @@
 -- What comes of one line.
-use Rattle.std.proofs.Common.{◌≡◌, ℕ, ◌+◌, ◌<◌, ◌≤◌, List, [], ◌∷◌, ◌++◌, length, Option, Some, None, IfSome, refl, sym, ap, subst, ◌∙◌, append_assoc, zero-add, length-append, arith}
+use Rattle.std.proofs.Common.{◌≡◌, ℕ, ◌+◌, ◌<◌, ◌≤◌, List, [], ◌∷◌, ◌++◌, length, Option, Some, None, IfSome, map, refl, sym, ap, subst, ◌∙◌, append_assoc, zero-add, length-append, arith}
 use Rattle.std.specs.Option.{option_map}
+use Rattle.std.proofs.lemmas.List.{length-map}
 use Rattle.loft_lex.specs.declared.TheConstants.{MAX_TEXT_LEN}
-use Rattle.loft_tree.specs.Source.{Declaration, Scheduler, Event, Shared, Module, Start, Outside, Source}
+use Rattle.loft_tree.specs.Source.{Declaration, Named, Scheduler, Event, Shared, Module, Start, Outside, Source}
+use Rattle.loft_tree.specs.View.{head_of, named_of}
+use Rattle.loft_tree.specs.declared.limits.TheConstants.{MAX_LOCALS}
 use Rattle.loft_code.specs.declared.limits.TheConstants.{MAX_OPERATIONS}
 use Rattle.loft_rows.specs.declared.row.Row.{Row}
-use Rattle.loft_rows.specs.Rows.{ListingLine, Item, line_text, bare_line}
+use Rattle.loft_rows.specs.Rows.{ListingLine, Item, Local, line_text, bare_line}
 use Rattle.loft_rows.specs.RowsFit.{IsLine}
 use Rattle.loft_rows.specs.RowView.{row_of}
 use Rattle.loft_rows.specs.Feeds.{EndsAtItsFeed}
@@ -19,7 +22,7 @@ use Rattle.loft_draft.specs.declared.take.Taken.TheVariants as taken
 use Rattle.loft_draft.specs.Drafts.{Draft, DraftOperation, source_of, operation_lines, lines_text}
 use Rattle.loft_draft.specs.Held.{AreCounts, HoldsClosed, MayClose, Holds, Takes, StandsAt, GoesOn}
 use Rattle.loft_draft.specs.Lined.{lined_declaration}
-use Rattle.loft_draft.specs.Taking.{Begun, SoFar, HasRoom, MayFollow, MayStand, going_on, with_line, lined_line, simple_item}
+use Rattle.loft_draft.specs.Taking.{Begun, InModule, SoFar, HasRoom, MayFollow, MayStand, going_on, with_line, lined_line, simple_item}
 use Rattle.loft_draft.proofs.Offsets.{line_at_fits, line_at_text, line_twice, same_lined}
 use Rattle.loft_draft.proofs.Parts.{line_of, operations_end}
 use Rattle.loft_draft.proofs.Following.{lines_text_end}
@@ -69,10 +72,31 @@ item_goes m n rest after d room grows s holds =
     let Q : Begun → Type 0 = λ b. Holds (with_nothing n) after (going_on s.done b (Item d)) in
     (subst P (sym holds.begun) there, subst Q (sym holds.begun) (record { done = grows s.done holds.done there; room = tt; begun = refl }))
 
--- ---- operations
+-- ---- local variables
 
 abbrev pub with_module : Closed → OpenModule → SoFarInMemory
 with_module m o = record { done = m; begun = begun.Module o }
+
+no_operations : (os : List DraftOperation) → length os ≡ 0 → os ≡ []
+no_operations [] none = refl
+no_operations (o ∷ os) none = absurd (omega arith)
+
+pub local_goes : (m : Closed) (o n : OpenModule) (rest after : List ℕ) (v : Named) → o.number ≡ 0 → length o.locals.items < MAX_LOCALS
+    → n.head ≡ o.head → map named_of n.locals.items ≡ map named_of o.locals.items ++ v ∷ [] → n.number ≡ 0 → n.from.now ≡ after
+    → (s : SoFar) → Holds (with_module m o) rest s → MayStand s (Local v) × Holds (with_module m n) after (with_line s (Local v))
+local_goes m o n rest after v first few head locals number from s holds =
+    let (os, is, count, text) = holds.begun in
+    let P : Begun → Type 0 = λ b. MayFollow (source_of s.done) b (Local v) in
+    let Q : Begun → Type 0 = λ b. Holds (with_module m n) after (going_on s.done b (Local v)) in
+    let none : length os ≡ 0 = sym count ∙ first in
+    let less : length (map named_of o.locals.items) < MAX_LOCALS = omega (arith, few, length-map o.locals.items named_of) in
+    let same : InModule (head_of o.head) (map named_of o.locals.items ++ v ∷ []) os ≡ InModule (head_of n.head) (map named_of n.locals.items) os = cc in
+    let begins : n.from.now ≡ lines_text (operation_lines 0 os) ++ after = from ∙ ap (λ xs. lines_text (operation_lines 0 xs) ++ after) (sym (no_operations os none)) in (
+      subst P (sym is) (none, less),
+      subst Q (sym is) (record { done = holds.done; room = subst (MayClose (source_of s.done)) is holds.room; begun = (os, same, number ∙ sym none, begins) }),
+    )
+
+-- ---- operations
 
 abbrev pub one_later : OpenModule → OpenModule
 one_later o = record { head = o.head; locals = o.locals; number = o.number + 1; from = o.from }

@@ -1,6 +1,6 @@
 //! Declarations that are closed.
 
-ghost use Rattle.std.specs.Prelude.{◌≡◌, ◌∷◌, ◌++◌, [], IfOk};
+ghost use Rattle.std.specs.Prelude.{◌≡◌, ◌∷◌, ◌++◌, [], true};
 ghost use Rattle.loft_tree.specs.View.{declaration_of};
 ghost use Rattle.loft_draft.specs.Drafts.{Draft as PlainDraft, DraftItem, source_of};
 ghost use Rattle.loft_draft.specs.Held.{HoldsClosed};
@@ -9,7 +9,7 @@ ghost use Rattle.loft_draft.specs.Taking.{HasRoom};
 
 use crate::counts::Counts;
 use crate::draft::Draft;
-use loft_base::NoMemory;
+use loft_base::Room;
 use loft_tree::Item;
 use std::alloc::Global;
 
@@ -36,25 +36,26 @@ impl<'a> Closed<'a> {
     }
 
     /// One more, with the lines of its operations.
-    pub fn with(self, item: Item, operations: &'a [u8]) -> Result<Closed<'a>, NoMemory>
-        ensures { (d : PlainDraft) (i : DraftItem) → HoldsClosed self.entry d
-            → HasRoom (source_of d) (declaration_of item) → i.declaration ≡ declaration_of item
-            → operations_text i ≡ operations.now
-            → IfOk result (λ more. HoldsClosed more (d ++ i ∷ [])) }
+    pub fn with(self, room: &mut Room, item: Item, operations: &'a [u8]) -> Closed<'a>
+        ensures before { room.new.is_whole ≡ true → room.old.is_whole ≡ true }
+        ensures more { room.new.is_whole ≡ true → (d : PlainDraft) (i : DraftItem)
+            → HoldsClosed self.entry d → HasRoom (source_of d) (declaration_of item)
+            → i.declaration ≡ declaration_of item → operations_text i ≡ operations.now
+            → HoldsClosed result (d ++ i ∷ []) }
     {
         let counts = self.counts.after(&item);
         let Draft {
             mut items,
             operations: mut texts,
         } = self.draft;
-        items.push(item)?;
-        texts.push(operations)?;
-        Ok(Closed {
+        room.push_to(&mut items, item);
+        room.push_to(&mut texts, operations);
+        Closed {
             draft: Draft {
                 items,
                 operations: texts,
             },
             counts,
-        })
+        }
     }
 }

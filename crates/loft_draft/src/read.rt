@@ -14,7 +14,7 @@ use crate::closed::Closed;
 use crate::draft::{Drafted, MAX_LISTING_LEN};
 use crate::sofar::{Open, SoFar};
 use crate::take::{Spot, Taken};
-use loft_base::NoMemory;
+use loft_base::{NoMemory, Room};
 use loft_lex::MAX_TEXT_LEN;
 use loft_rows::{first_line, read_row};
 use std::alloc::Global;
@@ -50,9 +50,10 @@ fn take_line<'a>(
         return Ok(Next::Stop(sofar));
     };
     let spot = Spot { line, text, after };
-    let taken = sofar.take(alloc, &row, spot);
+    let mut room = Room::new(alloc);
+    let taken = sofar.take(&mut room, &row, spot);
     drop(row);
-    match taken {
+    match room.done(taken) {
         Ok(Taken::More(more)) => Ok(Next::More(more, after)),
         Ok(Taken::Stop(same)) => Ok(Next::Stop(same)),
         Err(NoMemory) => Err(NoMemory),

@@ -10,7 +10,7 @@ ghost use Rattle.loft_draft.specs.Taking.{closed};
 
 use crate::closed::Closed;
 use crate::draft::Draft;
-use loft_base::NoMemory;
+use loft_base::{NoMemory, Room};
 use loft_tree::{Ident, Item, ModuleHead, OutsideOrder, Variable};
 use std::alloc::Global;
 
@@ -101,13 +101,18 @@ impl<'a> SoFar<'a> {
             → IfOk result (λ d. IsInMemory d (closed s)) }
     {
         let SoFar { done, begun } = self;
+        let mut room = Room::new(alloc);
         match begun {
             Open::Nothing => Ok(done.draft),
             Open::Module(module) => {
                 let (item, operations) = module.close(alloc, rest);
-                Ok(done.with(item, operations)?.draft)
+                let closed = done.with(&mut room, item, operations);
+                room.done(closed.draft)
             }
-            Open::Client(client) => Ok(done.with(client.close(), &[])?.draft),
+            Open::Client(client) => {
+                let closed = done.with(&mut room, client.close(), &[]);
+                room.done(closed.draft)
+            }
         }
     }
 }

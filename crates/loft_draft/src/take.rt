@@ -1,6 +1,6 @@
 //! Taking a line of a listing.
 
-ghost use Rattle.std.specs.Prelude.{◌≡◌, ◌<◌, ◌↔◌, ◌++◌, List, ℕ, IfOk, IsTrue};
+ghost use Rattle.std.specs.Prelude.{◌≡◌, ◌<◌, ◌↔◌, ◌++◌, List, ℕ, true, IsTrue};
 ghost use Rattle.loft_tree.specs.View.{declaration_of, head_of, named_of, order_of};
 ghost use Rattle.loft_rows.specs.Rows as rows;
 ghost use Rattle.loft_rows.specs.Rows.{line_text};
@@ -13,12 +13,11 @@ ghost use Rattle.loft_draft.specs.Taking.{lined_line};
 use crate::closed::Closed;
 use crate::lined::{head_at, item_at, name_at, order_at, variable_at};
 use crate::sofar::{Open, OpenClient, OpenModule, SoFar};
-use loft_base::NoMemory;
+use loft_base::Room;
 use loft_code::MAX_OPERATIONS;
 use loft_rows::{OperationRow, Row};
 use loft_tree::limits::{MAX_CLIENTS, MAX_LOCALS, MAX_MODULES, MAX_ORDERS};
 use loft_tree::{Ident, Item, ModuleHead, OutsideOrder, Variable};
-use std::alloc::Global;
 
 /// What comes of a line.
 #[derive(Drop)]
@@ -56,69 +55,73 @@ fn stop<'a>(done: Closed<'a>, begun: Open<'a>) -> Taken<'a>
 
 impl<'a> Closed<'a> {
     /// A declaration of one line.
-    fn take_item(self, alloc: Global, item: &Item, line: u32) -> Result<Taken<'a>, NoMemory>
+    fn take_item(self, room: &mut Room, item: &Item, line: u32) -> Taken<'a>
         requires { IsOneLineItem (declaration_of item.now) }
-        ensures { (rest after : List ℕ) → IfOk result (λ t. TakesIn self.entry Open.Nothing rest
-            (rows.Item (lined.lined_declaration line (declaration_of item.now))) t after) }
+        ensures before { room.new.is_whole ≡ true → room.old.is_whole ≡ true }
+        ensures taken { room.new.is_whole ≡ true → (rest after : List ℕ)
+            → TakesIn self.entry Open.Nothing rest
+            (rows.Item (lined.lined_declaration line (declaration_of item.now))) result after }
     {
         if self.counts.has_room(item) {
-            let item = item_at(alloc, item, line)?;
-            Ok(more(self.with(item, &[])?, Open::Nothing))
+            let item = item_at(room, item, line);
+            more(self.with(room, item, &[]), Open::Nothing)
         } else {
-            Ok(stop(self, Open::Nothing))
+            stop(self, Open::Nothing)
         }
     }
 
     /// The head of a module.
-    fn take_head(
-        self,
-        alloc: Global,
-        head: &ModuleHead,
-        spot: Spot<'a>,
-    ) -> Result<Taken<'a>, NoMemory>
-        ensures { IfOk result (λ t. TakesIn self.entry Open.Nothing spot.entry.text.now
-            (rows.Head (lined.head_at spot.entry.line (head_of head.now))) t spot.entry.after.now) }
+    fn take_head(self, room: &mut Room, head: &ModuleHead, spot: Spot<'a>) -> Taken<'a>
+        ensures before { room.new.is_whole ≡ true → room.old.is_whole ≡ true }
+        ensures taken { room.new.is_whole ≡ true
+            → TakesIn self.entry Open.Nothing spot.entry.text.now
+            (rows.Head (lined.head_at spot.entry.line (head_of head.now))) result
+            spot.entry.after.now }
     {
         if self.counts.modules < MAX_MODULES {
             let module = OpenModule {
-                head: head_at(alloc, head, spot.line)?,
-                locals: Vec::new(alloc),
+                head: head_at(room, head, spot.line),
+                locals: Vec::new(room.alloc),
                 number: 0,
                 from: spot.after,
             };
-            Ok(more(self, Open::Module(module)))
+            more(self, Open::Module(module))
         } else {
-            Ok(stop(self, Open::Nothing))
+            stop(self, Open::Nothing)
         }
     }
 
     /// The first line of a client.
-    fn take_client(self, alloc: Global, name: &Ident, line: u32) -> Result<Taken<'a>, NoMemory>
-        ensures { (rest after : List ℕ) → IfOk result (λ t. TakesIn self.entry Open.Nothing rest
-            (rows.Client (lined.name_at line name.now)) t after) }
+    fn take_client(self, room: &mut Room, name: &Ident, line: u32) -> Taken<'a>
+        ensures before { room.new.is_whole ≡ true → room.old.is_whole ≡ true }
+        ensures taken { room.new.is_whole ≡ true → (rest after : List ℕ)
+            → TakesIn self.entry Open.Nothing rest
+            (rows.Client (lined.name_at line name.now)) result after }
     {
         if self.counts.clients < MAX_CLIENTS {
             let client = OpenClient {
-                name: name_at(alloc, name, line)?,
-                orders: Vec::new(alloc),
+                name: name_at(room, name, line),
+                orders: Vec::new(room.alloc),
             };
-            Ok(more(self, Open::Client(client)))
+            more(self, Open::Client(client))
         } else {
-            Ok(stop(self, Open::Nothing))
+            stop(self, Open::Nothing)
         }
     }
 
     /// A line where nothing is open.
-    fn take(self, alloc: Global, row: &Row, spot: Spot<'a>) -> Result<Taken<'a>, NoMemory>
+    fn take(self, room: &mut Room, row: &Row, spot: Spot<'a>) -> Taken<'a>
         requires { ListingLineFits (row_of row.now) }
-        ensures { IfOk result (λ t. TakesIn self.entry Open.Nothing spot.entry.text.now
-            (lined_line spot.entry.line (row_of row.now)) t spot.entry.after.now) }
+        ensures before { room.new.is_whole ≡ true → room.old.is_whole ≡ true }
+        ensures taken { room.new.is_whole ≡ true
+            → TakesIn self.entry Open.Nothing spot.entry.text.now
+            (lined_line spot.entry.line (row_of row.now)) result spot.entry.after.now }
     {
         match row {
-            Row::Item(item) => self.take_item(alloc, item, spot.line),
-            Row::Head(head) => self.take_head(alloc, head, spot),
-            Row::Client(name) => self.take_client(alloc, name, spot.line),
-            _ => Ok(stop(self, Open::Nothing)),
+            Row::Item(item) => self.take_item(room, item, spot.line),
+            Row::Head(head) => self.take_head(room, head, spot),
+            Row::Client(name) => self.take_client(room, name, spot.line),
+            _ => stop(self, Open::Nothing),
         }
     }
 }
@@ -127,27 +130,30 @@ impl<'a> OpenModule<'a> {
     /// A local variable.
     fn take_local(
         self,
-        alloc: Global,
+        room: &mut Room,
         done: Closed<'a>,
         local: &Variable,
         spot: Spot<'a>,
-    ) -> Result<Taken<'a>, NoMemory>
-        ensures { IfOk result (λ t. TakesIn done.entry (Open.Module self.entry) spot.entry.text.now
-            (rows.Local (lined.variable_at spot.entry.line (named_of local.now))) t
-            spot.entry.after.now) }
+    ) -> Taken<'a>
+        ensures before { room.new.is_whole ≡ true → room.old.is_whole ≡ true }
+        ensures taken { room.new.is_whole ≡ true
+            → TakesIn done.entry (Open.Module self.entry) spot.entry.text.now
+            (rows.Local (lined.variable_at spot.entry.line (named_of local.now))) result
+            spot.entry.after.now }
     {
         if self.number == 0 && self.locals.len() < MAX_LOCALS {
             let mut locals = self.locals;
-            locals.push(variable_at(alloc, local, spot.line)?)?;
+            let local = variable_at(room, local, spot.line);
+            room.push_to(&mut locals, local);
             let module = OpenModule {
                 head: self.head,
                 locals,
                 number: 0,
                 from: spot.after,
             };
-            Ok(more(done, Open::Module(module)))
+            more(done, Open::Module(module))
         } else {
-            Ok(stop(done, Open::Module(self)))
+            stop(done, Open::Module(self))
         }
     }
 
@@ -180,26 +186,22 @@ impl<'a> OpenModule<'a> {
     }
 
     /// A line in the module.
-    fn take(
-        self,
-        alloc: Global,
-        done: Closed<'a>,
-        row: &Row,
-        spot: Spot<'a>,
-    ) -> Result<Taken<'a>, NoMemory>
+    fn take(self, room: &mut Room, done: Closed<'a>, row: &Row, spot: Spot<'a>) -> Taken<'a>
         requires { spot.text.now
             ≡ line_text (lined_line spot.line (row_of row.now)) ++ spot.after.now }
-        ensures { IfOk result (λ t. TakesIn done.entry (Open.Module self.entry) spot.entry.text.now
-            (lined_line spot.entry.line (row_of row.now)) t spot.entry.after.now) }
+        ensures before { room.new.is_whole ≡ true → room.old.is_whole ≡ true }
+        ensures taken { room.new.is_whole ≡ true
+            → TakesIn done.entry (Open.Module self.entry) spot.entry.text.now
+            (lined_line spot.entry.line (row_of row.now)) result spot.entry.after.now }
     {
         match row {
-            Row::Local(local) => self.take_local(alloc, done, local, spot),
-            Row::Operation(operation) => Ok(self.take_operation(done, operation)),
+            Row::Local(local) => self.take_local(room, done, local, spot),
+            Row::Operation(operation) => self.take_operation(done, operation),
             Row::End => {
-                let (item, operations) = self.close(alloc, spot.text);
-                Ok(more(done.with(item, operations)?, Open::Nothing))
+                let (item, operations) = self.close(room.alloc, spot.text);
+                more(done.with(room, item, operations), Open::Nothing)
             }
-            _ => Ok(stop(done, Open::Module(self))),
+            _ => stop(done, Open::Module(self)),
         }
     }
 }
@@ -208,60 +210,60 @@ impl OpenClient {
     /// An order.
     fn take_order<'a>(
         self,
-        alloc: Global,
+        room: &mut Room,
         done: Closed<'a>,
         order: &OutsideOrder,
         line: u32,
-    ) -> Result<Taken<'a>, NoMemory>
-        ensures { (rest after : List ℕ) → IfOk result (λ t. TakesIn done.entry (Open.Client self)
-            rest (rows.Order (lined.order_at line (order_of order.now))) t after) }
+    ) -> Taken<'a>
+        ensures before { room.new.is_whole ≡ true → room.old.is_whole ≡ true }
+        ensures taken { room.new.is_whole ≡ true → (rest after : List ℕ)
+            → TakesIn done.entry (Open.Client self) rest
+            (rows.Order (lined.order_at line (order_of order.now))) result after }
     {
         if self.orders.len() < MAX_ORDERS {
             let mut orders = self.orders;
-            orders.push(order_at(alloc, order, line)?)?;
+            let order = order_at(room, order, line);
+            room.push_to(&mut orders, order);
             let client = OpenClient {
                 name: self.name,
                 orders,
             };
-            Ok(more(done, Open::Client(client)))
+            more(done, Open::Client(client))
         } else {
-            Ok(stop(done, Open::Client(self)))
+            stop(done, Open::Client(self))
         }
     }
 
     /// A line in the client.
-    fn take<'a>(
-        self,
-        alloc: Global,
-        done: Closed<'a>,
-        row: &Row,
-        line: u32,
-    ) -> Result<Taken<'a>, NoMemory>
-        ensures { (rest after : List ℕ) → IfOk result (λ t. TakesIn done.entry (Open.Client self)
-            rest (lined_line line (row_of row.now)) t after) }
+    fn take<'a>(self, room: &mut Room, done: Closed<'a>, row: &Row, line: u32) -> Taken<'a>
+        ensures before { room.new.is_whole ≡ true → room.old.is_whole ≡ true }
+        ensures taken { room.new.is_whole ≡ true → (rest after : List ℕ)
+            → TakesIn done.entry (Open.Client self) rest
+            (lined_line line (row_of row.now)) result after }
     {
         match row {
-            Row::Order(order) => self.take_order(alloc, done, order, line),
-            Row::Close => Ok(more(done.with(self.close(), &[])?, Open::Nothing)),
-            _ => Ok(stop(done, Open::Client(self))),
+            Row::Order(order) => self.take_order(room, done, order, line),
+            Row::Close => more(done.with(room, self.close(), &[]), Open::Nothing),
+            _ => stop(done, Open::Client(self)),
         }
     }
 }
 
 impl<'a> SoFar<'a> {
     /// A line after the first.
-    pub fn take(self, alloc: Global, row: &Row, spot: Spot<'a>) -> Result<Taken<'a>, NoMemory>
+    pub fn take(self, room: &mut Room, row: &Row, spot: Spot<'a>) -> Taken<'a>
         requires fits { ListingLineFits (row_of row.now) }
         requires written { spot.text.now
             ≡ line_text (lined_line spot.line (row_of row.now)) ++ spot.after.now }
-        ensures { IfOk result (λ t. Takes self.entry spot.entry.text.now
-            (lined_line spot.entry.line (row_of row.now)) t spot.entry.after.now) }
+        ensures before { room.new.is_whole ≡ true → room.old.is_whole ≡ true }
+        ensures taken { room.new.is_whole ≡ true → Takes self.entry spot.entry.text.now
+            (lined_line spot.entry.line (row_of row.now)) result spot.entry.after.now }
     {
         let SoFar { done, begun } = self;
         match begun {
-            Open::Nothing => done.take(alloc, row, spot),
-            Open::Module(module) => module.take(alloc, done, row, spot),
-            Open::Client(client) => client.take(alloc, done, row, spot.line),
+            Open::Nothing => done.take(room, row, spot),
+            Open::Module(module) => module.take(room, done, row, spot),
+            Open::Client(client) => client.take(room, done, row, spot.line),
         }
     }
 }

@@ -12,7 +12,7 @@ ghost use Rattle.loft_rows.specs.Finds.{Finds};
 ghost use Rattle.loft_rows.specs.Instructions.{feed};
 
 use crate::value::value_in;
-use loft_base::NoMemory;
+use loft_base::{NoMemory, Out};
 use loft_lex::Word;
 use loft_tree::{Expr, Ident, PlaceName};
 use std::alloc::Global;
@@ -21,9 +21,10 @@ use std::alloc::Global;
 fn with_feed(alloc: Global, bytes: &[u8]) -> Result<Vec<u8>, NoMemory>
     ensures { IfOk result (λ line. line.items ≡ bytes.now ++ feed) }
 {
-    let mut line = Vec::from_slice(alloc, bytes)?;
-    line.push(b'\n')?;
-    Ok(line)
+    let mut line = Out::new(alloc);
+    line.put(bytes);
+    line.put(b"\n");
+    line.done()
 }
 
 /// The name that an expression is.

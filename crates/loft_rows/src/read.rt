@@ -9,7 +9,7 @@ ghost use Rattle.loft_rows.specs.RowView.{row_of};
 use crate::part::find_row;
 use crate::put::put_row;
 use crate::row::Row;
-use loft_base::NoMemory;
+use loft_base::{NoMemory, Out};
 use loft_lex::MAX_TEXT_LEN;
 use std::alloc::Global;
 
@@ -18,8 +18,9 @@ fn is_written(alloc: Global, row: &Row, line: &[u8]) -> Result<bool, NoMemory>
     requires { ListingLineFits (row_of row.now) }
     ensures { IfOk result (λ same. IsTrue same ↔ (line.now ≡ line_text (row_of row.now))) }
 {
-    let mut text = Vec::new(alloc);
-    put_row(&mut text, row)?;
+    let mut out = Out::new(alloc);
+    put_row(&mut out, row);
+    let text = out.done()?;
     Ok(text.as_slice() == line)
 }
 

@@ -50,7 +50,7 @@ returns-in-Ok-More c =
       only = λ l is. found_row c.in_ok-row.field-0 row l c.in-Some-2.is (c.in_ok-row.ensures.only l is c.if-written-gt-MAX_TEXT_LEN.false);
     } in
     let P : Taken → Type 0 = λ t. Takes c.args.sofar c.args.text.now (lined_line c.args.line (row_of row)) t after in
-    (lined_line c.args.line (row_of row), row_goes c.args.sofar c.in-Ok-More.more c.args.line c.args.text.now written after row first (subst P c.in-Ok-More.field-0-is c.in-Ok-More.ensures))
+    (lined_line c.args.line (row_of row), row_goes c.args.sofar c.in-Ok-More.more c.args.line c.args.text.now written after row first (subst P c.in-Ok-More.field-0-is (subst P (sym c.in-Ok-More.ensures.same) (c.take-taken.ensures.taken c.in-Ok-More.ensures.whole))))
 
 pub returns-in-Ok-Stop : goal.returns-in-Ok-Stop
 returns-in-Ok-Stop c =
@@ -66,5 +66,5 @@ returns-in-Ok-Stop c =
       only = λ l is. found_row c.in_ok-row.field-0 row l c.in-Some-2.is (c.in_ok-row.ensures.only l is c.if-written-gt-MAX_TEXT_LEN.false);
     } in
     let P : Taken → Type 0 = λ t. Takes c.args.sofar c.args.text.now (lined_line c.args.line (row_of row)) t after in
-    let stays = subst P c.in-Ok-Stop.field-0-is c.in-Ok-Stop.ensures in
+    let stays = subst P c.in-Ok-Stop.field-0-is (subst P (sym c.in-Ok-Stop.ensures.same) (c.take-taken.ensures.taken c.in-Ok-Stop.ensures.whole)) in
     (stays.0, row_stays c.args.sofar c.args.line c.args.text.now written after row first stays.1)

@@ -7,8 +7,8 @@ use Rattle.loft_draft.specs.Taking.{lined_line}
 use Rattle.loft_draft.proofs.TakenLines.{with_module}
 use Rattle.loft_draft.proofs.sofar.OpenModule.take.Goals as goal
 
-pub returns-in-Operation : goal.returns-in-Operation
-returns-in-Operation c =
+pub returns-in-Operation-clause-taken : goal.returns-in-Operation-clause-taken
+returns-in-Operation-clause-taken c w =
     let spot = c.args.spot in
     let P : Row → Type 0 = λ r. Takes (with_module c.args.done c.args.self) spot.text.now (lined_line spot.line (row_of r)) c.take_operation.result spot.after.now in
     let Q : Row → Type 0 = λ r. spot.text.now ≡ line_text (lined_line spot.line (row_of r)) ++ spot.after.now in
