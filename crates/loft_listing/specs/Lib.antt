@@ -1,3 +1,4 @@
 pub mod Called
 pub mod Lines
 pub mod Listing
+pub mod Making

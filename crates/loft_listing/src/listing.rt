@@ -5,7 +5,7 @@ ghost use Rattle.loft_code.specs.View.{automata_of};
 ghost use Rattle.loft_listing.specs.Listing.{listing_text};
 
 use crate::declaration::put_item;
-use crate::text::put;
+use crate::text::Listing;
 use loft_base::NoMemory;
 use loft_code::Code;
 use std::alloc::Global;
@@ -18,12 +18,12 @@ use std::alloc::Global;
 pub fn write(alloc: Global, c: &Code) -> Result<Vec<u8>, NoMemory>
     ensures { IfOk result (λ text. text.items ≡ listing_text (automata_of c.now)) }
 {
-    let mut out = Vec::new(alloc);
-    put(&mut out, b"loft-listing 1\n")?;
+    let mut listing = Listing::new(alloc);
+    listing.put(b"loft-listing 1\n");
     let program = c.program();
     let heads = &program.heads;
     for item in heads.items.as_slice() {
-        put_item(&mut out, heads, program.modules.as_slice(), *item)?;
+        put_item(&mut listing, heads, program.modules.as_slice(), *item);
     }
-    Ok(out)
+    listing.done()
 }

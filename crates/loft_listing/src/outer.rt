@@ -1,50 +1,51 @@
 //! Declarations outside module bodies, with names in place of numbers.
 
-ghost use Rattle.std.specs.Prelude.{◌≡◌, map, IfOk};
+ghost use Rattle.std.specs.Prelude.{◌≡◌, map};
 ghost use Rattle.std.specs.Option.{option_map};
 ghost use Rattle.loft_tree.specs.View.{named_of, place_name_of, head_of, argument_of, order_of};
 ghost use Rattle.loft_code.specs.Places.{same_place};
+ghost use Rattle.loft_listing.specs.Making.{Makes};
 ghost use Rattle.loft_listing.specs.Called.{called, called_variable, called_place, called_end, called_head, called_argument, called_order};
 
 use crate::name;
-use loft_base::{NoMemory, Value};
+use loft_base::{Room, Value};
 use loft_tree::{
     Argument, ClientOrder, Heads, Ident, ModuleHead, Name, OutsideOrder, Place, PlaceName,
     Signature, SlotHead, Variable,
 };
-use std::alloc::Global;
 
 /// A parameter or local variable.
-pub fn variable(alloc: Global, slot: &SlotHead) -> Result<Variable, NoMemory>
-    ensures { IfOk result (λ variable. named_of variable ≡ called_variable slot.now) }
+pub fn variable(room: &mut Room, slot: &SlotHead) -> Variable
+    ensures { Makes room.old room.new (named_of result ≡ called_variable slot.now) }
 {
-    Ok(Variable {
+    Variable {
         kind: slot.kind,
-        name: name::ident(alloc, slot.name.as_slice())?,
-    })
+        name: name::ident(room, slot.name.as_slice()),
+    }
 }
 
 /// Parameters.
-fn variables(alloc: Global, slots: &[SlotHead]) -> Result<Vec<Variable>, NoMemory>
-    ensures { IfOk result (λ named. map named_of named.items ≡ map called_variable slots.now) }
+fn variables(room: &mut Room, slots: &[SlotHead]) -> Vec<Variable>
+    ensures { Makes room.old room.new (map named_of result.items ≡ map called_variable slots.now) }
 {
-    let mut named = Vec::new(alloc);
+    let mut named = Vec::new(room.alloc);
     for slot in slots {
-        named.push(variable(alloc, slot)?)?;
+        let next = variable(room, slot);
+        room.push_to(&mut named, next);
     }
-    Ok(named)
+    named
 }
 
 /// A place.
-pub fn place(alloc: Global, heads: &Heads, place: Place) -> Result<PlaceName, NoMemory>
-    ensures { IfOk result (λ named. place_name_of named ≡ called_place heads.now place) }
+pub fn place(room: &mut Room, heads: &Heads, place: Place) -> PlaceName
+    ensures { Makes room.old room.new (place_name_of result ≡ called_place heads.now place) }
 {
     match place {
         Place::Sched(scheduler) => {
-            let name = name::scheduler(alloc, heads, scheduler)?;
-            Ok(PlaceName::Scheduler(name))
+            let name = name::scheduler(room, heads, scheduler);
+            PlaceName::Scheduler(name)
         }
-        Place::Unlinked => Ok(PlaceName::Unlinked),
+        Place::Unlinked => PlaceName::Unlinked,
     }
 }
 
@@ -61,78 +62,75 @@ fn same_place(one: Place, other: Place) -> bool
 }
 
 /// Where threads end, if that isn't where they begin.
-fn end_place(
-    alloc: Global,
-    heads: &Heads,
-    begin: Place,
-    end: Place,
-) -> Result<Option<PlaceName>, NoMemory>
-    ensures { IfOk result (λ named. option_map place_name_of named
-        ≡ called_end heads.now begin end) }
+fn end_place(room: &mut Room, heads: &Heads, begin: Place, end: Place) -> Option<PlaceName>
+    ensures { Makes room.old room.new
+        (option_map place_name_of result ≡ called_end heads.now begin end) }
 {
     if same_place(begin, end) {
-        return Ok(None);
+        None
+    } else {
+        Some(place(room, heads, end))
     }
-    Ok(Some(place(alloc, heads, end)?))
 }
 
 /// The head of a module.
-pub fn module_head(alloc: Global, heads: &Heads, module: &Signature) -> Result<ModuleHead, NoMemory>
-    ensures { IfOk result (λ head. head_of head ≡ called_head heads.now «module».now) }
+pub fn module_head(room: &mut Room, heads: &Heads, module: &Signature) -> ModuleHead
+    ensures { Makes room.old room.new (head_of result ≡ called_head heads.now «module».now) }
 {
-    Ok(ModuleHead {
-        name: name::ident(alloc, module.name.as_slice())?,
-        parameters: variables(alloc, module.parameters.as_slice())?,
-        begin: place(alloc, heads, module.begin)?,
-        end: end_place(alloc, heads, module.begin, module.end)?,
-    })
+    ModuleHead {
+        name: name::ident(room, module.name.as_slice()),
+        parameters: variables(room, module.parameters.as_slice()),
+        begin: place(room, heads, module.begin),
+        end: end_place(room, heads, module.begin, module.end),
+    }
 }
 
 /// An argument.
-fn argument(alloc: Global, heads: &Heads, value: Value) -> Result<Argument, NoMemory>
-    ensures { IfOk result (λ argument. argument_of argument ≡ called_argument heads.now value) }
+fn argument(room: &mut Room, heads: &Heads, value: Value) -> Argument
+    ensures { Makes room.old room.new (argument_of result ≡ called_argument heads.now value) }
 {
     match value {
-        Value::Int(value) => Ok(Argument::Number { at: 0, value }),
-        Value::Thread(thread) => Ok(Argument::Name(name::thread(alloc, heads, thread)?)),
+        Value::Int(value) => Argument::Number { at: 0, value },
+        Value::Thread(thread) => Argument::Name(name::thread(room, heads, thread)),
     }
 }
 
 /// Arguments.
-pub fn arguments(alloc: Global, heads: &Heads, values: &[Value]) -> Result<Vec<Argument>, NoMemory>
-    ensures { IfOk result (λ named. map argument_of named.items
-        ≡ map (called_argument heads.now) values.now) }
+pub fn arguments(room: &mut Room, heads: &Heads, values: &[Value]) -> Vec<Argument>
+    ensures { Makes room.old room.new
+        (map argument_of result.items ≡ map (called_argument heads.now) values.now) }
 {
-    let mut named = Vec::new(alloc);
+    let mut named = Vec::new(room.alloc);
     for value in values {
-        named.push(argument(alloc, heads, *value)?)?;
+        let next = argument(room, heads, *value);
+        room.push_to(&mut named, next);
     }
-    Ok(named)
+    named
 }
 
 /// What a start names its thread, where it does.
-pub fn start_name(alloc: Global, name: &Option<Name>) -> Result<Option<Ident>, NoMemory>
-    ensures { IfOk result (λ named. named ≡ option_map called name.now) }
+pub fn start_name(room: &mut Room, name: &Option<Name>) -> Option<Ident>
+    ensures { Makes room.old room.new (result ≡ option_map called name.now) }
 {
     match name {
-        Some(name) => Ok(Some(name::ident(alloc, name.as_slice())?)),
-        None => Ok(None),
+        Some(name) => Some(name::ident(room, name.as_slice())),
+        None => None,
     }
 }
 
 /// An order of a client.
-fn order(alloc: Global, heads: &Heads, order: &ClientOrder) -> Result<OutsideOrder, NoMemory>
-    ensures { IfOk result (λ named. order_of named ≡ called_order heads.now order.now) }
+fn order(room: &mut Room, heads: &Heads, order: &ClientOrder) -> OutsideOrder
+    ensures { Makes room.old room.new (order_of result ≡ called_order heads.now order.now) }
 {
-    Ok(match order {
+    match order {
         ClientOrder::Create {
             scheduler,
             module,
             arguments: values,
         } => OutsideOrder::Create {
-            scheduler: name::scheduler(alloc, heads, *scheduler)?,
-            called: name::module(alloc, heads, *module)?,
-            arguments: arguments(alloc, heads, values.as_slice())?,
+            scheduler: name::scheduler(room, heads, *scheduler),
+            called: name::module(room, heads, *module),
+            arguments: arguments(room, heads, values.as_slice()),
         },
         ClientOrder::Control {
             control,
@@ -140,28 +138,25 @@ fn order(alloc: Global, heads: &Heads, order: &ClientOrder) -> Result<OutsideOrd
             scheduler,
         } => OutsideOrder::Control {
             control: *control,
-            thread: name::thread(alloc, heads, *thread)?,
-            scheduler: name::scheduler(alloc, heads, *scheduler)?,
+            thread: name::thread(room, heads, *thread),
+            scheduler: name::scheduler(room, heads, *scheduler),
         },
         ClientOrder::Broadcast { event, value } => OutsideOrder::Broadcast {
-            event: name::event(alloc, heads, *event)?,
+            event: name::event(room, heads, *event),
             value: *value,
         },
-    })
+    }
 }
 
 /// Orders of a client.
-pub fn orders(
-    alloc: Global,
-    heads: &Heads,
-    orders: &[ClientOrder],
-) -> Result<Vec<OutsideOrder>, NoMemory>
-    ensures { IfOk result (λ named. map order_of named.items
-        ≡ map (called_order heads.now) orders.now) }
+pub fn orders(room: &mut Room, heads: &Heads, orders: &[ClientOrder]) -> Vec<OutsideOrder>
+    ensures { Makes room.old room.new
+        (map order_of result.items ≡ map (called_order heads.now) orders.now) }
 {
-    let mut named = Vec::new(alloc);
+    let mut named = Vec::new(room.alloc);
     for one in orders {
-        named.push(order(alloc, heads, one)?)?;
+        let next = order(room, heads, one);
+        room.push_to(&mut named, next);
     }
-    Ok(named)
+    named
 }
