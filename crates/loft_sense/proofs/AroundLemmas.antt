@@ -425,6 +425,20 @@ applied_events x m batch = applied_orders (heads x) m.s (unapplied (heads x) m) 
 instant_follows : (x : Prog) (limits : Limits) (m : Mach) (batch : List Order) → Follows (around_of m (apply x m batch)) (instant_walk x limits m batch).around
 instant_follows x limits m batch = let a = apply x m batch in passes_follow x (map (runner_of limits.budget) a.linked) (around_of m a)
 
+-- the acts of an instant tell its board, from that of its batch
+pub instant_board : (x : Prog) (limits : Limits) (m : Mach) (batch : List Order) → (instant_walk x limits m batch).around.board ≡ generate_all (generated_in (instant x limits m batch).note.acts) (apply x m batch).board
+unfolding instant
+instant_board x limits m batch =
+    let p = (instant_follows x limits m batch).tells in
+    p.board ∙ ap (λ (acts : List Act). generate_all (generated_in acts) (apply x m batch).board) (sym p.acts)
+
+-- and the threads known after it
+pub instant_known : (x : Prog) (limits : Limits) (m : Mach) (batch : List Order) → (instant x limits m batch).machine.known ≡ (apply x m batch).known ++ ended_in (instant x limits m batch).note.acts
+unfolding instant
+instant_known x limits m batch =
+    let p = (instant_follows x limits m batch).tells in
+    p.known ∙ ap (λ (acts : List Act). (apply x m batch).known ++ ended_in acts) (sym p.acts)
+
 few_at : (s : SchedId) (a : Around) → a.place ≡ Sched s → a.entries ≤ most_entries a.place → a.entries ≤ MAX_ENTRIES
 few_at s a e h = subst (λ (p : Place). a.entries ≤ most_entries p) e h
 

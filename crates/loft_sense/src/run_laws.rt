@@ -17,7 +17,9 @@ ghost use Rattle.loft_sense.specs.Around.{Around};
 ghost use Rattle.loft_sense.specs.CanGo.{has_any};
 ghost use Rattle.loft_sense.specs.Statements.{most_entries};
 ghost use Rattle.loft_sense.specs.Run.{Ended, beside, ends};
-ghost use Rattle.loft_sense.specs.Runs.{is_entry, events_in, instant_walk, KeepsEvents, Tells};
+ghost use Rattle.loft_board.specs.Board.{generate_all};
+ghost use Rattle.loft_sense.specs.Runs.{is_entry, events_in, instant_walk, KeepsEvents};
+ghost use Rattle.loft_sense.specs.Runs.{Tells, generated_in, ended_in};
 ghost use Rattle.loft_sense.specs.Passes.{Runner, run_of, runners_after, around_after};
 ghost use Rattle.loft_sense.specs.Passes.{walked, pass, passes_within, passes};
 ghost use Rattle.loft_sense.specs.Moments.{Moment, moment, end_of, moments_of_pass, moments};
@@ -116,7 +118,9 @@ pub fn passes_go_in_order()
 
 /// The acts tell what was done: over a run, a pass and all passes the acts are those before it and
 /// more, the board is the one before it with the events that these generated, each with its value, in
-/// this order, and the known threads are those before it and those whose ends are among these.
+/// this order, and the known threads are those before it and those whose ends are among these. So the
+/// acts of an instant's note tell its board after the last run, from that of its batch (`board`), and
+/// the threads that are known after it (`known`).
 pub fn acts_tell_what_was_done()
     ensures run { (x : Prog) (t : Thread) (around : Around) (n : ℕ)
         → Tells around (around_after (run_of x t around n)) }
@@ -124,6 +128,12 @@ pub fn acts_tell_what_was_done()
         → Tells around (pass x rs around).around }
     ensures passes { (x : Prog) (rs : List Runner) (around : Around)
         → Tells around (passes x rs around).around }
+    ensures board { (x : Prog) (limits : Limits) (m : Mach) (batch : List Order)
+        → (instant_walk x limits m batch).around.board
+        ≡ generate_all (generated_in (instant x limits m batch).note.acts) (apply x m batch).board }
+    ensures known { (x : Prog) (limits : Limits) (m : Mach) (batch : List Order)
+        → (instant x limits m batch).machine.known
+        ≡ (apply x m batch).known ++ ended_in (instant x limits m batch).note.acts }
 {}
 
 /// A claim about the moments of an instant, for proofs alone: what a law says of any claim, it says

@@ -1,4 +1,4 @@
--- What is claimed of threads, wherever they are in a history (docs/SEMANTICS.md, "Stands"). P is claimed of a thread that is
+-- What is claimed of threads, wherever they are in a history (docs/SEMANTICS.md, "History"). P is claimed of a thread that is
 -- linked at a place or on its way there, and M is granted with each create: of its thread, its module and its arguments.
 use Rattle.std.specs.Prelude.{ℕ, ◌⊎◌, List, All}
 use Rattle.loft_base.specs.declared.ids.ModuleId.{ModuleId}
@@ -31,10 +31,11 @@ use Rattle.loft_stand.specs.Points.{AroundFits}
 use Rattle.loft_stand.specs.Machines.{ThreadFits}
 use Rattle.loft_stand.specs.WellFormed.{IsWellFormed}
 
--- a claim of threads by their place, and one of what a create makes
+-- a claim of threads by their place
 abbrev pub Claim : Type 1
 Claim = Place → Thread → Type 0
 
+-- what is granted with a create, of its thread, its module and its arguments
 abbrev pub Grant : Type 1
 Grant = ThreadId → ModuleId → List Value → Type 0
 
@@ -51,6 +52,7 @@ CarriesTo P to.All o = (q : SchedId) → Carries P q o
 CarriesTo P to.Workers (order.Arrive t) = P Unlinked t
 CarriesTo P to.Workers o = Unit {0}
 
+-- the same of an order and its address
 abbrev pub SentCarries : Claim → Sent → Type 0
 SentCarries P sent = CarriesTo P sent.to sent.order
 
@@ -80,7 +82,8 @@ pub record ThreadsKeep (x : Prog) (P : Claim) (M : Grant) : Type 0 where
   pub closes : (s : SchedId) (t : Thread) → ThreadFits x (Sched s) t → P (Sched s) t → P (Sched s) (record t { wait = closed_wait t.wait })
   pub runs : (place : Place) (t : Thread) (around : Around) (left : ℕ) → ThreadFits x place t → AroundFits (heads x) place around → P place t → LeavesSo P place (run_of x t around left)
 
--- Each create is granted by whoever sends it: the source by its starts and its clients, callers, and each thread of which the claim holds.
+-- Each create is granted by whoever sends it: the source by its starts and its clients, callers, and each thread of which the
+-- claim holds.
 pub record SendersGrant (x : Prog) (P : Claim) (M : Grant) (es : List Entry) : Type 0 where
   pub starts : (s : SchedId) → All (IsGranted M) (starts_of (heads x) s)
   pub clients : (c : ℕ) → All (λ m. IsGranted M m.order) (outside_of (heads x) c)
