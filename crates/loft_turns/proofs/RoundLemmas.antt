@@ -19,7 +19,8 @@ use Rattle.loft_sense.proofs.AroundLemmas.{instant_number}
 use Rattle.loft_sense.proofs.HistoryLemmas.{in_instant-append, left_after-append, unsent_after-append, unsent_none, on_first}
 use Rattle.loft_turns.specs.Course.{Stand, HasWorkers, Moves}
 use Rattle.loft_turns.specs.Rounds.{instants_left, orders_unsent, left, AllRest, Nears, WorksOff, EndsOrNears, turn_of, job_of, order_of}
-use Rattle.loft_turns.proofs.CourseLemmas.{replayed_taken, log_given, opened, give_entry}
+use Rattle.loft_steps.proofs.TurnLemmas.{replayed_taken, log_given, opened}
+use Rattle.loft_turns.proofs.CourseLemmas.{give_entry}
 use Rattle.loft_turns.proofs.RunsOn.{other_stands, clients_kept}
 use Rattle.loft_turns.proofs.ClientsRun.{stands_still}
 
@@ -118,7 +119,7 @@ number_after : (x : Prog) (o : RunOptions) (h : List Entry) (s : SchedId) (batch
     → (replayed x o.limits s (turned h s batch sent)).machine.number ≡ (replayed x o.limits s h).machine.number + 1
 number_after x o h s batch sent =
     ap (λ (l : List (List Order)). (replay x o.limits s l).machine.number) (log_given s (h ++ Take s batch ∷ []) sent)
-    ∙ (ap (λ (r : Replayed). r.machine.number) (replayed_taken x o s h batch)
+    ∙ (ap (λ (r : Replayed). r.machine.number) (replayed_taken x o.limits s h batch)
     ∙ instant_number x o.limits (replayed x o.limits s h).machine batch)
 
 others_left : (x : Prog) (o : RunOptions) (h : List Entry) (s : SchedId) (batch : List Order) (sent : List Sent) (j : ℕ) → j ≢ s.0 → instants_left x o (turned h s batch sent) j ≡ instants_left x o h j

@@ -19,12 +19,14 @@ use Rattle.loft_sense.specs.Heads.{same_scheduler}
 use Rattle.loft_sense.specs.Machine.{Prog, heads}
 use Rattle.loft_sense.specs.Instant.{replay}
 use Rattle.loft_sense.specs.Clients.{orders_from, orders_or_none}
-use Rattle.loft_sense.specs.History.{Choice, TakeBy, GiveBy, PickBy, PostBy, ClientBy, choice_of, log, in_instant, is_open, left_of, ends_block, in_hand, is_busy, unsent, is_create, creates_after, creates, replayed, has_turn, waiting, sent_last, entry_of, with_entry, hist_on, hist}
+use Rattle.loft_sense.specs.History.{Choice, TakeBy, GiveBy, PickBy, PostBy, ClientBy, choice_of, log, in_instant, is_open, left_of, is_busy, unsent, is_create, creates_after, creates, replayed, has_turn, waiting, sent_last, entry_of, with_entry, hist_on, hist}
 use Rattle.loft_sense.specs.Legal.{actor_of, same_actor, of}
 use Rattle.loft_sense.proofs.HistoryLemmas.{choice_kept, log-append, in_instant-append, left_after-append, unsent_after-append}
 use Rattle.loft_world.specs.State.{State, scheduler, no_entries}
+use Rattle.loft_steps.proofs.HandLemmas.{in_hand-append}
 use Rattle.loft_turns.specs.Blocks.{IsHand}
 use Rattle.loft_turns.specs.Course.{Stand, stand_after, stands_after, Hand, hand_after, hands_after, gave, orders_left, Course, IsRun, Moves}
+use Rattle.loft_turns.proofs.CourseLemmas.{stays}
 
 -- ---- the history
 
@@ -52,14 +54,6 @@ grown x o h c e made is =
     ∙ ap (λ (next : Option Entry). with_entry h next (hist_on x o [])) allowed)
 
 -- ---- workers
-
-pub in_hand-append : (w : ℕ) (xs ys : List Entry) (had : Bool) → in_hand w had (xs ++ ys) ≡ in_hand w (in_hand w had xs) ys
-in_hand-append w [] ys had = refl
-in_hand-append w (Take s batch ∷ xs) ys had = in_hand-append w xs ys had
-in_hand-append w (Give s sent ∷ xs) ys had = in_hand-append w xs ys had
-in_hand-append w (Pick v job ∷ xs) ys had = in_hand-append w xs ys (w == v || had)
-in_hand-append w (Post v sent ∷ xs) ys had = in_hand-append w xs ys (if w == v then not (ends_block sent.order) else had)
-in_hand-append w (Client c sent ∷ xs) ys had = in_hand-append w xs ys had
 
 pub same_hand : (a b : Hand) → a.left ≡ b.left → a.busy ≡ b.busy → a ≡ b
 same_hand a b l y = ap (λ (q : List Sent). record { left = q; busy = a.busy }) l ∙ ap (λ (q : Bool). record { left = b.left; busy = q }) y
@@ -274,9 +268,6 @@ turned x o r w s st c moved run turn moves same stands =
     }
 
 -- ---- a scheduler of a run
-
-pub stays : (x : Prog) (o : RunOptions) (h : List Entry) (c : Choice) → entry_of x o h c ≡ None → Moves x o h c false h
-stays x o h c none = subst (λ (next : Option Entry). MatchOption next ((false ≡ false) × (h ≡ h)) (λ e. (false ≡ true) × (h ≡ h ++ e ∷ []))) (sym none) (refl, refl)
 
 no_take : (declared was turn : Bool) (e : Entry) → declared ≡ false → (if declared && not was && turn then Some e else None) ≡ None
 no_take declared was turn e none = rw (none) refl
