@@ -1,36 +1,28 @@
 -- What a worker has still to post, by one entry more.
-use Rattle.std.proofs.Common.{◌≡◌, ℕ, ◌==◌, Bool, true, false, ◌||◌, List, [], ◌∷◌, ◌++◌, refl, ◌∙◌, ap, eq-eqb}
+use Rattle.std.proofs.Common.{◌≡◌, ℕ, Bool, true, false, ◌||◌, List, [], ◌∷◌, ◌++◌, refl, ◌∙◌, ap, eq-eqb}
 use Rattle.std.specs.Prelude.{if◌then◌else◌, not, drop}
+use Rattle.std.proofs.lemmas.List.Sums.{fold-append}
 use Rattle.loft_sense.specs.declared.entry.Entry.{Entry}
-use Rattle.loft_sense.specs.declared.entry.Entry.TheVariants.{Take, Give, Pick, Post, Client}
+use Rattle.loft_sense.specs.declared.entry.Entry.TheVariants.{Pick, Post}
 use Rattle.loft_sense.specs.declared.limits.RunOptions.{RunOptions}
 use Rattle.loft_sense.specs.declared.order.Sent.{Sent}
 use Rattle.loft_sense.specs.declared.thread.Thread.{Thread}
 use Rattle.loft_sense.specs.Machine.{Prog}
 use Rattle.loft_sense.specs.Async.{async}
-use Rattle.loft_sense.specs.History.{ends_block, in_hand, left_of, is_busy}
-use Rattle.loft_sense.proofs.HistoryLemmas.{left_after-append}
-
-pub in_hand-append : (w : ℕ) (xs ys : List Entry) (had : Bool) → in_hand w had (xs ++ ys) ≡ in_hand w (in_hand w had xs) ys
-in_hand-append w [] ys had = refl
-in_hand-append w (Take s batch ∷ xs) ys had = in_hand-append w xs ys had
-in_hand-append w (Give s sent ∷ xs) ys had = in_hand-append w xs ys had
-in_hand-append w (Pick v job ∷ xs) ys had = in_hand-append w xs ys (w == v || had)
-in_hand-append w (Post v sent ∷ xs) ys had = in_hand-append w xs ys (if w == v then not (ends_block sent.order) else had)
-in_hand-append w (Client c sent ∷ xs) ys had = in_hand-append w xs ys had
+use Rattle.loft_sense.specs.History.{ends_block, left_of, is_busy, left_step, busy_step}
 
 -- ---- what a Pick and a Post leave
 
 pub left_picked : (x : Prog) (o : RunOptions) (w : ℕ) (h : List Entry) (t : Thread) → left_of x o w (h ++ Pick w t ∷ []) ≡ async x t o.limits.block
-left_picked x o w h t = left_after-append x o w h (Pick w t ∷ []) [] ∙ ap (λ (own : Bool). if own then async x t o.limits.block else left_of x o w h) (eq-eqb w w refl)
+left_picked x o w h t = fold-append (left_step x o w) [] h (Pick w t ∷ []) ∙ ap (λ (own : Bool). if own then async x t o.limits.block else left_of x o w h) (eq-eqb w w refl)
 
 pub busy_picked : (w : ℕ) (h : List Entry) (t : Thread) → is_busy w (h ++ Pick w t ∷ []) ≡ true
-busy_picked w h t = in_hand-append w h (Pick w t ∷ []) false ∙ ap (λ (own : Bool). own || is_busy w h) (eq-eqb w w refl)
+busy_picked w h t = fold-append (busy_step w) false h (Pick w t ∷ []) ∙ ap (λ (own : Bool). own || is_busy w h) (eq-eqb w w refl)
 
 pub left_posted : (x : Prog) (o : RunOptions) (w : ℕ) (h : List Entry) (m : Sent) (rest : List Sent) → left_of x o w h ≡ m ∷ rest → left_of x o w (h ++ Post w m ∷ []) ≡ rest
 left_posted x o w h m rest is =
-    left_after-append x o w h (Post w m ∷ []) []
+    fold-append (left_step x o w) [] h (Post w m ∷ [])
     ∙ (ap (λ (own : Bool). if own then drop 1 (left_of x o w h) else left_of x o w h) (eq-eqb w w refl) ∙ ap (λ (l : List Sent). drop 1 l) is)
 
 pub busy_posted : (w : ℕ) (h : List Entry) (m : Sent) → is_busy w (h ++ Post w m ∷ []) ≡ not (ends_block m.order)
-busy_posted w h m = in_hand-append w h (Post w m ∷ []) false ∙ ap (λ (own : Bool). if own then not (ends_block m.order) else is_busy w h) (eq-eqb w w refl)
+busy_posted w h m = fold-append (busy_step w) false h (Post w m ∷ []) ∙ ap (λ (own : Bool). if own then not (ends_block m.order) else is_busy w h) (eq-eqb w w refl)

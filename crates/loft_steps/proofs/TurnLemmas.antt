@@ -1,6 +1,7 @@
 -- How a scheduler stands, by one entry more.
 use Rattle.std.proofs.Common.{arith, ◌≡◌, ℕ, suc, ◌-◌, Bool, true, false, List, [], ◌∷◌, ◌++◌, length, sym, ◌∙◌, ap, subst, append-nil, ◌||◌, Some, Result, Ok, Err, slice_get}
 use Rattle.std.specs.Prelude.{OnOk, ◌↔◌, if◌then◌else◌, not, ◌&&◌}
+use Rattle.std.proofs.lemmas.List.Sums.{fold-append}
 use Rattle.loft_base.specs.declared.ids.SchedId.{SchedId}
 use Rattle.loft_sense.specs.declared.entry.Actor.TheVariants as actor
 use Rattle.loft_sense.specs.declared.entry.Entry.{Entry}
@@ -11,9 +12,9 @@ use Rattle.loft_sense.specs.declared.order.Order.{Order}
 use Rattle.loft_sense.specs.declared.order.Sent.{Sent}
 use Rattle.loft_sense.specs.Machine.{Prog, Mach}
 use Rattle.loft_sense.specs.Instant.{Replayed, instant, one_more, replay}
-use Rattle.loft_sense.specs.History.{log, in_instant, is_open, replayed, sent_last}
+use Rattle.loft_sense.specs.History.{log, in_instant, is_open, replayed, sent_last, instant_step}
 use Rattle.loft_sense.specs.Legal.{of}
-use Rattle.loft_sense.proofs.HistoryLemmas.{same_self, log-append, in_instant-append, replay_on-append}
+use Rattle.loft_sense.proofs.HistoryLemmas.{same_self, log-append, replay_on-append}
 use Rattle.loft_sense.proofs.OwnLemmas.{scheduler_own}
 use Rattle.loft_steps.specs.Turns.{IsReplay}
 
@@ -23,7 +24,7 @@ log_taken : (s : SchedId) (h : List Entry) (batch : List Order) → log s (h ++ 
 log_taken s h batch = log-append s h (Take s batch ∷ []) ∙ ap (λ (own : Bool). log s h ++ (if own then batch ∷ [] else [])) (same_self s)
 
 pub opened : (s : SchedId) (h : List Entry) (batch : List Order) → is_open s (h ++ Take s batch ∷ []) ≡ true
-opened s h batch = in_instant-append s h (Take s batch ∷ []) false ∙ ap (λ (b : Bool). b || in_instant s false h) (same_self s)
+opened s h batch = fold-append (instant_step s) false h (Take s batch ∷ []) ∙ ap (λ (b : Bool). b || in_instant s false h) (same_self s)
 
 pub replayed_taken : (x : Prog) (l : Limits) (s : SchedId) (h : List Entry) (batch : List Order) → replayed x l s (h ++ Take s batch ∷ []) ≡ one_more x l (replayed x l s h) batch
 replayed_taken x l s h batch = ap (replay x l s) (log_taken s h batch) ∙ replay_on-append x l _ (log s h) batch
@@ -34,7 +35,7 @@ pub log_given : (s : SchedId) (h : List Entry) (sent : List Sent) → log s (h +
 log_given s h sent = log-append s h (Give s sent ∷ []) ∙ append-nil (log s h)
 
 pub shut : (s : SchedId) (h : List Entry) (sent : List Sent) → is_open s (h ++ Give s sent ∷ []) ≡ false
-shut s h sent = in_instant-append s h (Give s sent ∷ []) false ∙ ap (λ (b : Bool). not b && in_instant s false h) (same_self s)
+shut s h sent = fold-append (instant_step s) false h (Give s sent ∷ []) ∙ ap (λ (b : Bool). not b && in_instant s false h) (same_self s)
 
 one_less : (n : ℕ) → suc n - 1 ≡ n
 one_less n = omega arith

@@ -10,7 +10,8 @@ ghost use Rattle.loft_sense.specs.History.{is_open, sent_last, waiting};
 ghost use Rattle.loft_sense.specs.Instant.{instant};
 ghost use Rattle.loft_sense.specs.Rest.{is_spent};
 ghost use Rattle.loft_steps.specs.Turns.{due, IsReplay};
-ghost use Rattle.loft_world.specs.State.{IsScheduler, with_entry};
+ghost use Rattle.loft_tree.specs.NamedFits.{IsScheduler};
+ghost use Rattle.loft_world.specs.State.{with_entry};
 
 use loft_base::{NoMemory, SchedId, Sequence};
 use loft_sense::{Engine, Orders};

@@ -12,3 +12,5 @@ mod code;
 mod commands;
 #[cfg(test)]
 mod lex;
+#[cfg(test)]
+mod threads;

@@ -27,9 +27,10 @@ use Rattle.loft_sense.proofs.HistoryLemmas.{log-append, unsent_none}
 use Rattle.loft_sense.proofs.OwnLemmas.{given}
 use Rattle.loft_sense.specs.Heads.{scheduler}
 use Rattle.loft_world.specs.State.{State, IsToOne, IsForClients, with_entry}
+use Rattle.loft_steps.specs.Clients.{orders_at, orders_of, HasEvent}
 use Rattle.loft_turns.specs.Course.{stand_after, hand_after, gave, orders_left, Course, IsRun, CanRun, Moves}
-use Rattle.loft_turns.proofs.CourseLemmas.{moved_by}
-use Rattle.loft_turns.proofs.RunsOn.{grown, hand_kept, hand_is, gave_more, same_stand_by, same_map, set_one, from_none, stays}
+use Rattle.loft_turns.proofs.CourseLemmas.{moved_by, stays}
+use Rattle.loft_turns.proofs.RunsOn.{grown, hand_kept, hand_is, gave_more, same_stand_by, same_map, set_one, from_none}
 
 -- ---- no further order
 
@@ -60,6 +61,26 @@ pub orders_fit : (x : Prog) (o : RunOptions) (r : Course) (c : ℕ) → IsRun x 
 orders_fit x o r c run can =
     subst (Each (IsFine x)) (run.orders c)
     (subst (Each (IsFine x)) (sym (given (heads x) c r.world.history)) (each_drop (IsFine x) (gave r.world.history c) (outside_of (heads x) c) (can.clients c)))
+
+events_there : (x : Prog) (c k : ℕ) (os : List ClientOrder) → Each (IsFine x) (orders_from (heads x) c k os) → Each (HasEvent (heads x)) os
+events_there x c k [] f = tt
+events_there x c k (client.Create s m arguments ∷ os) f = (tt, events_there x c (k + 1) os f.1)
+events_there x c k (client.Control control t s ∷ os) f = (tt, events_there x c k os f.1)
+events_there x c k (client.Broadcast e v ∷ os) f = (f.0.1.declared, events_there x c k os f.1)
+
+-- what a client has still to broadcast is declared
+pub events_declared : (x : Prog) (o : RunOptions) (r : Course) (c n : ℕ) (d : Heads) → IsRun x o r → CanRun x o → d ≡ heads x → n ≡ gave r.world.history c → Each (HasEvent d) (drop n (orders_of d c))
+events_declared x o r c n d run can same is =
+    subst (λ (h : Heads). Each (HasEvent h) (drop n (orders_of h c))) (sym same)
+    (subst (λ (k : ℕ). Each (HasEvent (heads x)) (drop k (orders_of (heads x) c))) (sym is)
+    (events_there x c (creates c r.world.history) _ (orders_fit x o r c run can)))
+
+-- the next order of a client, by what is at hand of it
+pub order_now : (x : Prog) (h : List Entry) (c n k : ℕ) (d : Heads) → d ≡ heads x → k ≡ creates c h → n ≡ gave h c → slice_get (orders_left x c h (gave h c)) 0 ≡ slice_get (orders_at d c n k) 0
+order_now x h c n k d same made is =
+    sym (ap (λ (q : Heads). slice_get (orders_at q c n k) 0) same
+    ∙ (ap (λ (q : ℕ). slice_get (orders_at (heads x) c n q) 0) made
+    ∙ ap (λ (q : ℕ). slice_get (orders_at (heads x) c q (creates c h)) 0) is))
 
 same_some : {A : Type 0} (b a : A) → Some b ≡ Some a → b ≡ a
 same_some b a e = cc

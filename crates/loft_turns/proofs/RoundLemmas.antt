@@ -1,10 +1,9 @@
 -- What a turn and an order leave of a run.
 use Rattle.std.proofs.Common.{◌≡◌, ◌≢◌, ℕ, zero, suc, ◌+◌, ◌-◌, ◌<◌, ◌≤◌, ◌==◌, Bool, true, false, List, [], ◌∷◌, ◌++◌, length, refl, sym, ◌∙◌, ap, subst, arith, Option, Some, None, ◌||◌, ◌⊎◌, inl, inr, sum_by, eq-eqb, Result, Ok, Err}
 use Rattle.std.proofs.lemmas.Bool.{eqb-true, eqb-false, lt-ltb, ltb-true, ltb-false, leb-false}
-use Rattle.std.proofs.lemmas.List.Sums.{sum_by-cons}
+use Rattle.std.proofs.lemmas.List.Sums.{sum_by-cons, fold-append}
 use Rattle.std.specs.List.{range_with_len}
 use Rattle.std.specs.Prelude.{if◌then◌else◌, not, ◌&&◌, nat_lt, drop, MatchOption, OnOk, IfOk}
-use Rattle.std.proofs.lemmas.List.Sums.{fold-append}
 use Rattle.loft_base.specs.declared.ids.SchedId.{SchedId}
 use Rattle.loft_sense.specs.declared.entry.Entry.{Entry}
 use Rattle.loft_sense.specs.declared.entry.Entry.TheVariants.{Take, Give, Pick, Client}
@@ -20,7 +19,8 @@ use Rattle.loft_sense.proofs.AroundLemmas.{instant_number}
 use Rattle.loft_sense.proofs.HistoryLemmas.{unsent_none, on_first}
 use Rattle.loft_turns.specs.Course.{Stand, HasWorkers, Moves}
 use Rattle.loft_turns.specs.Rounds.{instants_left, orders_unsent, left, AllRest, Nears, WorksOff, EndsOrNears, turn_of, job_of, order_of}
-use Rattle.loft_turns.proofs.CourseLemmas.{replayed_taken, log_given, opened, give_entry}
+use Rattle.loft_steps.proofs.TurnLemmas.{replayed_taken, log_given, opened}
+use Rattle.loft_turns.proofs.CourseLemmas.{give_entry}
 use Rattle.loft_turns.proofs.RunsOn.{other_stands, clients_kept}
 use Rattle.loft_turns.proofs.ClientsRun.{stands_still}
 
@@ -119,7 +119,7 @@ number_after : (x : Prog) (o : RunOptions) (h : List Entry) (s : SchedId) (batch
     → (replayed x o.limits s (turned h s batch sent)).machine.number ≡ (replayed x o.limits s h).machine.number + 1
 number_after x o h s batch sent =
     ap (λ (l : List (List Order)). (replay x o.limits s l).machine.number) (log_given s (h ++ Take s batch ∷ []) sent)
-    ∙ (ap (λ (r : Replayed). r.machine.number) (replayed_taken x o s h batch)
+    ∙ (ap (λ (r : Replayed). r.machine.number) (replayed_taken x o.limits s h batch)
     ∙ instant_number x o.limits (replayed x o.limits s h).machine batch)
 
 others_left : (x : Prog) (o : RunOptions) (h : List Entry) (s : SchedId) (batch : List Order) (sent : List Sent) (j : ℕ) → j ≢ s.0 → instants_left x o (turned h s batch sent) j ≡ instants_left x o h j

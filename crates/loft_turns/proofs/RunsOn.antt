@@ -21,12 +21,13 @@ use Rattle.loft_sense.specs.Heads.{scheduler, same_scheduler}
 use Rattle.loft_sense.specs.Machine.{Prog, heads}
 use Rattle.loft_sense.specs.Instant.{replay}
 use Rattle.loft_sense.specs.Clients.{orders_from, orders_or_none}
-use Rattle.loft_sense.specs.History.{Choice, TakeBy, GiveBy, PickBy, PostBy, ClientBy, choice_of, log, in_instant, is_open, left_of, is_busy, unsent, creates, replayed, has_turn, waiting, sent_last, entry_of, with_entry, hist_on, hist, creates_step, busy_step, instant_step, left_step, unsent_step}
+use Rattle.loft_sense.specs.History.{Choice, TakeBy, GiveBy, PickBy, PostBy, ClientBy, choice_of, log, in_instant, is_open, left_of, is_busy, unsent, creates, replayed, has_turn, waiting, sent_last, entry_of, with_entry, hist_on, hist, creates_step, busy_step, left_step, unsent_step, instant_step}
 use Rattle.loft_sense.specs.Legal.{actor_of, same_actor, of}
 use Rattle.loft_sense.proofs.HistoryLemmas.{choice_kept, log-append}
 use Rattle.loft_world.specs.State.{State, no_entries}
 use Rattle.loft_turns.specs.Blocks.{IsHand}
 use Rattle.loft_turns.specs.Course.{Stand, stand_after, stands_after, Hand, hand_after, hands_after, gave, orders_left, Course, IsRun, Moves}
+use Rattle.loft_turns.proofs.CourseLemmas.{stays}
 
 -- ---- the history
 
@@ -252,9 +253,6 @@ turned x o r w s st c moved run turn moves same stands =
     }
 
 -- ---- a scheduler of a run
-
-pub stays : (x : Prog) (o : RunOptions) (h : List Entry) (c : Choice) → entry_of x o h c ≡ None → Moves x o h c false h
-stays x o h c none = subst (λ (next : Option Entry). MatchOption next ((false ≡ false) × (h ≡ h)) (λ e. (false ≡ true) × (h ≡ h ++ e ∷ []))) (sym none) (refl, refl)
 
 no_take : (declared was turn : Bool) (e : Entry) → declared ≡ false → (if declared && not was && turn then Some e else None) ≡ None
 no_take declared was turn e none = rw (none) refl

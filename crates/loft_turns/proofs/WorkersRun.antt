@@ -26,10 +26,11 @@ use Rattle.loft_sense.proofs.HistoryLemmas.{choice_kept, on_if, on_first, on_pic
 use Rattle.loft_sense.specs.Heads.{scheduler}
 use Rattle.loft_world.specs.State.{State}
 use Rattle.loft_sends.specs.Blocks.{IsExit, IsQuiet, IsBlock}
+use Rattle.loft_steps.proofs.HandLemmas.{left_picked, busy_picked, left_posted, busy_posted}
 use Rattle.loft_turns.specs.Blocks.{IsHand}
 use Rattle.loft_turns.specs.Course.{Hand, hand_after, stand_after, gave, orders_left, Course, IsRun, CanRun, Moves}
-use Rattle.loft_turns.proofs.CourseLemmas.{moved_by}
-use Rattle.loft_turns.proofs.RunsOn.{grown, same_hand, IsWork, hand_is, from_none, same_map, set_one, SameClients, gave_more, given_same, orders_same, same_stand_by, stays}
+use Rattle.loft_turns.proofs.CourseLemmas.{moved_by, stays}
+use Rattle.loft_turns.proofs.RunsOn.{grown, same_hand, IsWork, hand_is, from_none, same_map, set_one, SameClients, gave_more, given_same, orders_same, same_stand_by}
 
 -- ---- the worker's own choices
 
@@ -79,10 +80,7 @@ pub picks : (x : Prog) (o : RunOptions) (h g : List Entry) (w : ℕ) (t : Thread
 picks x o h g w t declared free first grows = moved_by x o h (PickBy w) g (Pick w t) (pick_entry x o h w t declared free first) grows
 
 pub picked_hand : (x : Prog) (o : RunOptions) (h : List Entry) (w : ℕ) (t : Thread) → hand_after x o (h ++ Pick w t ∷ []) w ≡ record { left = async x t o.limits.block; busy = true }
-picked_hand x o h w t =
-    same_hand (hand_after x o (h ++ Pick w t ∷ []) w) _
-    (fold-append (left_step x o w) [] h (Pick w t ∷ []) ∙ ap (λ (own : Bool). if own then async x t o.limits.block else left_of x o w h) (eq-eqb w w refl))
-    (fold-append (busy_step w) false h (Pick w t ∷ []) ∙ ap (λ (own : Bool). own || is_busy w h) (eq-eqb w w refl))
+picked_hand x o h w t = same_hand (hand_after x o (h ++ Pick w t ∷ []) w) _ (left_picked x o w h t) (busy_picked w h t)
 
 -- nothing is left to post
 pub none_to_post : (x : Prog) (o : RunOptions) (h : List Entry) (w : ℕ) → left_of x o w h ≡ [] → Moves x o h (PostBy w) false h
@@ -101,11 +99,7 @@ posts x o h g w m left declared is grows = moved_by x o h (PostBy w) g (Post w m
 
 pub posted_hand : (x : Prog) (o : RunOptions) (h : List Entry) (w : ℕ) (m : Sent) (left : List Sent) → left_of x o w h ≡ m ∷ left
     → hand_after x o (h ++ Post w m ∷ []) w ≡ record { left = left; busy = not (ends_block m.order) }
-posted_hand x o h w m left is =
-    same_hand (hand_after x o (h ++ Post w m ∷ []) w) _
-    (fold-append (left_step x o w) [] h (Post w m ∷ [])
-    ∙ (ap (λ (own : Bool). if own then drop 1 (left_of x o w h) else left_of x o w h) (eq-eqb w w refl) ∙ ap (λ (l : List Sent). drop 1 l) is))
-    (fold-append (busy_step w) false h (Post w m ∷ []) ∙ ap (λ (own : Bool). if own then not (ends_block m.order) else is_busy w h) (eq-eqb w w refl))
+posted_hand x o h w m left is = same_hand (hand_after x o (h ++ Post w m ∷ []) w) _ (left_posted x o w h m left is) (busy_posted w h m)
 
 -- a worker with a job in hand has something left to post
 pub next_of_block : {Q : Type 0} (h : Heads) (t : ThreadId) (left : List Sent) → IsBlock h t left → ((m : Sent) (rest : List Sent) → left ≡ m ∷ rest → Q) → Q

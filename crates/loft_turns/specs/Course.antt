@@ -1,5 +1,5 @@
 -- A run so far: its world, its schedulers and workers with their engines, and how far each client is (docs/SEMANTICS.md, "History").
-use Rattle.std.specs.Prelude.{◌≡◌, ℕ, ◌≤◌, Bool, true, false, List, [], ◌∷◌, ◌++◌, map, length, drop, All, Ok, slice_get, MatchOption}
+use Rattle.std.specs.Prelude.{◌≡◌, ℕ, ◌≤◌, Bool, true, false, List, [], ◌∷◌, ◌++◌, map, length, All, Ok, MatchOption}
 use Rattle.std.specs.List.{range_with_len}
 use Rattle.loft_base.specs.declared.ids.SchedId.{SchedId}
 use Rattle.loft_tree.specs.declared.limits.TheConstants.{MAX_SCHEDULERS, MAX_CLIENTS}
@@ -15,26 +15,23 @@ use Rattle.loft_sense.specs.declared.order.Sent.{Sent}
 use Rattle.loft_sense.specs.Machine.{Prog, Code, heads as heads_of, Mach}
 use Rattle.loft_sense.specs.Fits.{Fits}
 use Rattle.loft_sense.specs.Async.{async}
-use Rattle.loft_sense.specs.Clients.{orders_from, orders_or_none, outside_of}
+use Rattle.loft_sense.specs.Clients.{outside_of}
 use Rattle.loft_sense.specs.History.{Choice, choice_of, hist, entry_of, waiting, jobs, is_open, left_of, is_busy, creates, unsent, replayed}
 use Rattle.loft_sense.specs.Legal.{of, FitsOne}
 use Rattle.loft_sense.specs.Heads.{scheduler}
 use Rattle.loft_world.specs.State.{State}
 use Rattle.loft_world.specs.Replay.{stand_of}
 use Rattle.loft_sends.specs.Blocks.{IsBlock}
+use Rattle.loft_steps.specs.Clients.{orders_at}
 use Rattle.loft_turns.specs.Blocks.{IsHand}
 
--- what a station shows: a scheduler, how it stands, the notes of its instants, and whether it is in one
+-- what a station shows: a scheduler, how it stands, the notes of its instants, and whether it is in one; then it stands as after that, also where it is still to be made
 pub record Stand : Type 0 where
   pub scheduler : SchedId
   pub failed : Bool
   pub machine : Mach
   pub notes : List InstantNote
   pub running : Bool
-
--- the same scheduler after the instant that it is in, if any
-abbrev pub between : Stand → Stand
-between s = record { scheduler = s.scheduler; failed = s.failed; machine = s.machine; notes = s.notes; running = false }
 
 -- what the history makes of the scheduler of this index
 abbrev pub stand_after : Prog → RunOptions → List Entry → ℕ → Stand
@@ -69,7 +66,7 @@ gave h c = length (of (actor.Client c) h)
 
 -- the orders of a client from this index on, as they are sent, its creates numbered on
 abbrev pub orders_left : Prog → ℕ → List Entry → ℕ → List Sent
-orders_left x c h index = orders_from (heads_of x) c (creates c h) (drop index (orders_or_none (slice_get (heads_of x).clients c)))
+orders_left x c h index = orders_at (heads_of x) c index (creates c h)
 
 -- what a course shows
 pub record Course : Type 0 where

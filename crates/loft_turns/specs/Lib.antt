@@ -2,3 +2,4 @@ pub mod Blocks
 pub mod Course
 pub mod Rounds
 pub mod Running
+pub mod Turning

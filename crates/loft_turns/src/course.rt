@@ -7,12 +7,12 @@ ghost use Rattle.loft_world.specs.Replay.{IsReplayOf};
 ghost use Rattle.loft_turns.specs.Course.{IsRun, CanRun, Moves, stands_after, hands_after};
 
 use crate::block_engine::BlockEngine;
-use crate::client::order_at;
 use crate::setting::Setting;
 use crate::station::{Station, finish_all};
 use crate::worker::Worker;
 use loft_base::{NoMemory, SchedId};
 use loft_sense::Engine;
+use loft_steps::next_order;
 use loft_tree::Heads;
 use loft_world::{Finals, Finished, Notes, World};
 use std::alloc::Global;
@@ -70,8 +70,8 @@ impl<X: Setting, E: Engine, B: BlockEngine> Course<X, E, B> {
         })
     }
 
-    /// The scheduler takes what waits for it and makes an instant on it, where that is allowed.
-    /// Answers whether it was.
+    /// The scheduler takes what waits for it, where that is allowed. Its instant is made as it gives.
+    /// Answers whether it was allowed.
     pub fn take(&mut self, alloc: Global, s: SchedId) -> Result<bool, NoMemory>
         requires run { IsRun X.program X.options self.old }
         requires can { CanRun X.program X.options }
@@ -86,7 +86,8 @@ impl<X: Setting, E: Engine, B: BlockEngine> Course<X, E, B> {
         self.stations[at].take(alloc, s, &mut self.world)
     }
 
-    /// The scheduler gives what its instant sent, where that is allowed. Answers whether it was.
+    /// The scheduler makes its instant and gives what that sent, where that is allowed. Answers whether
+    /// it was.
     pub fn give(&mut self, alloc: Global, s: SchedId) -> Result<bool, NoMemory>
         requires run { IsRun X.program X.options self.old }
         requires can { CanRun X.program X.options }
@@ -147,7 +148,8 @@ impl<X: Setting, E: Engine, B: BlockEngine> Course<X, E, B> {
             return Ok(false);
         }
         let given = self.given[at];
-        let Some(sent) = order_at::<X>(alloc, heads, &self.world, c, given)? else {
+        let creates = self.world.creates(c);
+        let Some(sent) = next_order(alloc, heads, c, given, creates)? else {
             return Ok(false);
         };
         let gave = self.world.client(alloc, c, &sent);
@@ -157,10 +159,10 @@ impl<X: Setting, E: Engine, B: BlockEngine> Course<X, E, B> {
         Ok(true)
     }
 
-    /// The number of the scheduler's last instant; 0 for one that isn't declared.
-    pub(crate) fn instant(&self, s: SchedId) -> u64 {
+    /// The number of the next instant that the scheduler makes; 0 for one that isn't declared.
+    pub(crate) fn next_instant(&self, s: SchedId) -> u64 {
         match self.stations.get(s.0 as usize) {
-            Some(station) => station.instant(),
+            Some(station) => station.next_instant(),
             None => 0,
         }
     }

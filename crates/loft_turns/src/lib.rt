@@ -3,7 +3,6 @@
 #![tactic(auto)]
 
 mod block_engine;
-mod client;
 mod course;
 mod laws;
 mod rounds;

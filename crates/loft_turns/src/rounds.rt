@@ -21,8 +21,8 @@ use std::sync::Wait;
 use std::thread::Threads;
 
 impl<X: Setting, E: Engine, B: BlockEngine> Course<X, E, B> {
-    /// One turn of a scheduler, where it has one to make: it takes what waits, makes an instant,
-    /// passes the gate and gives what that sent. Answers whether it had one.
+    /// One turn of a scheduler, where it has one to make: it takes what waits, passes the gate, makes
+    /// an instant and gives what that sent. Answers whether it had one.
     fn turn<R: Threads + Wait + Sync, G: Gate>(
         &mut self,
         rt: &R,
@@ -41,7 +41,7 @@ impl<X: Setting, E: Engine, B: BlockEngine> Course<X, E, B> {
         if !self.take(alloc, s)? {
             return Ok(false);
         }
-        let number = self.instant(s);
+        let number = self.next_instant(s);
         gate.pass(rt, Turn::Instant { s, number });
         self.give(alloc, s)
     }

@@ -1,62 +1,90 @@
 //! One scheduler in a run.
 
 ghost use Rattle.std.specs.Prelude.{◌≡◌, ◌++◌, ◌∷◌, [], ℕ, false, map, All, IfOk, OnOk};
-ghost use Rattle.std.specs.Option.{option_to_list};
 ghost use Rattle.loft_sense.specs.Fits.{Fits};
 ghost use Rattle.loft_sense.specs.Machine.{empty, heads as heads_of};
-ghost use Rattle.loft_sense.specs.History.{TakeBy, GiveBy, has_turn, waiting};
-ghost use Rattle.loft_sense.specs.declared.entry.Entry.TheVariants as entry;
-ghost use Rattle.loft_sense.specs.Rest.{is_spent};
+ghost use Rattle.loft_sense.specs.History.{TakeBy, GiveBy, waiting};
 ghost use Rattle.loft_sense.specs.Heads.{scheduler};
 ghost use Rattle.loft_tree.specs.NamedFits.{IsScheduler};
-ghost use Rattle.loft_world.specs.State.{with_entry};
 ghost use Rattle.loft_world.specs.Replay.{stand_of};
-ghost use Rattle.loft_turns.specs.Course.{Moves, stand_after, between, IsLast};
+ghost use Rattle.loft_turns.specs.Course.{Moves, stand_after, IsLast};
+ghost use Rattle.loft_turns.specs.Turning.{settled, CanMake};
 
 use crate::setting::Setting;
 use loft_base::{NoMemory, SchedId, Sequence};
-use loft_sense::{Engine, FinalState, InstantNote, Orders};
+use loft_sense::{Engine, FinalState, Orders};
+use loft_steps::{give_last, make_instant, take_where_due};
 use loft_world::{FinalStates, NoteList, NoteLists, World};
 use std::alloc::Global;
 use std::marker::{Model, PhantomData};
+use std::mem;
 
-/// A scheduler in a run: its engine, the notes of its instants, and the note of the instant that it
-/// is in, after a take and before the give that follows.
+/// How far a scheduler's turn is.
+#[derive(Drop)]
+enum Stage {
+    /// It is in none.
+    Between,
+    /// It has taken these orders, and its instant on them is still to be made.
+    Taken(Orders),
+    /// Its instant is made, and what that sent is still to be given.
+    Made,
+}
+
+/// A scheduler in a run: its engine, the notes of its instants, and how far its turn is. Between a take
+/// and the give that follows it is seen as after its instant, also where that is still to be made.
 #[derive(Drop)]
 pub struct Station<X: Setting, E: Engine> {
     engine: E,
     notes: NoteList,
-    current: Option<InstantNote>,
+    stage: Stage,
     of: PhantomData<X>,
 }
 
 impl<X: Setting, E: Engine> Model for Station<X, E> {
-    ghost use Rattle.std.specs.Prelude.{◌≡◌, ◌++◌, is_some};
-    ghost use Rattle.std.specs.Option.{option_to_list};
+    ghost use Rattle.std.specs.Prelude.{◌≡◌};
     ghost use Rattle.loft_turns.specs.Course.{Stand};
+    ghost use Rattle.loft_turns.specs.Turning.{is_in_turn, settled, CanMake};
 
     ghost Value = { Stand };
 
-    ghost view = { λ s. record {
-      scheduler = E.scheduler s.engine;
-      failed = E.has_failed s.engine;
-      machine = E.machine s.engine;
-      notes = s.notes ++ option_to_list s.current;
-      running = is_some s.current;
+    ghost view = { λ t. record {
+      scheduler = E.scheduler t.engine;
+      failed = E.has_failed t.engine;
+      machine = (settled (E.program t.engine) (E.limits t.engine) (E.machine t.engine)
+          t.notes t.stage).machine;
+      notes = (settled (E.program t.engine) (E.limits t.engine) (E.machine t.engine)
+          t.notes t.stage).notes;
+      running = is_in_turn t.stage;
     } };
 
-    ghost invariant = { λ s. (E.program s.engine ≡ X.program) × (E.limits s.engine ≡ X.options.limits) };
+    ghost invariant = { λ t. ((E.program t.engine ≡ X.program)
+        × (E.limits t.engine ≡ X.options.limits))
+        × CanMake (E.program t.engine) (E.limits t.engine) (E.scheduler t.engine)
+        (E.has_failed t.engine) (E.machine t.engine) t.stage };
 }
 
-/// The notes with one more, if there is one.
-fn with_note(notes: NoteList, note: Option<InstantNote>) -> Result<NoteList, NoMemory>
-    ensures { IfOk result (λ all. all ≡ notes ++ option_to_list note) }
+/// Makes the instant that is still to be made, if any.
+fn settle<E: Engine>(
+    alloc: Global,
+    engine: &mut E,
+    notes: &mut NoteList,
+    stage: Stage,
+) -> Result<(), NoMemory>
+    requires { CanMake (E.program engine.old) (E.limits engine.old) (E.scheduler engine.old)
+        (E.has_failed engine.old) (E.machine engine.old) stage }
+    ensures machine { OnOk result (E.machine engine.new ≡ (settled (E.program engine.old)
+        (E.limits engine.old) (E.machine engine.old) notes.old stage).machine) }
+    ensures notes { OnOk result (notes.new ≡ (settled (E.program engine.old)
+        (E.limits engine.old) (E.machine engine.old) notes.old stage).notes) }
+    ensures works { OnOk result (E.has_failed engine.new ≡ E.has_failed engine.old) }
+    ensures same_program { E.program engine.new ≡ E.program engine.old }
+    ensures same_scheduler { E.scheduler engine.new ≡ E.scheduler engine.old }
+    ensures same_limits { E.limits engine.new ≡ E.limits engine.old }
 {
-    let mut notes = notes;
-    if let Some(note) = note {
-        notes.push(note)?;
+    match stage {
+        Stage::Taken(batch) => make_instant(alloc, engine, notes, &batch),
+        Stage::Between | Stage::Made => Ok(()),
     }
-    Ok(notes)
 }
 
 impl<X: Setting, E: Engine> Station<X, E> {
@@ -72,21 +100,13 @@ impl<X: Setting, E: Engine> Station<X, E> {
         Station {
             engine,
             notes: Sequence::new(alloc),
-            current: None,
+            stage: Stage::Between,
             of: PhantomData,
         }
     }
 
-    /// Whether it has a turn to make on these orders.
-    fn has_turn(&self, orders: &Orders) -> bool
-        requires { self.now.failed ≡ false }
-        ensures { result ≡ has_turn X.program X.options.limits self.now.machine orders.now }
-    {
-        !self.engine.spent() && !(self.engine.resting() && orders.is_empty())
-    }
-
-    /// Takes what waits for the scheduler and makes an instant on it, where it has a turn to make.
-    /// Answers whether it has taken.
+    /// Takes what waits for the scheduler, where it has a turn to make. Its instant is made later,
+    /// outside the world. Answers whether it has taken.
     pub(crate) fn take(
         &mut self,
         alloc: Global,
@@ -103,32 +123,25 @@ impl<X: Setting, E: Engine> Station<X, E> {
             (TakeBy s) moved world.new.history) }
         ensures heads { OnOk result (world.new.heads ≡ world.old.heads) }
     {
-        if self.current.is_some() || !self.has_turn(world.left(s)) {
+        if self.is_in_turn() {
             return Ok(false);
         }
-        self.begin(alloc, s, world)?;
+        let Some(batch) = take_where_due(alloc, &self.engine, s, world)? else {
+            return Ok(false);
+        };
+        self.stage = Stage::Taken(batch);
         Ok(true)
     }
 
-    /// Takes what waits for the scheduler and makes an instant on it.
-    fn begin(&mut self, alloc: Global, s: SchedId, world: &mut World) -> Result<(), NoMemory>
-        requires declared { IsScheduler world.old.heads s }
-        requires stands { self.old ≡ stand_after X.program X.options world.old.history s.0 }
-        requires shut { self.old.running ≡ false }
-        requires unspent { is_spent X.program X.options.limits self.old.machine ≡ false }
-        requires fits { All (Fits X.program s) (waiting world.old.heads s world.old.history) }
-        ensures stands { OnOk result
-            (self.new ≡ stand_after X.program X.options world.new.history s.0) }
-        ensures taken { OnOk result (world.new ≡ with_entry world.old
-            (entry.Take s (waiting world.old.heads s world.old.history))) }
+    /// Whether it has taken, and has still to give.
+    fn is_in_turn(&self) -> bool
+        ensures { result ≡ self.now.running }
     {
-        let note = self.engine.take(alloc, world.left(s))?;
-        self.current = Some(note);
-        world.record_take(alloc, s)?;
-        Ok(())
+        !matches!(self.stage, Stage::Between)
     }
 
-    /// Gives what the instant sent, where the scheduler is in one. Answers whether it has given.
+    /// Makes the instant on what it has taken, where that is still to be made, and gives what it
+    /// sent, where the scheduler is in one. Answers whether it has given.
     pub(crate) fn give(
         &mut self,
         alloc: Global,
@@ -144,27 +157,19 @@ impl<X: Setting, E: Engine> Station<X, E> {
             (GiveBy s) moved world.new.history) }
         ensures heads { OnOk result (world.new.heads ≡ world.old.heads) }
     {
-        let Some(note) = &self.current else {
+        if !self.is_in_turn() {
             return Ok(false);
-        };
-        world.give(alloc, s, &note.sent)?;
-        self.end()?;
+        }
+        let stage = mem::replace(&mut self.stage, Stage::Made);
+        settle(alloc, &mut self.engine, &mut self.notes, stage)?;
+        give_last(alloc, s, &self.notes, world)?;
+        self.stage = Stage::Between;
         Ok(true)
     }
 
-    /// Puts the note of the instant that it is in, if any, to those of the instants before.
-    fn end(&mut self) -> Result<(), NoMemory>
-        ensures { OnOk result (self.new ≡ between self.old) }
-    {
-        match self.current.take() {
-            Some(note) => self.notes.push(note),
-            None => Ok(()),
-        }
-    }
-
-    /// The number of its last instant.
-    pub(crate) fn instant(&self) -> u64 {
-        self.engine.instant()
+    /// The number of the next instant that its engine makes, counted from 1.
+    pub(crate) fn next_instant(&self) -> u64 {
+        self.engine.instant().saturating_add(1)
     }
 
     /// The notes of its instants, and how it stands.
@@ -172,12 +177,12 @@ impl<X: Setting, E: Engine> Station<X, E> {
         ensures { IfOk result (λ last. IsLast self last.0 last.1) }
     {
         let Station {
-            engine,
-            notes,
-            current,
+            mut engine,
+            mut notes,
+            stage,
             ..
         } = self;
-        let notes = with_note(notes, current)?;
+        settle(alloc, &mut engine, &mut notes, stage)?;
         let last = engine.last(alloc)?;
         Ok((notes, last))
     }
