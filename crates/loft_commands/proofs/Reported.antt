@@ -7,11 +7,11 @@ use Rattle.loft_sense.specs.declared.limits.RunOptions.{RunOptions}
 use Rattle.loft_sense.specs.declared.note.FinalState.{FinalState}
 use Rattle.loft_sense.specs.declared.note.InstantNote.{InstantNote}
 use Rattle.loft_sense.specs.Machine.{Prog, heads}
-use Rattle.loft_sense.specs.History.{Choice, choice_of, hist, HasEnded}
-use Rattle.loft_sense.specs.Legal.{IsLegal}
+use Rattle.loft_history.specs.History.{Choice, choice_of, hist, HasEnded}
+use Rattle.loft_history.specs.Legal.{IsLegal}
 use Rattle.loft_sense.specs.Lines.{text_of}
-use Rattle.loft_sense.specs.Report.{head_lines, report}
-use Rattle.loft_sense.proofs.LegalLemmas.{made_is_legal}
+use Rattle.loft_history.specs.Report.{head_lines, report}
+use Rattle.loft_history.proofs.LegalLemmas.{made_is_legal}
 use Rattle.loft_world.specs.declared.results.Finished.{Finished}
 use Rattle.loft_world.specs.Replay.{IsReplayOf}
 use Rattle.loft_turns.specs.Running.{IsWholeRun}

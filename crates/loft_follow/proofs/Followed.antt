@@ -10,7 +10,7 @@ use Rattle.loft_sense.specs.declared.limits.RunOptions.{RunOptions}
 use Rattle.loft_sense.specs.declared.note.FinalState.{FinalState}
 use Rattle.loft_sense.specs.declared.note.InstantNote.{InstantNote}
 use Rattle.loft_sense.specs.Machine.{Prog, Tree, heads}
-use Rattle.loft_sense.specs.Report.{report}
+use Rattle.loft_history.specs.Report.{report}
 use Rattle.loft_world.specs.declared.results.Finished.{Finished}
 use Rattle.loft_world.specs.Replay.{IsReplayOf}
 use Rattle.loft_log.specs.declared.choice.Choice.{Choice}

@@ -6,7 +6,7 @@ use Rattle.loft_tree.specs.Resolved.{resolved_of}
 use Rattle.loft_sense.specs.declared.entry.Entry.{Entry}
 use Rattle.loft_sense.specs.declared.limits.RunOptions.{RunOptions}
 use Rattle.loft_sense.specs.Machine.{Tree}
-use Rattle.loft_sense.specs.Report.{report}
+use Rattle.loft_history.specs.Report.{report}
 use Rattle.loft_log.specs.declared.choice.Choice.{Choice}
 use Rattle.loft_replay.specs.Named.{follows}
 use Rattle.loft_follow.specs.Program.{IsProgramOf}

@@ -8,9 +8,9 @@ use Rattle.loft_sense.specs.declared.limits.RunOptions.{RunOptions}
 use Rattle.loft_sense.specs.declared.note.FinalState.{FinalState}
 use Rattle.loft_sense.specs.declared.note.InstantNote.{InstantNote}
 use Rattle.loft_sense.specs.Machine.{Prog, heads}
-use Rattle.loft_sense.specs.History.{choice_of, replayed}
+use Rattle.loft_history.specs.History.{choice_of, replayed}
 use Rattle.loft_sense.specs.Lines.{text_of}
-use Rattle.loft_sense.specs.Report.{head_lines, scheduler_lines, left_part, schedulers, report_lines, report}
+use Rattle.loft_history.specs.Report.{head_lines, scheduler_lines, left_part, schedulers, report_lines, report}
 use Rattle.loft_world.specs.Replay.{stand_of, IsReplayOf}
 use Rattle.loft_log.specs.WorldReport.{world_blocks, world_left, world_report}
 

@@ -7,9 +7,9 @@ use Rattle.loft_sense.specs.declared.entry.Entry.{Entry}
 use Rattle.loft_sense.specs.declared.limits.RunOptions.{RunOptions}
 use Rattle.loft_sense.specs.declared.note.FinalState.{FinalState}
 use Rattle.loft_sense.specs.declared.note.InstantNote.{InstantNote}
-use Rattle.loft_sense.specs.History.{choice_of, log, waiting}
+use Rattle.loft_history.specs.History.{choice_of, log, waiting}
 use Rattle.loft_sense.specs.Lines.{text_of}
-use Rattle.loft_sense.specs.Report.{head_lines, instants_lines, final_lines, left_line, left_part, schedulers_from}
+use Rattle.loft_history.specs.Report.{head_lines, instants_lines, final_lines, left_line, left_part, schedulers_from}
 use Rattle.loft_sense.specs.Text.{scheduler_name}
 
 -- a scheduler's block: the batches that it took with the notes of its instants, and how it stands in the end

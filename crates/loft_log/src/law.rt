@@ -6,7 +6,7 @@ ghost use Rattle.loft_sense.specs.declared.note.InstantNote.{InstantNote};
 ghost use Rattle.loft_sense.specs.declared.note.FinalState.{FinalState};
 ghost use Rattle.loft_sense.specs.declared.limits.RunOptions.{RunOptions};
 ghost use Rattle.loft_sense.specs.Machine.{Prog, heads};
-ghost use Rattle.loft_sense.specs.Report.{report};
+ghost use Rattle.loft_history.specs.Report.{report};
 ghost use Rattle.loft_world.specs.Replay.{IsReplayOf};
 ghost use Rattle.loft_log.specs.WorldReport.{world_report};
 

@@ -11,10 +11,10 @@ ghost use Rattle.std.specs.Prelude.{◌≡◌, ◌≤◌, ◌++◌, [], ◌∷�
 ghost use Rattle.std.specs.Fmt.{decimal};
 ghost use Rattle.loft_base.specs.Outside.{Rose, appended, GrowsByPrefix};
 ghost use Rattle.loft_sense.specs.Heads.{scheduler, shared_of};
-ghost use Rattle.loft_sense.specs.History.{choice_of};
+ghost use Rattle.loft_history.specs.History.{choice_of};
 ghost use Rattle.loft_sense.specs.Text.{scheduler_name};
 ghost use Rattle.loft_sense.specs.Lines.{text_of};
-ghost use Rattle.loft_sense.specs.Report.{head_lines, shared_lines, final_lines, schedulers_from};
+ghost use Rattle.loft_history.specs.Report.{head_lines, shared_lines, final_lines, schedulers_from};
 ghost use Rattle.loft_text.specs.Buffer.{Holds};
 ghost use Rattle.loft_log.specs.WorldReport.{world_block, world_blocks, world_report};
 ghost use Rattle.loft_base.specs.Writing.{WritesTo};

@@ -25,12 +25,13 @@ use Rattle.loft_sense.specs.Machine.{Prog, heads, empty}
 use Rattle.loft_sense.specs.Fits.{Fits}
 use Rattle.loft_sense.specs.Instant.{instant, Replayed, one_more, replay_on, replay}
 use Rattle.loft_sense.specs.Async.{async}
-use Rattle.loft_sense.specs.Clients.{made_by, control_of, orders_from, orders_or_none, outside_of}
-use Rattle.loft_sense.specs.History.{log, is_open, waiting, jobs, ends_block, left_after, left_of, unsent_after, unsent, is_create, creates_after, creates, replayed, has_turn, sent_last, entry_of_first, pick_of, creates_step, left_step, unsent_step}
-use Rattle.loft_sense.specs.Legal.{of, IsCallersOrder, FitsOne, IsLegal, ComesNext}
-use Rattle.loft_sense.proofs.HistoryLemmas.{is_same, on_if, on_first, on_pick, replay_on-append, sent_last-append, unsent_none}
-use Rattle.loft_sense.proofs.OwnLemmas.{given}
-use Rattle.loft_sense.proofs.LegalEntries.{legal_exactly}
+use Rattle.loft_history.specs.Clients.{made_by, control_of, orders_from, orders_or_none, outside_of}
+use Rattle.loft_history.specs.History.{log, is_open, waiting, jobs, ends_block, left_after, left_of, unsent_after, unsent, is_create, creates_after, creates, replayed, has_turn, sent_last, entry_of_first, pick_of, creates_step, left_step, unsent_step}
+use Rattle.loft_history.specs.Legal.{of, IsCallersOrder, FitsOne, IsLegal, ComesNext}
+use Rattle.loft_sense.proofs.ReplayLemmas.{replay_on-append}
+use Rattle.loft_history.proofs.HistoryLemmas.{is_same, on_if, on_first, on_pick, sent_last-append, unsent_none}
+use Rattle.loft_history.proofs.OwnLemmas.{given}
+use Rattle.loft_history.proofs.LegalEntries.{legal_exactly}
 use Rattle.loft_stand.specs.WellFormed.{IsWellFormed}
 use Rattle.loft_stand.proofs.ListLemmas.{all_of}
 use Rattle.loft_stand.proofs.OrderLemmas.{outside_for_one}

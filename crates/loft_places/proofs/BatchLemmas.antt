@@ -9,9 +9,9 @@ use Rattle.loft_sense.specs.declared.order.Sent.{Sent}
 use Rattle.loft_sense.specs.declared.entry.Entry.{Entry}
 use Rattle.loft_sense.specs.declared.entry.Entry.TheVariants.{Take, Give, Pick, Post, Client}
 use Rattle.loft_sense.specs.Heads.{same_scheduler}
-use Rattle.loft_sense.specs.History.{sends, sent_in, log, orders_to, starts_of, waiting_after, waiting, waiting_step}
-use Rattle.loft_sense.specs.Legal.{TakesDue, IsRouted}
-use Rattle.loft_sense.proofs.HistoryLemmas.{same_self, is_same}
+use Rattle.loft_history.specs.History.{sends, sent_in, log, orders_to, starts_of, waiting_after, waiting, waiting_step}
+use Rattle.loft_history.specs.Legal.{TakesDue, IsRouted}
+use Rattle.loft_history.proofs.HistoryLemmas.{same_self, is_same}
 use Rattle.loft_places.specs.Batches.{joined, InBatches, InBatch, LeftOver, InFirst}
 use Rattle.loft_places.proofs.WalkLemmas.{walk, orders_to-append, sent_more, log_more, waiting_more}
 

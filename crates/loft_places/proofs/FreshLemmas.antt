@@ -16,10 +16,10 @@ use Rattle.loft_sense.specs.declared.order.Order.TheVariants as order
 use Rattle.loft_sense.specs.declared.order.Sent.{Sent}
 use Rattle.loft_sense.specs.Machine.{Prog, heads, Mach}
 use Rattle.loft_sense.specs.CanGo.{same_maker, same_thread}
-use Rattle.loft_sense.specs.Clients.{made_by}
+use Rattle.loft_history.specs.Clients.{made_by}
 use Rattle.loft_sense.specs.Instant.{instant}
-use Rattle.loft_sense.specs.History.{sends, sent_in, is_create, creates, left_of}
-use Rattle.loft_sense.specs.Legal.{IsCallersOrder, IsLegal}
+use Rattle.loft_history.specs.History.{sends, sent_in, is_create, creates, left_of}
+use Rattle.loft_history.specs.Legal.{IsCallersOrder, IsLegal}
 use Rattle.loft_stand.specs.WellFormed.{IsWellFormed}
 use Rattle.loft_sends.specs.Counts.{one, makes, made_in, among_made}
 use Rattle.loft_sends.proofs.CountLemmas.{none_made, numbers_join}

@@ -20,9 +20,10 @@ use Rattle.loft_sense.specs.Heads.{scheduler, same_scheduler}
 use Rattle.loft_sense.specs.Machine.{Prog, heads, Mach, empty}
 use Rattle.loft_sense.specs.CanGo.{same_thread}
 use Rattle.loft_sense.specs.Instant.{instant, Replayed, replay}
-use Rattle.loft_sense.specs.History.{sends, sent_in, orders_to, starts_from, waiting_after, waiting, jobs_sent, jobs_after, jobs, ends_block, left_of}
-use Rattle.loft_sense.specs.Legal.{IsCallersOrder, FitsOne, IsLegal}
-use Rattle.loft_sense.proofs.HistoryLemmas.{same_self, is_same, replay_on-append}
+use Rattle.loft_history.specs.History.{sends, sent_in, orders_to, starts_from, waiting_after, waiting, jobs_sent, jobs_after, jobs, ends_block, left_of}
+use Rattle.loft_history.specs.Legal.{IsCallersOrder, FitsOne, IsLegal}
+use Rattle.loft_sense.proofs.ReplayLemmas.{replay_on-append}
+use Rattle.loft_history.proofs.HistoryLemmas.{same_self, is_same}
 use Rattle.loft_stand.specs.WellFormed.{IsWellFormed}
 use Rattle.loft_stand.proofs.ListLemmas.{each_map}
 use Rattle.loft_stand.proofs.ProgramLemmas.{Begins, starts_begin}

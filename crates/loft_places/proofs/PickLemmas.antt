@@ -12,8 +12,8 @@ use Rattle.loft_sense.specs.declared.order.Sent.{Sent}
 use Rattle.loft_sense.specs.declared.order.To.{To}
 use Rattle.loft_sense.specs.declared.order.To.TheVariants as to
 use Rattle.loft_sense.specs.declared.thread.Thread.{Thread}
-use Rattle.loft_sense.specs.History.{sends, sent_in, job_before, jobs_sent, jobs_step, jobs}
-use Rattle.loft_sense.specs.Legal.{IsFirst, TakesDue, IsRouted}
+use Rattle.loft_history.specs.History.{sends, sent_in, job_before, jobs_sent, jobs_step, jobs}
+use Rattle.loft_history.specs.Legal.{IsFirst, TakesDue, IsRouted}
 use Rattle.loft_places.specs.Batches.{picks, picked_in, InPicks, InPick, StillWaits, InFirstPick}
 use Rattle.loft_places.proofs.WalkLemmas.{walk, sent_more}
 

@@ -15,7 +15,7 @@ use Rattle.loft_sense.specs.declared.order.To.TheVariants as to
 use Rattle.loft_sense.specs.declared.thread.Thread.{Thread}
 use Rattle.loft_sense.specs.Heads.{scheduler, same_scheduler}
 use Rattle.loft_sense.specs.CanGo.{same_thread}
-use Rattle.loft_sense.specs.History.{is_addressed, orders_to, starts_from, job_before, jobs_sent}
+use Rattle.loft_history.specs.History.{is_addressed, orders_to, starts_from, job_before, jobs_sent}
 use Rattle.loft_sends.specs.Counts.{one, makes, carries, brings, brought_in, threads_in, made_in, carried_in}
 use Rattle.loft_sends.specs.Instants.{IsSentWell, SentWell}
 use Rattle.loft_places.specs.Places.{total, started_from}

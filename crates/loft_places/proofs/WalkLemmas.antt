@@ -8,9 +8,9 @@ use Rattle.loft_tree.specs.declared.heads.Heads.{Heads}
 use Rattle.loft_sense.specs.declared.order.Order.{Order}
 use Rattle.loft_sense.specs.declared.order.Sent.{Sent}
 use Rattle.loft_sense.specs.declared.entry.Entry.{Entry}
-use Rattle.loft_sense.specs.History.{sends, sent_in, is_addressed, orders_to, log, starts_of, waiting_after, waiting, waiting_step}
-use Rattle.loft_sense.specs.Legal.{AtEach}
-use Rattle.loft_sense.proofs.HistoryLemmas.{log-append}
+use Rattle.loft_history.specs.History.{sends, sent_in, is_addressed, orders_to, log, starts_of, waiting_after, waiting, waiting_step}
+use Rattle.loft_history.specs.Legal.{AtEach}
+use Rattle.loft_history.proofs.HistoryLemmas.{log-append}
 
 -- what holds at first, and after each entry where it holds before it, holds of the history
 pub walk : (Q : List Entry → Type 0) (P : List Entry → Entry → Type 0) → Q [] → ((before : List Entry) (e : Entry) → Q before → P before e → Q (before ++ e ∷ [])) → (es : List Entry) → AtEach P es → Q es

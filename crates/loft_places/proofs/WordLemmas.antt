@@ -10,8 +10,8 @@ use Rattle.loft_sense.specs.declared.entry.Entry.TheVariants.{Take, Give, Pick, 
 use Rattle.loft_sense.specs.declared.limits.RunOptions.{RunOptions}
 use Rattle.loft_sense.specs.declared.thread.Thread.{Thread}
 use Rattle.loft_sense.specs.Machine.{Prog, heads}
-use Rattle.loft_sense.specs.History.{sent_in, jobs, ends_block, in_hand, is_busy, left_of, busy_step}
-use Rattle.loft_sense.specs.Legal.{IsLegal}
+use Rattle.loft_history.specs.History.{sent_in, jobs, ends_block, in_hand, is_busy, left_of, busy_step}
+use Rattle.loft_history.specs.Legal.{IsLegal}
 use Rattle.loft_stand.specs.WellFormed.{IsWellFormed}
 use Rattle.loft_sends.specs.Counts.{threads_in, ended_in}
 use Rattle.loft_places.specs.Places.{IsOneIf, HandsAgree, hand_after, hand_of, linked_at, arriving_at, in_hand_of, total, everywhere, made_by_all, ThreadPlace, LinkedAt, ArrivesAt, Waits, InHandOf, HasEnded, IsPlaceOf, times, InOne, Nowhere}

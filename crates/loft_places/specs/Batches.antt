@@ -7,7 +7,7 @@ use Rattle.loft_sense.specs.declared.order.Order.{Order}
 use Rattle.loft_sense.specs.declared.entry.Entry.{Entry}
 use Rattle.loft_sense.specs.declared.entry.Entry.TheVariants.{Take, Pick}
 use Rattle.loft_sense.specs.declared.thread.Thread.{Thread}
-use Rattle.loft_sense.specs.History.{sends, sent_in, log, orders_to, starts_of, waiting, jobs_sent, jobs}
+use Rattle.loft_history.specs.History.{sends, sent_in, log, orders_to, starts_of, waiting, jobs_sent, jobs}
 
 -- batches, one after the other
 abbrev pub joined : List (List Order) → List Order

@@ -14,7 +14,7 @@ use Rattle.loft_sense.specs.Heads.{scheduler, same_scheduler}
 use Rattle.loft_sense.specs.Machine.{Prog, heads, Mach}
 use Rattle.loft_sense.specs.CanGo.{same_thread}
 use Rattle.loft_sense.specs.Instant.{replay}
-use Rattle.loft_sense.specs.History.{sent_in, log, is_open, waiting, jobs, ends_block, is_busy}
+use Rattle.loft_history.specs.History.{sent_in, log, is_open, waiting, jobs, ends_block, is_busy}
 use Rattle.loft_sends.specs.Counts.{one, made_in, ended_in, brought_in, threads_in, linked_in}
 use Rattle.loft_places.specs.Batches.{joined}
 

@@ -5,7 +5,7 @@ use Rattle.std.specs.Prelude.{MatchOption, drop}
 use Rattle.loft_sense.specs.declared.entry.Entry.{Entry}
 use Rattle.loft_sense.specs.declared.limits.RunOptions.{RunOptions}
 use Rattle.loft_sense.specs.Machine.{Prog, heads}
-use Rattle.loft_sense.specs.History.{with_entry}
+use Rattle.loft_history.specs.History.{with_entry}
 use Rattle.loft_log.specs.declared.choice.Choice.{Choice}
 use Rattle.loft_replay.specs.Named.{meant, entry_meant, follows_on, follows, MovesBy}
 

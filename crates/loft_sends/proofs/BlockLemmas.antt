@@ -22,7 +22,7 @@ use Rattle.loft_sense.specs.Machine.{Prog, heads}
 use Rattle.loft_sense.specs.Around.{Around}
 use Rattle.loft_sense.specs.Apply.{tell_end}
 use Rattle.loft_sense.specs.Async.{alone, block_sent, async}
-use Rattle.loft_sense.specs.History.{ends_block}
+use Rattle.loft_history.specs.History.{ends_block}
 use Rattle.loft_sense.specs.Instant.{sent_by}
 use Rattle.loft_sense.specs.Passes.{run_of}
 use Rattle.loft_sense.specs.Run.{Outcome, Held, Left, Ended}

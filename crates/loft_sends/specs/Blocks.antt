@@ -8,7 +8,7 @@ use Rattle.loft_sense.specs.declared.order.Order.TheVariants as order
 use Rattle.loft_sense.specs.declared.order.To.{To}
 use Rattle.loft_sense.specs.declared.order.To.TheVariants as to
 use Rattle.loft_sense.specs.declared.order.Sent.{Sent}
-use Rattle.loft_sense.specs.History.{ends_block}
+use Rattle.loft_history.specs.History.{ends_block}
 
 -- the last of these orders, and no other, ends a block: its thread is linked again or has ended
 abbrev pub EndsAtLast : List Sent → Type 0

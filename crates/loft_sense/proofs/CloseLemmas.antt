@@ -29,7 +29,7 @@ use Rattle.loft_sense.specs.Codes.{left_of, IsPending}
 use Rattle.loft_sense.specs.CodeOrigins.{ArrivesNew, IsSetByClose}
 use Rattle.loft_sense.proofs.AroundLemmas.{OutcomeIs, run_is}
 use Rattle.loft_sense.proofs.RunnerLemmas.{IsKept, passes_keep, new_pending}
-use Rattle.loft_sense.proofs.HistoryLemmas.{replay_on-append}
+use Rattle.loft_sense.proofs.ReplayLemmas.{replay_on-append}
 
 -- ---- waits
 

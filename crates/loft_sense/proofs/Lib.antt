@@ -6,9 +6,5 @@ pub mod RunnerLemmas
 pub mod EventLemmas
 pub mod CodeLemmas
 pub mod OriginLemmas
-pub mod HistoryLemmas
 pub mod CloseLemmas
-pub mod OwnLemmas
-pub mod GrowthLemmas
-pub mod LegalLemmas
-pub mod LegalEntries
+pub mod ReplayLemmas

@@ -21,8 +21,4 @@ pub mod CodeOrigins
 pub mod Async
 pub mod Rest
 pub mod Fits
-pub mod Clients
-pub mod History
-pub mod Legal
 pub mod Lines
-pub mod Report

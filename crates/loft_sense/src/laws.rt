@@ -1,79 +1,9 @@
-//! Laws of instants and of histories. Each is what the contract of an empty function says.
+//! The law that passes end. It is what the contract of an empty function says.
 
-ghost use Rattle.std.specs.Prelude.{◌≡◌, ◌<◌, ◌↔◌, ℕ, false, IsTrue, List, [], ◌∷◌, ◌++◌};
-ghost use Rattle.std.specs.Prelude.{map, length, drop, All, None, Ok};
-ghost use Rattle.loft_base.specs.declared.ids.SchedId.{SchedId};
-ghost use Rattle.loft_tree.specs.declared.heads.Heads.{Heads};
-ghost use Rattle.loft_sense.specs.declared.entry.Actor.{Actor};
-ghost use Rattle.loft_sense.specs.declared.entry.Actor.TheVariants.{Sched, Worker, Client};
-ghost use Rattle.loft_sense.specs.declared.entry.Entry.{Entry};
-ghost use Rattle.loft_sense.specs.declared.limits.RunOptions.{RunOptions};
-ghost use Rattle.loft_sense.specs.Machine.{Prog, heads};
+ghost use Rattle.std.specs.Prelude.{◌≡◌, false, List, All};
+ghost use Rattle.loft_sense.specs.Machine.{Prog};
 ghost use Rattle.loft_sense.specs.Around.{Around};
 ghost use Rattle.loft_sense.specs.Passes.{Runner, is_ready, pass, passes};
-ghost use Rattle.loft_sense.specs.History.{log, is_open, left_of, is_busy, creates, unsent};
-ghost use Rattle.loft_sense.specs.History.{Choice, choice_of, entry_of, hist, HasEnded};
-ghost use Rattle.loft_sense.specs.Clients.{outside_of};
-ghost use Rattle.loft_sense.specs.Legal.{actor_of, same_actor, of, AtEach, IsFaithful, IsNextOf};
-ghost use Rattle.loft_sense.specs.Legal.{IsLegal, HasNoCallers, ComesNext};
-
-/// The history that choices make is legal, no caller has an entry in it, and its choices are these:
-/// where every choice is allowed, each batch and each job is what waited, each scheduler takes and
-/// gives in turns, takes only where it has a turn, and gives what its last instant sent, each worker
-/// posts all that its job sends before it picks the next, and each client of the source gives its
-/// orders as the source has them.
-pub fn made_histories_are_legal()
-    ensures legal { (x : Prog) (o : RunOptions) (choices : List Choice) (h : List Entry) → hist x o choices ≡ Ok h → IsLegal x o h }
-    ensures callers { (x : Prog) (o : RunOptions) (choices : List Choice) (h : List Entry) → hist x o choices ≡ Ok h → HasNoCallers (heads x) h }
-    ensures choices { (x : Prog) (o : RunOptions) (choices : List Choice) (h : List Entry) → hist x o choices ≡ Ok h → map choice_of h ≡ choices }
-{}
-
-/// A history without callers is legal exactly where it is the history of its choices.
-pub fn legal_histories_are_made()
-    ensures { (x : Prog) (o : RunOptions) (h : List Entry) → HasNoCallers (heads x) h
-        → IsLegal x o h ↔ (hist x o (map choice_of h) ≡ Ok h) }
-{}
-
-/// A history, with callers or without, is legal exactly where each entry may come after those before
-/// it: it is the entry of its choice, or an order that a caller may give.
-pub fn legal_histories_grow_by_entries()
-    ensures { (x : Prog) (o : RunOptions) (h : List Entry) → IsLegal x o h ↔ AtEach (ComesNext x o) h }
-{}
-
-/// What has become of an actor is told by its own entries: what a scheduler took and whether it is in
-/// an instant, what a worker has still to post and whether it has a job in hand, how many creates a
-/// client has given and what it has still to give. A client of the source has given as many of its
-/// orders as it has entries.
-pub fn own_entries_tell()
-    ensures scheduler { (s : SchedId) (es : List Entry) → let own = of (Sched s) es in
-        (log s own ≡ log s es) × (is_open s own ≡ is_open s es) }
-    ensures worker { (x : Prog) (o : RunOptions) (w : ℕ) (es : List Entry) → let own = of (Worker w) es in
-        (left_of x o w own ≡ left_of x o w es) × (is_busy w own ≡ is_busy w es) }
-    ensures client { (h : Heads) (c : ℕ) (es : List Entry) → let own = of (Client c) es in
-        (creates c own ≡ creates c es) × (unsent h c own ≡ unsent h c es) }
-    ensures given { (h : Heads) (c : ℕ) (es : List Entry)
-        → unsent h c es ≡ drop (length (of (Client c) es)) (outside_of h c) }
-{}
-
-/// An actor's own list grows by one entry exactly where this is its next: it was as it has to be
-/// before, and stays so (`grows`). Which entry is the next of an actor is told by the whole history,
-/// of whomever its other entries are (`in_history`). So a list that grows by next entries, from none
-/// (`begins`), is as it has to be: of a scheduler, a worker, a client of the source, or a caller.
-pub fn own_lists_grow()
-    ensures begins { (x : Prog) (o : RunOptions) (a : Actor) → IsFaithful x o a [] }
-    ensures grows { (x : Prog) (o : RunOptions) (a : Actor) (own : List Entry) (e : Entry)
-        → All (λ d. IsTrue (same_actor a (actor_of d))) own
-        → IsFaithful x o a (own ++ e ∷ []) ↔ IsFaithful x o a own × IsNextOf x o a own e }
-    ensures in_history { (x : Prog) (o : RunOptions) (a : Actor) (h : List Entry) (e : Entry)
-        → IsFaithful x o a (of a h ++ e ∷ []) ↔ IsFaithful x o a (of a h) × IsNextOf x o a h e }
-{}
-
-/// A history has ended exactly where no choice is allowed after it. At least one worker is asked:
-/// without one a thread that waits for a worker would wait for ever.
-pub fn ended_histories_go_no_further()
-    ensures { (x : Prog) (o : RunOptions) (h : List Entry) → 0 < o.workers
-        → HasEnded x o h ↔ ((c : Choice) → entry_of x o h c ≡ None) }
-{}
 
 /// The passes of an instant end only where nobody can go: one more pass would run no thread, and
 /// each thread that is still linked leaves, is suspended, or waits for what isn't there.

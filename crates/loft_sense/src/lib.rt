@@ -1,4 +1,4 @@
-//! What threads do: the values of a running program, and the meaning of instants, histories and reports.
+//! What threads do: the values of a running program, and the meaning of instants.
 #![tactic(auto)]
 
 pub mod code_laws;
@@ -21,10 +21,7 @@ pub use code_laws::{
 };
 pub use engine::Engine;
 pub use entry::{Actor, Entry};
-pub use laws::{
-    ended_histories_go_no_further, legal_histories_are_made, legal_histories_grow_by_entries,
-    made_histories_are_legal, own_entries_tell, own_lists_grow, passes_end,
-};
+pub use laws::passes_end;
 pub use limits::{
     Limits, MAX_BLOCK, MAX_BLOCK_ENTRIES, MAX_BUDGET, MAX_ENTRIES, MAX_FRAMES, MAX_INSTANTS,
     MAX_LINKED, MAX_WORKERS, RunOptions,

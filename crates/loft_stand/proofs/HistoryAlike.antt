@@ -22,14 +22,14 @@ use Rattle.loft_sense.specs.Heads.{shared_values}
 use Rattle.loft_sense.specs.Machine.{Prog, heads, empty}
 use Rattle.loft_sense.specs.Instant.{AfterInstant, Replayed, one_more, replay_on}
 use Rattle.loft_sense.specs.Fits.{IsThread, IsValue, IsEventOf, Fits}
-use Rattle.loft_sense.specs.Clients.{made_by}
-use Rattle.loft_sense.specs.History.{Choice, TakeBy, GiveBy, PickBy, PostBy, ClientBy, choice_of, log, is_open, waiting, jobs, left_after, left_of, unsent, creates, replayed, has_turn, sent_last, entry_of_first, pick_of, entry_of, with_entry, hist_on, hist, has_finished, HasEnded, left_step}
-use Rattle.loft_sense.specs.Legal.{AtEach, IsCallersOrder, FitsOne, IsLegal, IsCallersEntry, ComesNext}
+use Rattle.loft_history.specs.Clients.{made_by}
+use Rattle.loft_history.specs.History.{Choice, TakeBy, GiveBy, PickBy, PostBy, ClientBy, choice_of, log, is_open, waiting, jobs, left_after, left_of, unsent, creates, replayed, has_turn, sent_last, entry_of_first, pick_of, entry_of, with_entry, hist_on, hist, has_finished, HasEnded, left_step}
+use Rattle.loft_history.specs.Legal.{AtEach, IsCallersOrder, FitsOne, IsLegal, IsCallersEntry, ComesNext}
 use Rattle.loft_sense.specs.Lines.{text_of}
-use Rattle.loft_sense.specs.Report.{head_lines, block_lines, scheduler_lines, left_line, schedulers_from, left_part, report_lines, report}
-use Rattle.loft_sense.proofs.HistoryLemmas.{choice_kept}
-use Rattle.loft_sense.proofs.GrowthLemmas.{at_each_before}
-use Rattle.loft_sense.proofs.LegalEntries.{split_on, legal_exactly}
+use Rattle.loft_history.specs.Report.{head_lines, block_lines, scheduler_lines, left_line, schedulers_from, left_part, report_lines, report}
+use Rattle.loft_history.proofs.HistoryLemmas.{choice_kept}
+use Rattle.loft_history.proofs.GrowthLemmas.{at_each_before}
+use Rattle.loft_history.proofs.LegalEntries.{split_on, legal_exactly}
 use Rattle.loft_stand.specs.WellFormed.{IsWellFormed}
 use Rattle.loft_stand.specs.Alike.{RunsAlike}
 use Rattle.loft_stand.proofs.AlikeLemmas.{instant_same, blocks_same}

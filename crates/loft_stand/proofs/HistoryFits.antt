@@ -19,10 +19,10 @@ use Rattle.loft_sense.specs.declared.thread.Thread.{Thread}
 use Rattle.loft_sense.specs.Machine.{Prog, heads, empty}
 use Rattle.loft_sense.specs.Fits.{Fits}
 use Rattle.loft_sense.specs.Instant.{Replayed, one_more, replay_on, replay}
-use Rattle.loft_sense.specs.History.{sends, sent_in, starts_of, waiting_after, waiting, job_before, jobs_sent, jobs_after, jobs, left_of, unsent, replayed}
-use Rattle.loft_sense.specs.Legal.{IsLegal, IsCallersEntry, ComesNext}
+use Rattle.loft_history.specs.History.{sends, sent_in, starts_of, waiting_after, waiting, job_before, jobs_sent, jobs_after, jobs, left_of, unsent, replayed}
+use Rattle.loft_history.specs.Legal.{IsLegal, IsCallersEntry, ComesNext}
 use Rattle.loft_sense.proofs.AroundLemmas.{instant_shared}
-use Rattle.loft_sense.proofs.LegalEntries.{legal_exactly}
+use Rattle.loft_history.proofs.LegalEntries.{legal_exactly}
 use Rattle.loft_stand.specs.Points.{HasValues}
 use Rattle.loft_stand.specs.Machines.{ThreadFits, MachFits, FitsAt, SentFits}
 use Rattle.loft_stand.specs.WellFormed.{IsWellFormed}

@@ -19,12 +19,12 @@ use Rattle.loft_sense.specs.Heads.{same_scheduler}
 use Rattle.loft_sense.specs.Machine.{Prog, heads, Mach, empty}
 use Rattle.loft_sense.specs.Instant.{instant, Replayed, one_more, replay_on}
 use Rattle.loft_sense.specs.Async.{async}
-use Rattle.loft_sense.specs.Clients.{outside_of}
-use Rattle.loft_sense.specs.History.{choice_of, sends, sent_in, log, is_open, orders_to, starts_of, waiting_step, waiting_after, waiting, jobs_sent, jobs_step, jobs_after, jobs, left_step, left_of, unsent_step, unsent, replayed, has_turn, sent_last, entry_of_first, pick_of, entry_of}
-use Rattle.loft_sense.specs.Legal.{AtEach, IsCallersEntry, ComesNext}
+use Rattle.loft_history.specs.Clients.{outside_of}
+use Rattle.loft_history.specs.History.{choice_of, sends, sent_in, log, is_open, orders_to, starts_of, waiting_step, waiting_after, waiting, jobs_sent, jobs_step, jobs_after, jobs, left_step, left_of, unsent_step, unsent, replayed, has_turn, sent_last, entry_of_first, pick_of, entry_of}
+use Rattle.loft_history.specs.Legal.{AtEach, IsCallersEntry, ComesNext}
 use Rattle.loft_sense.proofs.AroundLemmas.{instant_scheduler}
-use Rattle.loft_sense.proofs.HistoryLemmas.{is_same, on_if, on_first, on_pick, log-append}
-use Rattle.loft_sense.proofs.LegalEntries.{split_on}
+use Rattle.loft_history.proofs.HistoryLemmas.{is_same, on_if, on_first, on_pick, log-append}
+use Rattle.loft_history.proofs.LegalEntries.{split_on}
 use Rattle.loft_stand.proofs.ListLemmas.{each_append, each_parts, each_drop}
 
 -- What is claimed: of an order that waits for a scheduler, of a thread that waits for a worker, of a machine, and of all that is

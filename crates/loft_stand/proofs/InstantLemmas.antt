@@ -5,7 +5,7 @@ use Rattle.std.specs.Prelude.{All}
 use Rattle.std.specs.Option.{option_map}
 use Rattle.std.proofs.lemmas.Int.{ints}
 use Rattle.std.proofs.lemmas.List.{length-replicate}
-use Rattle.loft_sense.specs.History.{orders_to}
+use Rattle.loft_history.specs.History.{orders_to}
 use Rattle.loft_base.specs.declared.ids.SchedId.{SchedId}
 use Rattle.loft_tree.specs.declared.heads.Place.{Place}
 use Rattle.loft_tree.specs.declared.heads.Place.TheVariants.{Sched, Unlinked}
@@ -31,7 +31,7 @@ use Rattle.loft_sense.specs.Fits.{WaitNames, ThreadNames, Fits}
 use Rattle.loft_sense.specs.Passes.{Runner, Walk, is_ready, run_of, runners_after, around_after, walked, pass, passes_within, steps_left, passes}
 use Rattle.loft_sense.specs.Apply.{unapplied, apply}
 use Rattle.loft_sense.specs.Instant.{runner_of, around_of, lowered, closed_wait, closed, stays, leaver, leavers, sent_by, instant}
-use Rattle.loft_sense.specs.Clients.{outside_of}
+use Rattle.loft_history.specs.Clients.{outside_of}
 use Rattle.loft_sense.specs.Async.{alone, block_sent, async}
 use Rattle.loft_stand.specs.Points.{AroundFits, LeavesStanding}
 use Rattle.loft_stand.specs.Machines.{ThreadFits, MachFits, SentFits}

@@ -3,7 +3,7 @@ use Rattle.std.proofs.Common.{◌≡◌, ◌<◌, ℕ, zero, suc, ◌+◌, Bool,
 use Rattle.std.specs.Prelude.{if◌then◌else◌, nat_lt}
 use Rattle.std.specs.Prelude.{All}
 use Rattle.std.proofs.lemmas.List.{length-set}
-use Rattle.loft_sense.specs.History.{is_addressed, orders_to, starts_from}
+use Rattle.loft_history.specs.History.{is_addressed, orders_to, starts_from}
 use Rattle.loft_base.specs.declared.ids.SchedId.{SchedId}
 use Rattle.loft_base.specs.declared.ids.ModuleId.{ModuleId}
 use Rattle.loft_base.specs.declared.ids.ThreadId.{ThreadId}
@@ -39,15 +39,15 @@ use Rattle.loft_sense.specs.declared.order.To.TheVariants as to
 use Rattle.loft_sense.specs.declared.thread.Thread.{Thread}
 use Rattle.loft_sense.specs.declared.thread.Wait.TheVariants as wait
 use Rattle.loft_sense.specs.Heads.{same_scheduler, scheduler_or_first, first_values}
-use Rattle.loft_sense.specs.Legal.{FitsOne}
+use Rattle.loft_history.specs.Legal.{FitsOne}
 use Rattle.loft_sense.specs.Machine.{Prog, heads}
 use Rattle.loft_sense.specs.CanGo.{same_thread}
 use Rattle.loft_sense.specs.Stands.{begin_of, begin_or_unlinked, ValuesAgree, Stands}
-use Rattle.loft_sense.specs.Clients.{control_of, orders_from, orders_or_none, outside_of}
+use Rattle.loft_history.specs.Clients.{control_of, orders_from, orders_or_none, outside_of}
 use Rattle.loft_sense.specs.Fits.{IsMaker, IsThread, IsValue, ThreadNames, EndNames, Fits}
 use Rattle.loft_sense.specs.Apply.{Applied, new_thread, link, is_linked, unlink, suspend, tell_end, apply_order, apply_orders}
 use Rattle.loft_sense.specs.Instant.{sent_by}
-use Rattle.loft_sense.proofs.HistoryLemmas.{is_same}
+use Rattle.loft_history.proofs.HistoryLemmas.{is_same}
 use Rattle.loft_stand.specs.Points.{OrderFits, OutFits, ActFits, StandsThere}
 use Rattle.loft_stand.specs.Machines.{ThreadFits, FitsAt, SentFits}
 use Rattle.loft_stand.specs.WellFormed.{IsWellFormed}

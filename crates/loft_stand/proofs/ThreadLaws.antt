@@ -22,12 +22,12 @@ use Rattle.loft_sense.specs.declared.order.Sent.{Sent}
 use Rattle.loft_sense.specs.declared.thread.Thread.{Thread}
 use Rattle.loft_sense.specs.Machine.{Prog, heads}
 use Rattle.loft_sense.specs.Passes.{run_of, around_after}
-use Rattle.loft_sense.specs.Clients.{outside_of}
+use Rattle.loft_history.specs.Clients.{outside_of}
 use Rattle.loft_sense.specs.Fits.{Fits}
-use Rattle.loft_sense.specs.History.{sends, sent_in, starts_of, log, waiting, jobs, left_of, replayed}
-use Rattle.loft_sense.specs.Legal.{AtEach, IsLegal, ComesNext}
-use Rattle.loft_sense.proofs.GrowthLemmas.{at_each_before}
-use Rattle.loft_sense.proofs.LegalEntries.{legal_exactly}
+use Rattle.loft_history.specs.History.{sends, sent_in, starts_of, log, waiting, jobs, left_of, replayed}
+use Rattle.loft_history.specs.Legal.{AtEach, IsLegal, ComesNext}
+use Rattle.loft_history.proofs.GrowthLemmas.{at_each_before}
+use Rattle.loft_history.proofs.LegalEntries.{legal_exactly}
 use Rattle.loft_stand.specs.Machines.{ThreadFits, SentFits}
 use Rattle.loft_stand.specs.WellFormed.{IsWellFormed}
 use Rattle.loft_stand.specs.Threads.{Claim, Grant, SentCarries, IsGranted, WaitsSo, ActGrants, ThreadsKeep, SendersGrant, EntriesGrant, IsKeptIn}

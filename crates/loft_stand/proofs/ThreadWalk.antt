@@ -38,11 +38,11 @@ use Rattle.loft_sense.specs.Moments.{Moment, IsKeptByRuns}
 use Rattle.loft_sense.specs.Apply.{Applied, new_thread, is_linked, link, unlink, suspend, tell_end, apply_order, apply_orders, unapplied, apply}
 use Rattle.loft_sense.specs.Instant.{runner_of, around_of, closed_wait, closed, stays, leaver, leavers, sent_by, instant}
 use Rattle.loft_sense.specs.Async.{alone, block_sent, async}
-use Rattle.loft_sense.specs.Clients.{control_of, orders_from, orders_or_none, outside_of}
+use Rattle.loft_history.specs.Clients.{control_of, orders_from, orders_or_none, outside_of}
 use Rattle.loft_sense.specs.Fits.{Fits}
 use Rattle.loft_sense.specs.Heads.{same_scheduler}
-use Rattle.loft_sense.specs.History.{sends, is_addressed, orders_to, starts_from, starts_of, job_before, jobs_sent}
-use Rattle.loft_sense.specs.Legal.{AtEach, FitsOne, IsCallersOrder, IsCallersEntry, ComesNext}
+use Rattle.loft_history.specs.History.{sends, is_addressed, orders_to, starts_from, starts_of, job_before, jobs_sent}
+use Rattle.loft_history.specs.Legal.{AtEach, FitsOne, IsCallersOrder, IsCallersEntry, ComesNext}
 use Rattle.loft_sense.proofs.MomentLemmas.{kept_by_passes}
 use Rattle.loft_stand.specs.Points.{AroundFits, OutFits, ActFits, LeavesStanding}
 use Rattle.loft_stand.specs.Machines.{ThreadFits, MachFits, SentFits}

@@ -15,7 +15,7 @@ use Rattle.loft_sense.specs.declared.thread.Wait.TheVariants.{New}
 use Rattle.loft_sense.specs.Machine.{Prog, heads, Mach}
 use Rattle.loft_sense.specs.Stands.{Stands}
 use Rattle.loft_sense.specs.Fits.{ThreadNames, Fits}
-use Rattle.loft_sense.specs.History.{is_addressed}
+use Rattle.loft_history.specs.History.{is_addressed}
 
 -- the thread stands at this place, and names only declared threads
 abbrev pub ThreadFits : Prog → Place → Thread → Type 0

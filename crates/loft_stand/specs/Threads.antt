@@ -23,10 +23,10 @@ use Rattle.loft_sense.specs.Run.{Outcome, Held, Left, Ended}
 use Rattle.loft_sense.specs.Passes.{run_of, around_after}
 use Rattle.loft_sense.specs.Apply.{new_thread}
 use Rattle.loft_sense.specs.Instant.{closed_wait}
-use Rattle.loft_sense.specs.Clients.{outside_of}
+use Rattle.loft_history.specs.Clients.{outside_of}
 use Rattle.loft_sense.specs.Fits.{Fits}
-use Rattle.loft_sense.specs.History.{sends, sent_in, starts_of}
-use Rattle.loft_sense.specs.Legal.{AtEach, IsLegal, IsCallersEntry}
+use Rattle.loft_history.specs.History.{sends, sent_in, starts_of}
+use Rattle.loft_history.specs.Legal.{AtEach, IsLegal, IsCallersEntry}
 use Rattle.loft_stand.specs.Points.{AroundFits}
 use Rattle.loft_stand.specs.Machines.{ThreadFits}
 use Rattle.loft_stand.specs.WellFormed.{IsWellFormed}

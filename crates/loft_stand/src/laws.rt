@@ -32,8 +32,8 @@ ghost use Rattle.loft_sense.specs.Stands.{Pauses, StopAt, stop_of, FrameStands, 
 ghost use Rattle.loft_sense.specs.Fits.{IsThread, ThreadNames, Fits};
 ghost use Rattle.loft_sense.specs.Instant.{instant};
 ghost use Rattle.loft_sense.specs.Async.{async};
-ghost use Rattle.loft_sense.specs.Clients.{outside_of};
-ghost use Rattle.loft_sense.specs.History.{starts_from, orders_to};
+ghost use Rattle.loft_history.specs.Clients.{outside_of};
+ghost use Rattle.loft_history.specs.History.{starts_from, orders_to};
 ghost use Rattle.loft_stand.specs.WellFormed.{IsWellFormed, PointOf, control};
 ghost use Rattle.loft_stand.specs.Numbered.{IsNumbered};
 ghost use Rattle.loft_stand.specs.Left.{IsLeft, LeavesAfter};

@@ -14,7 +14,7 @@ ghost use Rattle.loft_sense.specs.declared.entry.Entry.TheVariants.{Pick};
 ghost use Rattle.loft_sense.specs.declared.limits.RunOptions.{RunOptions};
 ghost use Rattle.loft_sense.specs.declared.thread.Thread.{Thread};
 ghost use Rattle.loft_sense.specs.Machine.{Prog, heads};
-ghost use Rattle.loft_sense.specs.History.{log, waiting, jobs, left_of, replayed};
+ghost use Rattle.loft_history.specs.History.{log, waiting, jobs, left_of, replayed};
 ghost use Rattle.loft_stand.specs.Threads.{SentCarries, WaitsSo, IsKeptIn};
 
 use std::marker::Brand;

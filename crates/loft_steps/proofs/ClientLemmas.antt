@@ -9,10 +9,10 @@ use Rattle.loft_sense.specs.declared.entry.Actor.TheVariants as actor
 use Rattle.loft_sense.specs.declared.entry.Entry.{Entry}
 use Rattle.loft_sense.specs.declared.entry.Entry.TheVariants.{Take, Give, Pick, Post, Client}
 use Rattle.loft_sense.specs.declared.order.Sent.{Sent}
-use Rattle.loft_sense.specs.Clients.{orders_from, outside_of}
-use Rattle.loft_sense.specs.History.{is_create, creates_after, creates, unsent}
-use Rattle.loft_sense.specs.Legal.{of, Gives}
-use Rattle.loft_sense.proofs.OwnLemmas.{given}
+use Rattle.loft_history.specs.Clients.{orders_from, outside_of}
+use Rattle.loft_history.specs.History.{is_create, creates_after, creates, unsent}
+use Rattle.loft_history.specs.Legal.{of, Gives}
+use Rattle.loft_history.proofs.OwnLemmas.{given}
 use Rattle.loft_steps.specs.Clients.{orders_of, orders_at}
 
 one_on : (i : ℕ) → suc (i + 1) ≡ suc i + 1

@@ -9,7 +9,7 @@ use Rattle.loft_sense.specs.declared.order.Sent.{Sent}
 use Rattle.loft_sense.specs.declared.thread.Thread.{Thread}
 use Rattle.loft_sense.specs.Machine.{Prog}
 use Rattle.loft_sense.specs.Async.{async}
-use Rattle.loft_sense.specs.History.{ends_block, left_of, is_busy, left_step, busy_step}
+use Rattle.loft_history.specs.History.{ends_block, left_of, is_busy, left_step, busy_step}
 
 -- ---- what a Pick and a Post leave
 

@@ -12,10 +12,11 @@ use Rattle.loft_sense.specs.declared.order.Order.{Order}
 use Rattle.loft_sense.specs.declared.order.Sent.{Sent}
 use Rattle.loft_sense.specs.Machine.{Prog, Mach}
 use Rattle.loft_sense.specs.Instant.{Replayed, instant, one_more, replay}
-use Rattle.loft_sense.specs.History.{log, in_instant, is_open, replayed, sent_last, instant_step}
-use Rattle.loft_sense.specs.Legal.{of}
-use Rattle.loft_sense.proofs.HistoryLemmas.{same_self, log-append, replay_on-append}
-use Rattle.loft_sense.proofs.OwnLemmas.{scheduler_own}
+use Rattle.loft_history.specs.History.{log, in_instant, is_open, replayed, sent_last, instant_step}
+use Rattle.loft_history.specs.Legal.{of}
+use Rattle.loft_sense.proofs.ReplayLemmas.{replay_on-append}
+use Rattle.loft_history.proofs.HistoryLemmas.{same_self, log-append}
+use Rattle.loft_history.proofs.OwnLemmas.{scheduler_own}
 use Rattle.loft_steps.specs.Turns.{IsReplay}
 
 -- ---- a Take

@@ -6,7 +6,7 @@ use Rattle.loft_sense.specs.declared.limits.Limits.{Limits}
 use Rattle.loft_sense.specs.declared.note.InstantNote.{InstantNote}
 use Rattle.loft_sense.specs.declared.order.Order.{Order}
 use Rattle.loft_sense.specs.Machine.{Prog, Mach}
-use Rattle.loft_sense.specs.History.{has_turn, replayed}
+use Rattle.loft_history.specs.History.{has_turn, replayed}
 
 -- what a scheduler takes of the orders that wait for it: all of them, where it has a turn to make on them
 abbrev pub due : Prog → Limits → Mach → List Order → Option (List Order)

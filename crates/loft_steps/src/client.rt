@@ -3,7 +3,7 @@
 ghost use Rattle.std.specs.Prelude.{◌≡◌, ◌∷◌, [], ◌+◌, ◌^◌, ◌<◌, drop, IfOk, IsTrue, is_some, slice_get};
 ghost use Rattle.std.specs.Option.{option_map};
 ghost use Rattle.loft_tree.specs.Fits.{Each};
-ghost use Rattle.loft_sense.specs.Clients.{control_of, orders_from};
+ghost use Rattle.loft_history.specs.Clients.{control_of, orders_from};
 ghost use Rattle.loft_steps.specs.Clients.{orders_of, orders_at, HasEvent};
 
 use loft_base::{Maker, NoMemory, Sequence, ThreadId};

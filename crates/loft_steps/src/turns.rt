@@ -6,7 +6,7 @@ ghost use Rattle.std.specs.Prelude.{◌≡◌, [], ◌∷◌, ◌++◌, false, t
 ghost use Rattle.loft_sense.specs.declared.entry.Entry.{Entry};
 ghost use Rattle.loft_sense.specs.declared.entry.Entry.TheVariants as entry;
 ghost use Rattle.loft_sense.specs.Fits.{Fits};
-ghost use Rattle.loft_sense.specs.History.{is_open, sent_last, waiting};
+ghost use Rattle.loft_history.specs.History.{is_open, sent_last, waiting};
 ghost use Rattle.loft_sense.specs.Instant.{instant};
 ghost use Rattle.loft_sense.specs.Rest.{is_spent};
 ghost use Rattle.loft_steps.specs.Turns.{due, IsReplay};

@@ -9,9 +9,9 @@ use Rattle.loft_code.specs.Operations.{Automata}
 use Rattle.loft_sense.specs.declared.entry.Entry.{Entry}
 use Rattle.loft_sense.specs.declared.limits.RunOptions.{RunOptions}
 use Rattle.loft_sense.specs.Machine.{Prog, Tree, Code}
-use Rattle.loft_sense.specs.History.{Choice, hist, HasEnded}
-use Rattle.loft_sense.specs.Legal.{IsLegal}
-use Rattle.loft_sense.specs.Report.{report}
+use Rattle.loft_history.specs.History.{Choice, hist, HasEnded}
+use Rattle.loft_history.specs.Legal.{IsLegal}
+use Rattle.loft_history.specs.Report.{report}
 use Rattle.loft_stand.specs.WellFormed.{IsWellFormed}
 use Rattle.loft_stand.specs.Alike.{RunsAlike}
 use Rattle.loft_stand.proofs.HistoryAlike.{histories_same, legal_same, ended_same, reports_same}

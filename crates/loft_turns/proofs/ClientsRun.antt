@@ -20,11 +20,11 @@ use Rattle.loft_sense.specs.declared.order.Sent.{Sent}
 use Rattle.loft_sense.specs.declared.order.To.{To}
 use Rattle.loft_sense.specs.declared.order.To.TheVariants.{Sched, Others, All, Workers}
 use Rattle.loft_sense.specs.Machine.{Prog, heads}
-use Rattle.loft_sense.specs.Clients.{orders_from, orders_or_none, outside_of}
-use Rattle.loft_sense.specs.History.{ClientBy, unsent, is_create, creates, entry_of_first, entry_of, creates_step, instant_step, unsent_step}
-use Rattle.loft_sense.specs.Legal.{of, FitsOne}
-use Rattle.loft_sense.proofs.HistoryLemmas.{log-append, unsent_none}
-use Rattle.loft_sense.proofs.OwnLemmas.{given}
+use Rattle.loft_history.specs.Clients.{orders_from, orders_or_none, outside_of}
+use Rattle.loft_history.specs.History.{ClientBy, unsent, is_create, creates, entry_of_first, entry_of, creates_step, instant_step, unsent_step}
+use Rattle.loft_history.specs.Legal.{of, FitsOne}
+use Rattle.loft_history.proofs.HistoryLemmas.{log-append, unsent_none}
+use Rattle.loft_history.proofs.OwnLemmas.{given}
 use Rattle.loft_sense.specs.Heads.{scheduler}
 use Rattle.loft_world.specs.State.{State, IsToOne, IsForClients, with_entry}
 use Rattle.loft_steps.specs.Clients.{orders_at, orders_of, HasEvent}

@@ -11,8 +11,8 @@ use Rattle.loft_sense.specs.declared.entry.Entry.TheVariants.{Take, Give}
 use Rattle.loft_sense.specs.declared.limits.RunOptions.{RunOptions}
 use Rattle.loft_sense.specs.Machine.{Prog, heads, Mach}
 use Rattle.loft_sense.specs.Instant.{replay}
-use Rattle.loft_sense.specs.History.{Choice, TakeBy, GiveBy, is_open, replayed, has_turn, sent_last, waiting, entry_of}
-use Rattle.loft_sense.proofs.HistoryLemmas.{take_allowed, give_allowed}
+use Rattle.loft_history.specs.History.{Choice, TakeBy, GiveBy, is_open, replayed, has_turn, sent_last, waiting, entry_of}
+use Rattle.loft_history.proofs.HistoryLemmas.{take_allowed, give_allowed}
 use Rattle.loft_steps.proofs.TurnLemmas.{log_given, shut}
 use Rattle.loft_turns.specs.Course.{Stand, stand_after, Moves}
 

@@ -11,8 +11,8 @@ use Rattle.loft_sense.specs.declared.limits.RunOptions.{RunOptions}
 use Rattle.loft_sense.specs.declared.order.Sent.{Sent}
 use Rattle.loft_sense.specs.declared.thread.Thread.{Thread}
 use Rattle.loft_sense.specs.Machine.{Prog, heads}
-use Rattle.loft_sense.specs.History.{Choice, PickBy, PostBy, is_open, jobs_sent, jobs, left_of, is_busy, entry_of_first, pick_of, entry_of, instant_step, jobs_step}
-use Rattle.loft_sense.proofs.HistoryLemmas.{on_if, on_first, on_pick}
+use Rattle.loft_history.specs.History.{Choice, PickBy, PostBy, is_open, jobs_sent, jobs, left_of, is_busy, entry_of_first, pick_of, entry_of, instant_step, jobs_step}
+use Rattle.loft_history.proofs.HistoryLemmas.{on_if, on_first, on_pick}
 use Rattle.loft_turns.specs.Blocks.{IsHand}
 use Rattle.loft_turns.specs.Course.{Stand, Hand, Moves}
 use Rattle.loft_turns.specs.Rounds.{instants_left, orders_unsent, left, AllRest, WorksOff}

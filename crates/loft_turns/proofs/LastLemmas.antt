@@ -7,7 +7,7 @@ use Rattle.loft_sense.specs.declared.limits.RunOptions.{RunOptions}
 use Rattle.loft_sense.specs.declared.note.InstantNote.{InstantNote}
 use Rattle.loft_sense.specs.declared.note.FinalState.{FinalState}
 use Rattle.loft_sense.specs.Machine.{Prog, heads}
-use Rattle.loft_sense.specs.Report.{schedulers_from}
+use Rattle.loft_history.specs.Report.{schedulers_from}
 use Rattle.loft_world.specs.Replay.{stand_of, IsReplayOf}
 use Rattle.loft_turns.specs.Course.{Stand, stand_after, Course, IsRun}
 

@@ -14,9 +14,9 @@ use Rattle.loft_sense.specs.Heads.{same_scheduler}
 use Rattle.loft_sense.specs.Machine.{Prog, heads}
 use Rattle.loft_sense.specs.Rest.{is_spent}
 use Rattle.loft_sense.specs.Instant.{Replayed, replay}
-use Rattle.loft_sense.specs.History.{Choice, TakeBy, GiveBy, ClientBy, in_instant, is_open, jobs, left_of, unsent, replayed, has_turn, waiting, sent_last, entry_of_first, pick_of, entry_of, HasEnded, instant_step, left_step, unsent_step}
+use Rattle.loft_history.specs.History.{Choice, TakeBy, GiveBy, ClientBy, in_instant, is_open, jobs, left_of, unsent, replayed, has_turn, waiting, sent_last, entry_of_first, pick_of, entry_of, HasEnded, instant_step, left_step, unsent_step}
 use Rattle.loft_sense.proofs.AroundLemmas.{instant_number}
-use Rattle.loft_sense.proofs.HistoryLemmas.{unsent_none, on_first}
+use Rattle.loft_history.proofs.HistoryLemmas.{unsent_none, on_first}
 use Rattle.loft_turns.specs.Course.{Stand, HasWorkers, Moves}
 use Rattle.loft_turns.specs.Rounds.{instants_left, orders_unsent, left, AllRest, Nears, WorksOff, EndsOrNears, turn_of, job_of, order_of}
 use Rattle.loft_steps.proofs.TurnLemmas.{replayed_taken, log_given, opened}

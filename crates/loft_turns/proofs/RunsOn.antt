@@ -20,10 +20,10 @@ use Rattle.loft_sense.specs.declared.order.Sent.{Sent}
 use Rattle.loft_sense.specs.Heads.{scheduler, same_scheduler}
 use Rattle.loft_sense.specs.Machine.{Prog, heads}
 use Rattle.loft_sense.specs.Instant.{replay}
-use Rattle.loft_sense.specs.Clients.{orders_from, orders_or_none}
-use Rattle.loft_sense.specs.History.{Choice, TakeBy, GiveBy, PickBy, PostBy, ClientBy, choice_of, log, in_instant, is_open, left_of, is_busy, unsent, creates, replayed, has_turn, waiting, sent_last, entry_of, with_entry, hist_on, hist, creates_step, busy_step, left_step, unsent_step, instant_step}
-use Rattle.loft_sense.specs.Legal.{actor_of, same_actor, of}
-use Rattle.loft_sense.proofs.HistoryLemmas.{choice_kept, log-append}
+use Rattle.loft_history.specs.Clients.{orders_from, orders_or_none}
+use Rattle.loft_history.specs.History.{Choice, TakeBy, GiveBy, PickBy, PostBy, ClientBy, choice_of, log, in_instant, is_open, left_of, is_busy, unsent, creates, replayed, has_turn, waiting, sent_last, entry_of, with_entry, hist_on, hist, creates_step, busy_step, left_step, unsent_step, instant_step}
+use Rattle.loft_history.specs.Legal.{actor_of, same_actor, of}
+use Rattle.loft_history.proofs.HistoryLemmas.{choice_kept, log-append}
 use Rattle.loft_world.specs.State.{State, no_entries}
 use Rattle.loft_turns.specs.Blocks.{IsHand}
 use Rattle.loft_turns.specs.Course.{Stand, stand_after, stands_after, Hand, hand_after, hands_after, gave, orders_left, Course, IsRun, Moves}

@@ -9,7 +9,7 @@ use Rattle.loft_sense.specs.declared.note.InstantNote.{InstantNote}
 use Rattle.loft_sense.specs.declared.order.Order.{Order}
 use Rattle.loft_sense.specs.Machine.{Prog, Mach}
 use Rattle.loft_sense.specs.Instant.{instant}
-use Rattle.loft_sense.specs.History.{is_open}
+use Rattle.loft_history.specs.History.{is_open}
 use Rattle.loft_steps.specs.Turns.{IsReplay}
 use Rattle.loft_steps.proofs.TurnLemmas.{opened, replay_taken}
 use Rattle.loft_turns.specs.declared.station.Stage.{Stage}

@@ -20,9 +20,9 @@ use Rattle.loft_sense.specs.declared.order.Order.TheVariants as order
 use Rattle.loft_sense.specs.declared.thread.Thread.{Thread}
 use Rattle.loft_sense.specs.Machine.{Prog, heads}
 use Rattle.loft_sense.specs.Async.{async}
-use Rattle.loft_sense.specs.Legal.{of}
-use Rattle.loft_sense.specs.History.{Choice, TakeBy, GiveBy, PickBy, PostBy, ClientBy, choice_of, jobs_sent, job_before, jobs, ends_block, left_of, is_busy, unsent, hist, entry_of_first, pick_of, entry_of, creates_step, busy_step, instant_step, left_step, unsent_step}
-use Rattle.loft_sense.proofs.HistoryLemmas.{choice_kept, on_if, on_first, on_pick, log-append}
+use Rattle.loft_history.specs.Legal.{of}
+use Rattle.loft_history.specs.History.{Choice, TakeBy, GiveBy, PickBy, PostBy, ClientBy, choice_of, jobs_sent, job_before, jobs, ends_block, left_of, is_busy, unsent, hist, entry_of_first, pick_of, entry_of, creates_step, busy_step, instant_step, left_step, unsent_step}
+use Rattle.loft_history.proofs.HistoryLemmas.{choice_kept, on_if, on_first, on_pick, log-append}
 use Rattle.loft_sense.specs.Heads.{scheduler}
 use Rattle.loft_world.specs.State.{State}
 use Rattle.loft_sends.specs.Blocks.{IsExit, IsQuiet, IsBlock}

@@ -15,9 +15,9 @@ use Rattle.loft_sense.specs.declared.order.Sent.{Sent}
 use Rattle.loft_sense.specs.Machine.{Prog, Code, heads as heads_of, Mach}
 use Rattle.loft_sense.specs.Fits.{Fits}
 use Rattle.loft_sense.specs.Async.{async}
-use Rattle.loft_sense.specs.Clients.{outside_of}
-use Rattle.loft_sense.specs.History.{Choice, choice_of, hist, entry_of, waiting, jobs, is_open, left_of, is_busy, creates, unsent, replayed}
-use Rattle.loft_sense.specs.Legal.{of, FitsOne}
+use Rattle.loft_history.specs.Clients.{outside_of}
+use Rattle.loft_history.specs.History.{Choice, choice_of, hist, entry_of, waiting, jobs, is_open, left_of, is_busy, creates, unsent, replayed}
+use Rattle.loft_history.specs.Legal.{of, FitsOne}
 use Rattle.loft_sense.specs.Heads.{scheduler}
 use Rattle.loft_world.specs.State.{State}
 use Rattle.loft_world.specs.Replay.{stand_of}

@@ -2,7 +2,7 @@
 use Rattle.std.specs.Prelude.{◌≡◌, map, Ok}
 use Rattle.loft_sense.specs.declared.limits.RunOptions.{RunOptions}
 use Rattle.loft_sense.specs.Machine.{Prog, heads}
-use Rattle.loft_sense.specs.History.{choice_of, hist, HasEnded}
+use Rattle.loft_history.specs.History.{choice_of, hist, HasEnded}
 use Rattle.loft_world.specs.declared.results.Finished.{Finished}
 use Rattle.loft_world.specs.Replay.{IsReplayOf}
 

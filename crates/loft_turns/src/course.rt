@@ -2,7 +2,7 @@
 
 ghost use Rattle.std.specs.Prelude.{◌≡◌, [], length, IfOk, OnOk};
 ghost use Rattle.loft_sense.specs.Machine.{heads as heads_of};
-ghost use Rattle.loft_sense.specs.History.{TakeBy, GiveBy, PickBy, PostBy, ClientBy};
+ghost use Rattle.loft_history.specs.History.{TakeBy, GiveBy, PickBy, PostBy, ClientBy};
 ghost use Rattle.loft_world.specs.Replay.{IsReplayOf};
 ghost use Rattle.loft_turns.specs.Course.{IsRun, CanRun, Moves, stands_after, hands_after};
 

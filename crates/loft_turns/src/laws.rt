@@ -5,8 +5,8 @@ ghost use Rattle.loft_sense.specs.Machine.{Prog};
 ghost use Rattle.loft_stand.specs.WellFormed.{IsWellFormed};
 ghost use Rattle.loft_turns.specs.Course.{CanRun, HasWorkers};
 
+use loft_history::made_histories_are_legal;
 use loft_sends::blocks_keep_their_thread;
-use loft_sense::made_histories_are_legal;
 use loft_stand::waiting_orders_fit;
 
 /// A well-formed program, which is a placed source or valid code, can be run with any options that

@@ -2,7 +2,7 @@
 
 ghost use Rattle.std.specs.Prelude.{◌≡◌, ◌<◌, [], length, IfOk, OnOk};
 ghost use Rattle.loft_sense.specs.Machine.{heads as heads_of};
-ghost use Rattle.loft_sense.specs.History.{TakeBy, PickBy, HasEnded};
+ghost use Rattle.loft_history.specs.History.{TakeBy, PickBy, HasEnded};
 ghost use Rattle.loft_turns.specs.Course.{IsRun, CanRun, stands_after, hands_after};
 ghost use Rattle.loft_turns.specs.Running.{IsWholeRun};
 ghost use Rattle.loft_turns.specs.Rounds.{AllRest, Nears, WorksOff, EndsOrNears, turn_of, job_of, order_of};

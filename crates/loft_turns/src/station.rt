@@ -3,7 +3,7 @@
 ghost use Rattle.std.specs.Prelude.{◌≡◌, ◌++◌, ◌∷◌, [], ℕ, false, map, All, IfOk, OnOk};
 ghost use Rattle.loft_sense.specs.Fits.{Fits};
 ghost use Rattle.loft_sense.specs.Machine.{empty, heads as heads_of};
-ghost use Rattle.loft_sense.specs.History.{TakeBy, GiveBy, waiting};
+ghost use Rattle.loft_history.specs.History.{TakeBy, GiveBy, waiting};
 ghost use Rattle.loft_sense.specs.Heads.{scheduler};
 ghost use Rattle.loft_tree.specs.NamedFits.{IsScheduler};
 ghost use Rattle.loft_world.specs.Replay.{stand_of};

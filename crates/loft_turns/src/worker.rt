@@ -2,7 +2,7 @@
 
 ghost use Rattle.std.specs.Prelude.{◌≡◌, ◌<◌, [], ℕ, false, IfOk, OnOk};
 ghost use Rattle.loft_sense.specs.Machine.{heads as heads_of};
-ghost use Rattle.loft_sense.specs.History.{PickBy, PostBy, ends_block, left_of, is_busy};
+ghost use Rattle.loft_history.specs.History.{PickBy, PostBy, ends_block, left_of, is_busy};
 ghost use Rattle.loft_turns.specs.Blocks.{IsHand};
 ghost use Rattle.loft_turns.specs.Course.{Moves, hand_after};
 

@@ -14,8 +14,8 @@ use Rattle.loft_sense.specs.declared.order.Order.{Order}
 use Rattle.loft_sense.specs.declared.order.Sent.{Sent}
 use Rattle.loft_sense.specs.declared.thread.Thread.{Thread}
 use Rattle.loft_sense.specs.Heads.{scheduler}
-use Rattle.loft_sense.specs.History.{sends, orders_to, starts_of, waiting_after, waiting, jobs_sent, jobs_after, jobs, is_create, creates_after, creates, creates_step, jobs_step, waiting_step}
-use Rattle.loft_sense.specs.Legal.{AtEach, TakesDue, IsFirst}
+use Rattle.loft_history.specs.History.{sends, orders_to, starts_of, waiting_after, waiting, jobs_sent, jobs_after, jobs, is_create, creates_after, creates, creates_step, jobs_step, waiting_step}
+use Rattle.loft_history.specs.Legal.{AtEach, TakesDue, IsFirst}
 use Rattle.loft_world.specs.State.{each_with, IsWorld, IsSending}
 
 -- ---- entries in order

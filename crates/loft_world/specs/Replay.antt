@@ -5,8 +5,8 @@ use Rattle.loft_sense.specs.declared.limits.Limits.{Limits}
 use Rattle.loft_sense.specs.declared.note.InstantNote.{InstantNote}
 use Rattle.loft_sense.specs.declared.note.FinalState.{FinalState}
 use Rattle.loft_sense.specs.Machine.{Prog, Mach}
-use Rattle.loft_sense.specs.History.{replayed}
-use Rattle.loft_sense.specs.Report.{schedulers}
+use Rattle.loft_history.specs.History.{replayed}
+use Rattle.loft_history.specs.Report.{schedulers}
 
 -- how a scheduler stands between two instants
 abbrev pub stand_of : Mach → FinalState

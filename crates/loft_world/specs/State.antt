@@ -13,8 +13,8 @@ use Rattle.loft_sense.specs.declared.order.To.{To}
 use Rattle.loft_sense.specs.declared.order.To.TheVariants.{Sched}
 use Rattle.loft_sense.specs.declared.thread.Thread.{Thread}
 use Rattle.loft_sense.specs.Heads.{scheduler}
-use Rattle.loft_sense.specs.History.{orders_to, waiting, jobs, creates}
-use Rattle.loft_sense.specs.Legal.{IsRouted}
+use Rattle.loft_history.specs.History.{orders_to, waiting, jobs, creates}
+use Rattle.loft_history.specs.Legal.{IsRouted}
 
 pub record State : Type 0 where
   pub heads : Heads

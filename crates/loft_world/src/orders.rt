@@ -2,7 +2,7 @@
 
 ghost use Rattle.std.specs.Prelude.{◌≡◌, ◌++◌, ◌≤◌, [], drop, length, take, OnOk, OnErr};
 ghost use Rattle.std.specs.Option.{option_to_list, option_map};
-ghost use Rattle.loft_sense.specs.History.{is_addressed, orders_to, job_before, jobs_sent};
+ghost use Rattle.loft_history.specs.History.{is_addressed, orders_to, job_before, jobs_sent};
 ghost use Rattle.loft_sense.specs.Heads.{scheduler};
 ghost use Rattle.loft_world.specs.State.{each_with};
 

@@ -3,8 +3,8 @@
 ghost use Rattle.std.specs.Prelude.{◌≡◌, ◌+◌, ◌-◌, ◌≤◌, ◌<◌, [], ◌∷◌, ◌++◌, true, false, length, slice_get, Some, IfOk, OnOk, OnErr, MatchOption};
 ghost use Rattle.loft_sense.specs.declared.entry.Entry.TheVariants as entry;
 ghost use Rattle.loft_sense.specs.Heads.{home};
-ghost use Rattle.loft_sense.specs.History.{sends, waiting, jobs, creates, is_open, is_busy, is_create, jobs_sent};
-ghost use Rattle.loft_sense.specs.Legal.{IsRouted};
+ghost use Rattle.loft_history.specs.History.{sends, waiting, jobs, creates, is_open, is_busy, is_create, jobs_sent};
+ghost use Rattle.loft_history.specs.Legal.{IsRouted};
 ghost use Rattle.loft_tree.specs.NamedFits.{IsScheduler};
 ghost use Rattle.loft_world.specs.State.{no_entries, with_entry, each_with, IsSending, IsToOne, IsForClients};
 

@@ -3,9 +3,9 @@
 ghost use Rattle.std.specs.Prelude.{◌≡◌, ◌++◌, [], ◌∷◌, map};
 ghost use Rattle.std.specs.Option.{option_to_list, option_map};
 ghost use Rattle.loft_base.specs.Writing.{WritesTo};
-ghost use Rattle.loft_sense.specs.History.{ClientBy, choice_of, log};
+ghost use Rattle.loft_history.specs.History.{ClientBy, choice_of, log};
 ghost use Rattle.loft_sense.specs.Lines.{text_of};
-ghost use Rattle.loft_sense.specs.Report.{choice_line};
+ghost use Rattle.loft_history.specs.Report.{choice_line};
 
 use super::lines::make_client_line;
 use super::{ReportWriter, write_line};

@@ -2,10 +2,10 @@
 
 ghost use Rattle.std.specs.Prelude.{◌++◌, [], ◌∷◌};
 ghost use Rattle.loft_base.specs.Writing.{WritesTo};
-ghost use Rattle.loft_sense.specs.History.{log};
+ghost use Rattle.loft_history.specs.History.{log};
 ghost use Rattle.loft_sense.specs.Text.{order_text};
 ghost use Rattle.loft_sense.specs.Lines.{text_of, mark_word, ends_at, batch_lines, leave_line, leave_lines, instant_lines};
-ghost use Rattle.loft_sense.specs.Report.{instants_lines};
+ghost use Rattle.loft_history.specs.Report.{instants_lines};
 
 use super::history::batch_of;
 use super::lines::{make_end_line, make_leaver_line, make_order_line};

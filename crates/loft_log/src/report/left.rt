@@ -3,7 +3,7 @@
 ghost use Rattle.std.specs.Prelude.{◌≡◌, ◌+◌, map, length, IfOk};
 ghost use Rattle.loft_base.specs.Writing.{WritesTo};
 ghost use Rattle.loft_sense.specs.Lines.{text_of};
-ghost use Rattle.loft_sense.specs.Report.{left_line, left_part};
+ghost use Rattle.loft_history.specs.Report.{left_line, left_part};
 ghost use Rattle.loft_log.specs.WorldReport.{world_left};
 
 use super::lines::make_left_order_line;

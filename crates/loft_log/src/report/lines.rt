@@ -7,7 +7,7 @@ ghost use Rattle.loft_tree.specs.declared.heads.Heads.{Heads};
 ghost use Rattle.loft_text.specs.Buffer.{Adds, Holds};
 ghost use Rattle.loft_sense.specs.Text.{space, client_name, scheduler_name, event_name, sent_value, id_text, order_text};
 ghost use Rattle.loft_sense.specs.Lines.{end_line, mark_word, to_text, act_line, at_line, shared_line};
-ghost use Rattle.loft_sense.specs.Report.{left_line, standing_line};
+ghost use Rattle.loft_history.specs.Report.{left_line, standing_line};
 
 use super::order_text::{push_order, push_sent_value};
 use super::thread_text::push_thread;

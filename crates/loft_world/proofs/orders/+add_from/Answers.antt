@@ -1,6 +1,6 @@
 use Rattle.std.proofs.Common.{rules, ◌≡◌, ◌++◌, ◌<◌, ◌∙◌, sym, ap, length, set, take, arith}
 use Rattle.std.proofs.lemmas.List.{get_or_default}
-use Rattle.loft_sense.specs.History.{orders_to}
+use Rattle.loft_history.specs.History.{orders_to}
 use Rattle.loft_sense.specs.Heads.{scheduler}
 use Rattle.loft_world.proofs.StateLemmas.{back_again}
 use Rattle.loft_world.proofs.orders.+add_from.Goals as goal

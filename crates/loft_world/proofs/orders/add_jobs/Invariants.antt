@@ -1,5 +1,5 @@
 use Rattle.std.proofs.Common.{◌≡◌, ◌++◌, ◌≤◌, drop, take, length}
-use Rattle.loft_sense.specs.History.{jobs_sent}
+use Rattle.loft_history.specs.History.{jobs_sent}
 use Rattle.loft_world.proofs.orders.add_jobs.Given as goal
 
 -- the threads so far and those of the rest are all of them, and those that were there come first

@@ -1,5 +1,5 @@
 use Rattle.std.proofs.Common.{◌≡◌, ◌++◌, ◌≤◌, drop, take, length}
-use Rattle.loft_sense.specs.History.{orders_to}
+use Rattle.loft_history.specs.History.{orders_to}
 use Rattle.loft_sense.specs.Heads.{scheduler}
 use Rattle.loft_world.proofs.orders.add_some.Given as goal
 

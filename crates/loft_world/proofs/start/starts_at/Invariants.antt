@@ -1,5 +1,5 @@
 use Rattle.std.proofs.Common.{◌≡◌, ◌++◌, drop}
-use Rattle.loft_sense.specs.History.{starts_from}
+use Rattle.loft_history.specs.History.{starts_from}
 use Rattle.loft_sense.specs.Heads.{scheduler}
 use Rattle.loft_world.proofs.start.starts_at.Given as goal
 

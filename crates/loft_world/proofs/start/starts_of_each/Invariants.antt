@@ -1,4 +1,4 @@
-use Rattle.loft_sense.specs.History.{starts_of}
+use Rattle.loft_history.specs.History.{starts_of}
 use Rattle.loft_sense.specs.Heads.{scheduler}
 use Rattle.loft_world.specs.State.{AreEach}
 use Rattle.loft_world.proofs.start.starts_of_each.Given as goal

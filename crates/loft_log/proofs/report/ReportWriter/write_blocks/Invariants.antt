@@ -1,5 +1,5 @@
 use Rattle.loft_sense.specs.Lines.{text_of}
-use Rattle.loft_sense.specs.Report.{schedulers_from}
+use Rattle.loft_history.specs.Report.{schedulers_from}
 use Rattle.loft_base.proofs.WritesLemmas.{Going}
 use Rattle.loft_log.specs.WorldReport.{world_blocks}
 use Rattle.loft_log.proofs.ReportLemmas.{blocks_after}

@@ -1,7 +1,7 @@
 use Rattle.std.proofs.Common.{drop, map}
 use Rattle.loft_sense.specs.Lines.{text_of}
-use Rattle.loft_sense.specs.Report.{choice_line}
-use Rattle.loft_sense.specs.History.{choice_of}
+use Rattle.loft_history.specs.Report.{choice_line}
+use Rattle.loft_history.specs.History.{choice_of}
 use Rattle.loft_base.proofs.WritesLemmas.{Going}
 use Rattle.loft_log.proofs.report.ReportWriter.write_choices.Given as goal
 

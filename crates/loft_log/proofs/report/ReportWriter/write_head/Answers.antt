@@ -2,7 +2,7 @@ use Rattle.std.proofs.Common.{◌≡◌, Err, refl, sym, ◌∙◌}
 use Rattle.std.proofs.lemmas.Result.{err_from_is_err_and}
 use Rattle.loft_base.proofs.WritesLemmas.{begins, goes_on, fails, closes}
 use Rattle.std.proofs.lemmas.List.{length-map}
-use Rattle.loft_sense.specs.History.{choice_of}
+use Rattle.loft_history.specs.History.{choice_of}
 use Rattle.loft_log.proofs.report.ReportWriter.write_head.Goals as goal
 
 pub returns-in_err-write_text : goal.returns-in_err-write_text

@@ -1,6 +1,6 @@
 use Rattle.std.proofs.Common.{◌≡◌, Err, refl, drop}
 use Rattle.std.proofs.lemmas.Result.{err_from_is_err_and}
-use Rattle.loft_sense.specs.History.{log}
+use Rattle.loft_history.specs.History.{log}
 use Rattle.loft_base.proofs.WritesLemmas.{goes_on, fails, ends_here, rest_is}
 use Rattle.loft_log.proofs.ReportLemmas.{instants-taken, instants-passed, instants-spent}
 use Rattle.loft_log.proofs.report.ReportWriter.write_instants.Goals.{in-Some+in-Some-split_first+in_ok-write_instant, in_default}

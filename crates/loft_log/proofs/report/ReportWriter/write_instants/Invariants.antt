@@ -1,7 +1,7 @@
 use Rattle.std.proofs.Common.{drop}
 use Rattle.loft_sense.specs.Lines.{text_of}
-use Rattle.loft_sense.specs.Report.{instants_lines}
-use Rattle.loft_sense.specs.History.{log}
+use Rattle.loft_history.specs.Report.{instants_lines}
+use Rattle.loft_history.specs.History.{log}
 use Rattle.loft_base.proofs.WritesLemmas.{Going}
 use Rattle.loft_log.proofs.report.ReportWriter.write_instants.Given as goal
 

@@ -1,8 +1,8 @@
 use Rattle.std.proofs.Common.{◌≡◌, ◌++◌, [], ◌∷◌, map, Err, refl, codes}
 use Rattle.std.proofs.lemmas.Result.{err_from_is_err_and}
 use Rattle.loft_base.proofs.WritesLemmas.{begins, goes_on, fails, closes, rest_is}
-use Rattle.loft_sense.specs.History.{choice_of}
-use Rattle.loft_sense.specs.Report.{head_lines, left_part, schedulers_from}
+use Rattle.loft_history.specs.History.{choice_of}
+use Rattle.loft_history.specs.Report.{head_lines, left_part, schedulers_from}
 use Rattle.loft_log.specs.WorldReport.{world_blocks, world_left}
 use Rattle.loft_log.proofs.LineLemmas.{text_of-append}
 use Rattle.loft_log.proofs.report.ReportWriter.write_parts.Goals as goal

@@ -1,6 +1,6 @@
 use Rattle.loft_sense.specs.Heads.{shared_of}
 use Rattle.loft_sense.specs.Lines.{text_of}
-use Rattle.loft_sense.specs.Report.{shared_lines}
+use Rattle.loft_history.specs.Report.{shared_lines}
 use Rattle.loft_base.proofs.WritesLemmas.{Going}
 use Rattle.loft_log.proofs.ReportLemmas.{shared_after}
 use Rattle.loft_log.proofs.report.ReportWriter.write_shared.Given as goal

@@ -1,7 +1,7 @@
 use Rattle.std.proofs.Common.{◌≡◌, Err, refl, ap, ◌∙◌, arith}
 use Rattle.std.proofs.lemmas.Result.{err_from_is_err_and}
 use Rattle.loft_base.specs.declared.writing.WriteError.TheVariants.{NoMemory}
-use Rattle.loft_sense.specs.History.{waiting}
+use Rattle.loft_history.specs.History.{waiting}
 use Rattle.loft_base.proofs.WritesLemmas.{goes_on, fails, lacks_memory, rest_is}
 use Rattle.loft_log.proofs.ReportLemmas.{left-from}
 use Rattle.loft_log.proofs.report.ReportWriter.write_waiting.Goals as goal

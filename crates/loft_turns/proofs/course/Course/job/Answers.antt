@@ -1,6 +1,6 @@
 use Rattle.std.proofs.Common.{◌<◌, ◌+◌, Bool, true, length, sym, subst}
 use Rattle.std.specs.Prelude.{if◌then◌else◌}
-use Rattle.loft_sense.specs.History.{PickBy, left_of}
+use Rattle.loft_history.specs.History.{PickBy, left_of}
 use Rattle.loft_turns.specs.Course.{Moves}
 use Rattle.loft_turns.proofs.JobLemmas.{picked_one, posted_one}
 use Rattle.loft_turns.proofs.course.Course.job.Goals as goal

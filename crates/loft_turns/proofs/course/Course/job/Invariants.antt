@@ -1,6 +1,6 @@
 use Rattle.std.proofs.Common.{◌≡◌, ◌+◌, false, [], length}
 use Rattle.std.specs.Prelude.{if◌then◌else◌}
-use Rattle.loft_sense.specs.History.{left_of}
+use Rattle.loft_history.specs.History.{left_of}
 use Rattle.loft_turns.specs.Course.{IsRun}
 use Rattle.loft_turns.proofs.JobLemmas.{IsPosting}
 use Rattle.loft_turns.proofs.course.Course.job.Given as goal

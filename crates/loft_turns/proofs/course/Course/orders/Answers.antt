@@ -1,5 +1,5 @@
 use Rattle.std.proofs.Common.{◌≡◌, ◌∙◌, ◌+◌, ◌||◌, Bool, sym, ap, subst, refl}
-use Rattle.loft_sense.specs.History.{ClientBy}
+use Rattle.loft_history.specs.History.{ClientBy}
 use Rattle.loft_turns.specs.Rounds.{Nears, order_of}
 use Rattle.loft_turns.proofs.RoundLemmas.{one_order, near_more}
 use Rattle.loft_turns.proofs.course.Course.orders.Goals as goal

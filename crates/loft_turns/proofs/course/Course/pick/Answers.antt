@@ -1,5 +1,5 @@
 use Rattle.std.proofs.Common.{◌∙◌, ℕ, ◌<◌, ◌≤◌, sym, subst, refl, length}
-use Rattle.loft_sense.specs.History.{PickBy}
+use Rattle.loft_history.specs.History.{PickBy}
 use Rattle.loft_turns.specs.Course.{IsRun}
 use Rattle.loft_turns.proofs.RunsOn.{not_below, all_ok}
 use Rattle.loft_turns.proofs.WorkersRun.{worked, pick_beyond, so_many_workers, hand_there}

@@ -1,6 +1,6 @@
 use Rattle.std.proofs.Common.{◌≡◌, ◌+◌, false}
 use Rattle.std.specs.Prelude.{if◌then◌else◌}
-use Rattle.loft_sense.specs.History.{HasEnded}
+use Rattle.loft_history.specs.History.{HasEnded}
 use Rattle.loft_turns.specs.Course.{IsRun}
 use Rattle.loft_turns.specs.Rounds.{AllRest, left}
 use Rattle.loft_turns.proofs.course.Course.rounds.Given as goal

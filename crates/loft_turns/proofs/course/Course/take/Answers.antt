@@ -1,6 +1,6 @@
 use Rattle.std.proofs.Common.{◌∙◌, ℕ, ◌<◌, ◌≤◌, sym, ap, subst, refl, length}
 use Rattle.loft_tree.specs.declared.heads.Heads.{Heads}
-use Rattle.loft_sense.specs.History.{TakeBy}
+use Rattle.loft_history.specs.History.{TakeBy}
 use Rattle.loft_turns.specs.Course.{IsRun}
 use Rattle.loft_turns.proofs.RunsOn.{turned, takes_none, so_many, stands_there, not_below, all_ok}
 use Rattle.loft_turns.proofs.course.Course.take.Goals as goal

@@ -1,5 +1,5 @@
 use Rattle.std.proofs.Common.{sym, subst, Bool, true}
-use Rattle.loft_sense.specs.History.{TakeBy}
+use Rattle.loft_history.specs.History.{TakeBy}
 use Rattle.loft_turns.specs.Course.{Moves}
 use Rattle.loft_turns.specs.Rounds.{Nears}
 use Rattle.loft_turns.proofs.RoundLemmas.{one_turn, ok_then, if_then}

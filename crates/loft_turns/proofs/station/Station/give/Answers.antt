@@ -1,5 +1,5 @@
 use Rattle.std.proofs.Common.{◌≡◌, ◌∙◌, ap, refl, false}
-use Rattle.loft_sense.specs.History.{sent_last}
+use Rattle.loft_history.specs.History.{sent_last}
 use Rattle.loft_world.specs.State.{State}
 use Rattle.loft_turns.specs.declared.station.Stage.{Stage}
 use Rattle.loft_turns.specs.Turning.{settled}

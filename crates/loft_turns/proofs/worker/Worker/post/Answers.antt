@@ -1,6 +1,6 @@
 use Rattle.std.proofs.Common.{◌≡◌, ◌∙◌, ◌∷◌, Option, sym, ap, subst, refl, not}
 use Rattle.loft_sense.specs.declared.order.Sent.{Sent}
-use Rattle.loft_sense.specs.History.{ends_block, left_of}
+use Rattle.loft_history.specs.History.{ends_block, left_of}
 use Rattle.loft_world.specs.State.{State}
 use Rattle.loft_turns.specs.Blocks.{IsNext}
 use Rattle.loft_turns.specs.Course.{Hand, hand_after}

@@ -3,8 +3,8 @@ use Rattle.loft_tree.specs.declared.heads.Heads.{Heads}
 use Rattle.loft_sense.specs.declared.entry.Entry.{Entry}
 use Rattle.loft_sense.specs.declared.order.Order.{Order}
 use Rattle.loft_sense.specs.declared.thread.Thread.{Thread}
-use Rattle.loft_sense.specs.History.{starts_of}
-use Rattle.loft_sense.specs.Legal.{TakesDue}
+use Rattle.loft_history.specs.History.{starts_of}
+use Rattle.loft_history.specs.Legal.{TakesDue}
 use Rattle.loft_sense.specs.Heads.{scheduler}
 use Rattle.loft_world.specs.State.{AreEach, IsWorld, count_in}
 use Rattle.loft_world.proofs.world.World.make.Goals as goal

@@ -2,7 +2,7 @@ use Rattle.std.proofs.Common.{◌≡◌, ◌<◌, List, [], ◌∷◌, ◌++◌,
 use Rattle.loft_sense.specs.declared.order.Order.{Order}
 use Rattle.loft_sense.specs.declared.entry.Entry.{Entry}
 use Rattle.loft_sense.specs.declared.entry.Entry.TheVariants as entry
-use Rattle.loft_sense.specs.History.{waiting}
+use Rattle.loft_history.specs.History.{waiting}
 use Rattle.loft_world.specs.State.{State, IsWorld, count_in}
 use Rattle.loft_world.proofs.StateLemmas.{taking}
 use Rattle.loft_world.proofs.world.World.record_take.Goals as goal

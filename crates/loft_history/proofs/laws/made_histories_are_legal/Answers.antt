@@ -1,6 +1,6 @@
-use Rattle.loft_sense.proofs.HistoryLemmas.{choices_kept}
-use Rattle.loft_sense.proofs.LegalLemmas.{made_is_legal, made_without_callers}
-use Rattle.loft_sense.proofs.laws.made_histories_are_legal.Goals as goal
+use Rattle.loft_history.proofs.HistoryLemmas.{choices_kept}
+use Rattle.loft_history.proofs.LegalLemmas.{made_is_legal, made_without_callers}
+use Rattle.loft_history.proofs.laws.made_histories_are_legal.Goals as goal
 
 pub returns-clause-legal : goal.returns-clause-legal
 returns-clause-legal c = made_is_legal

@@ -11,11 +11,11 @@ use Rattle.loft_sense.specs.declared.entry.Entry.{Entry}
 use Rattle.loft_sense.specs.declared.entry.Entry.TheVariants.{Take, Give, Pick, Post, Client}
 use Rattle.loft_sense.specs.declared.limits.RunOptions.{RunOptions}
 use Rattle.loft_sense.specs.Machine.{Prog, heads}
-use Rattle.loft_sense.specs.History.{choice_of, waiting, jobs, left_of, unsent, replayed, has_turn, sent_last, entry_of_first, pick_of, entry_of, with_entry, hist_on, hist}
-use Rattle.loft_sense.specs.Legal.{actor_of, same_actor, of, AtEach, IsFirst, TakesDue, IsFaithful, IsNextOrder, IsNextOf, IsDeclared, IsLegal, IsNoCaller, HasNoCallers, ComesNext}
-use Rattle.loft_sense.proofs.HistoryLemmas.{take_allowed, give_allowed}
-use Rattle.loft_sense.proofs.GrowthLemmas.{own_before, next_own}
-use Rattle.loft_sense.proofs.LegalLemmas.{same_actor_self, legal_next, legal_none, made_is_legal}
+use Rattle.loft_history.specs.History.{choice_of, waiting, jobs, left_of, unsent, replayed, has_turn, sent_last, entry_of_first, pick_of, entry_of, with_entry, hist_on, hist}
+use Rattle.loft_history.specs.Legal.{actor_of, same_actor, of, AtEach, IsFirst, TakesDue, IsFaithful, IsNextOrder, IsNextOf, IsDeclared, IsLegal, IsNoCaller, HasNoCallers, ComesNext}
+use Rattle.loft_history.proofs.HistoryLemmas.{take_allowed, give_allowed}
+use Rattle.loft_history.proofs.GrowthLemmas.{own_before, next_own}
+use Rattle.loft_history.proofs.LegalLemmas.{same_actor_self, legal_next, legal_none, made_is_legal}
 
 -- an actor's own list, parted at one of its entries
 own_parts : (before : List Entry) (e : Entry) (after : List Entry) → of (actor_of e) (before ++ e ∷ after) ≡ of (actor_of e) before ++ e ∷ of (actor_of e) after

@@ -17,9 +17,9 @@ use Rattle.loft_sense.specs.declared.order.Order.{Order}
 use Rattle.loft_sense.specs.Machine.{Prog}
 use Rattle.loft_sense.specs.Instant.{replay}
 use Rattle.loft_sense.specs.Async.{async}
-use Rattle.loft_sense.specs.Clients.{outside_of}
-use Rattle.loft_sense.specs.History.{log, instant_step, is_open, left_step, left_of, ends_block, busy_step, is_busy, is_create, creates_step, creates, unsent_step, unsent_after, unsent, replayed}
-use Rattle.loft_sense.specs.Legal.{actor_of, same_actor, of}
+use Rattle.loft_history.specs.Clients.{outside_of}
+use Rattle.loft_history.specs.History.{log, instant_step, is_open, left_step, left_of, ends_block, busy_step, is_busy, is_create, creates_step, creates, unsent_step, unsent_after, unsent, replayed}
+use Rattle.loft_history.specs.Legal.{actor_of, same_actor, of}
 
 -- a scheduler's log is that of its own entries
 pub log_own : (s : SchedId) (h : List Entry) → log s (of (actor.Sched s) h) ≡ log s h

@@ -21,7 +21,7 @@ use Rattle.loft_sense.specs.Machine.{Prog, heads, Mach}
 use Rattle.loft_sense.specs.Instant.{Replayed, replay}
 use Rattle.loft_sense.specs.Rest.{is_resting, is_spent}
 use Rattle.loft_sense.specs.Async.{async}
-use Rattle.loft_sense.specs.Clients.{outside_of}
+use Rattle.loft_history.specs.Clients.{outside_of}
 
 -- who makes the next entry, and of which kind
 pub data Choice : Type 0 where

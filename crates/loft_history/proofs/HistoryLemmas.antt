@@ -8,19 +8,16 @@ use Rattle.std.proofs.lemmas.Option.{slice_get_past}
 use Rattle.loft_base.specs.declared.ids.SchedId.{SchedId}
 use Rattle.loft_sense.specs.declared.entry.Entry.{Entry}
 use Rattle.loft_sense.specs.declared.entry.Entry.TheVariants.{Take, Give, Pick, Post, Client}
-use Rattle.loft_sense.specs.declared.order.Order.{Order}
 use Rattle.loft_tree.specs.declared.heads.Client.{Client as ClientHead}
 use Rattle.loft_tree.specs.declared.heads.Heads.{Heads}
 use Rattle.loft_sense.specs.declared.order.Sent.{Sent}
 use Rattle.loft_sense.specs.declared.thread.Thread.{Thread}
 use Rattle.loft_sense.specs.declared.note.InstantNote.{InstantNote}
-use Rattle.loft_sense.specs.declared.limits.Limits.{Limits}
 use Rattle.loft_sense.specs.declared.limits.RunOptions.{RunOptions}
 use Rattle.loft_sense.specs.Heads.{same_scheduler}
 use Rattle.loft_sense.specs.Machine.{Prog, heads}
-use Rattle.loft_sense.specs.Instant.{Replayed, one_more, replay_on}
-use Rattle.loft_sense.specs.Clients.{orders_from, orders_or_none, outside_of}
-use Rattle.loft_sense.specs.History.{Choice, TakeBy, GiveBy, PickBy, PostBy, ClientBy, choice_of, log, is_open, jobs, left_of, unsent_step, unsent_after, unsent, has_turn, entry_of_first, pick_of, entry_of, with_entry, waiting, replayed, sent_last, hist_on, hist, HasEnded}
+use Rattle.loft_history.specs.Clients.{orders_from, orders_or_none, outside_of}
+use Rattle.loft_history.specs.History.{Choice, TakeBy, GiveBy, PickBy, PostBy, ClientBy, choice_of, log, is_open, jobs, left_of, unsent_step, unsent_after, unsent, has_turn, entry_of_first, pick_of, entry_of, with_entry, waiting, replayed, sent_last, hist_on, hist, HasEnded}
 
 -- a scheduler is itself
 pub same_self : (s : SchedId) → same_scheduler s s ≡ true
@@ -202,10 +199,6 @@ log-append s (Post w sent ∷ xs) ys = log-append s xs ys
 log-append s (Client c sent ∷ xs) ys = log-append s xs ys
 
 -- ---- further batches and notes
-
-pub replay_on-append : (x : Prog) (limits : Limits) (r : Replayed) (bs : List (List Order)) (b : List Order) → replay_on x limits r (bs ++ b ∷ []) ≡ one_more x limits (replay_on x limits r bs) b
-replay_on-append x limits r [] b = refl
-replay_on-append x limits r (c ∷ bs) b = replay_on-append x limits (one_more x limits r c) bs b
 
 pub sent_last-append : (ns : List InstantNote) (n : InstantNote) → sent_last (ns ++ n ∷ []) ≡ n.sent
 sent_last-append [] n = refl

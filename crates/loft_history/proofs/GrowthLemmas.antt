@@ -17,10 +17,10 @@ use Rattle.loft_sense.specs.Heads.{same_scheduler}
 use Rattle.loft_sense.specs.Machine.{Prog, heads}
 use Rattle.loft_sense.specs.Instant.{Replayed}
 use Rattle.loft_sense.specs.Async.{async}
-use Rattle.loft_sense.specs.Clients.{made_by, outside_of}
-use Rattle.loft_sense.specs.History.{in_instant, is_open, left_after, left_of, unsent_after, unsent, has_turn, sent_last}
-use Rattle.loft_sense.specs.Legal.{actor_of, same_actor, of, AtEach, IsFirst, TakeTurns, IsDue, Works, Gives, IsCallersOrder, FitsOne, IsCall, Calls, IsFaithful, IsNextOf}
-use Rattle.loft_sense.proofs.OwnLemmas.{replayed_own, creates_own}
+use Rattle.loft_history.specs.Clients.{made_by, outside_of}
+use Rattle.loft_history.specs.History.{in_instant, is_open, left_after, left_of, unsent_after, unsent, has_turn, sent_last}
+use Rattle.loft_history.specs.Legal.{actor_of, same_actor, of, AtEach, IsFirst, TakeTurns, IsDue, Works, Gives, IsCallersOrder, FitsOne, IsCall, Calls, IsFaithful, IsNextOf}
+use Rattle.loft_history.proofs.OwnLemmas.{replayed_own, creates_own}
 
 -- ---- lists of entries
 

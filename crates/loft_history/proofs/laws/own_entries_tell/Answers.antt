@@ -1,5 +1,5 @@
-use Rattle.loft_sense.proofs.OwnLemmas.{scheduler_own, worker_own, client_own, given}
-use Rattle.loft_sense.proofs.laws.own_entries_tell.Goals as goal
+use Rattle.loft_history.proofs.OwnLemmas.{scheduler_own, worker_own, client_own, given}
+use Rattle.loft_history.proofs.laws.own_entries_tell.Goals as goal
 
 pub returns-clause-scheduler : goal.returns-clause-scheduler
 returns-clause-scheduler c = scheduler_own

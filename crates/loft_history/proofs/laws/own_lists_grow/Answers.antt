@@ -1,6 +1,6 @@
-use Rattle.loft_sense.proofs.GrowthLemmas.{own_grows, grows_in_history}
-use Rattle.loft_sense.proofs.LegalLemmas.{faithful_none}
-use Rattle.loft_sense.proofs.laws.own_lists_grow.Goals as goal
+use Rattle.loft_history.proofs.GrowthLemmas.{own_grows, grows_in_history}
+use Rattle.loft_history.proofs.LegalLemmas.{faithful_none}
+use Rattle.loft_history.proofs.laws.own_lists_grow.Goals as goal
 
 pub returns-clause-begins : goal.returns-clause-begins
 returns-clause-begins c = faithful_none

@@ -18,8 +18,8 @@ use Rattle.loft_sense.specs.Heads.{same_scheduler}
 use Rattle.loft_sense.specs.Machine.{Prog, heads}
 use Rattle.loft_sense.specs.Fits.{Fits}
 use Rattle.loft_sense.specs.Async.{async}
-use Rattle.loft_sense.specs.Clients.{made_by, outside_of}
-use Rattle.loft_sense.specs.History.{choice_of, is_open, waiting, jobs, left_of, unsent, creates, replayed, has_turn, sent_last, entry_of}
+use Rattle.loft_history.specs.Clients.{made_by, outside_of}
+use Rattle.loft_history.specs.History.{choice_of, is_open, waiting, jobs, left_of, unsent, creates, replayed, has_turn, sent_last, entry_of}
 
 abbrev pub actor_of : Entry → Actor
 actor_of (Take s batch) = actor.Sched s

@@ -1,0 +1,5 @@
+pub mod HistoryLemmas
+pub mod OwnLemmas
+pub mod GrowthLemmas
+pub mod LegalLemmas
+pub mod LegalEntries
