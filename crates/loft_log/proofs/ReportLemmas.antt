@@ -14,7 +14,7 @@ use Rattle.loft_sense.specs.declared.order.Order.{Order}
 use Rattle.loft_sense.specs.declared.order.Mark.{Mark}
 use Rattle.loft_sense.specs.declared.order.Sent.{Sent}
 use Rattle.loft_sense.specs.declared.note.Ended.{Ended}
-use Rattle.loft_sense.specs.Heads.{shared_from}
+use Rattle.loft_sense.specs.Heads.{scheduler, shared_from}
 use Rattle.loft_sense.specs.History.{choice_of, log, waiting}
 use Rattle.loft_sense.specs.Text.{space, name_of_shared, order_text}
 use Rattle.loft_sense.specs.Lines.{text_of, end_line, mark_word, ends_at, batch_lines, leave_line, leave_lines, instant_lines}
@@ -23,7 +23,6 @@ use Rattle.loft_sense.specs.declared.entry.Entry.{Entry}
 use Rattle.loft_sense.specs.declared.note.FinalState.{FinalState}
 use Rattle.loft_sense.specs.declared.note.InstantNote.{InstantNote}
 use Rattle.loft_sense.proofs.HistoryLemmas.{log-append}
-use Rattle.loft_world.specs.State.{scheduler}
 use Rattle.loft_log.specs.WorldReport.{world_block, world_blocks, left_of_each}
 use Rattle.loft_log.proofs.LineLemmas.{text_of-append, drop-at}
 

@@ -9,7 +9,7 @@ use Rattle.loft_sense.specs.declared.entry.Entry.{Entry}
 use Rattle.loft_sense.specs.declared.limits.RunOptions.{RunOptions}
 use Rattle.loft_sense.specs.Machine.{Prog, heads}
 use Rattle.loft_sense.specs.History.{Choice, TakeBy, GiveBy, PickBy, PostBy, ClientBy, entry_of, with_entry}
-use Rattle.loft_world.specs.State.{scheduler}
+use Rattle.loft_sense.specs.Heads.{scheduler}
 use Rattle.loft_world.specs.declared.results.Finished.{Finished}
 use Rattle.loft_world.specs.Replay.{IsReplayOf}
 use Rattle.loft_log.specs.declared.choice.Choice.{Choice as ByName}

@@ -5,6 +5,7 @@ use Rattle.std.proofs.lemmas.List.{drop-drop, length-append}
 use Rattle.std.proofs.lemmas.List.FromFn.{length-map-range_with_len, get_or-map-range_with_len}
 use Rattle.std.proofs.Math.ListN.{set}
 use Rattle.std.specs.Prelude.{if◌then◌else◌, ◌&&◌, drop}
+use Rattle.std.proofs.lemmas.List.Sums.{fold-append}
 use Rattle.loft_tree.specs.declared.heads.ClientOrder.{ClientOrder}
 use Rattle.loft_tree.specs.declared.heads.ClientOrder.TheVariants as client
 use Rattle.loft_tree.specs.declared.kinds.Control.TheVariants as control
@@ -20,14 +21,15 @@ use Rattle.loft_sense.specs.declared.order.To.{To}
 use Rattle.loft_sense.specs.declared.order.To.TheVariants.{Sched, Others, All, Workers}
 use Rattle.loft_sense.specs.Machine.{Prog, heads}
 use Rattle.loft_sense.specs.Clients.{orders_from, orders_or_none, outside_of}
-use Rattle.loft_sense.specs.History.{ClientBy, unsent, is_create, creates, entry_of_first, entry_of}
+use Rattle.loft_sense.specs.History.{ClientBy, unsent, is_create, creates, entry_of_first, entry_of, creates_step, instant_step, unsent_step}
 use Rattle.loft_sense.specs.Legal.{of, FitsOne}
-use Rattle.loft_sense.proofs.HistoryLemmas.{log-append, in_instant-append, unsent_after-append, unsent_none}
+use Rattle.loft_sense.proofs.HistoryLemmas.{log-append, unsent_none}
 use Rattle.loft_sense.proofs.OwnLemmas.{given}
-use Rattle.loft_world.specs.State.{State, scheduler, IsToOne, IsForClients, with_entry}
+use Rattle.loft_sense.specs.Heads.{scheduler}
+use Rattle.loft_world.specs.State.{State, IsToOne, IsForClients, with_entry}
 use Rattle.loft_turns.specs.Course.{stand_after, hand_after, gave, orders_left, Course, IsRun, CanRun, Moves}
 use Rattle.loft_turns.proofs.CourseLemmas.{moved_by}
-use Rattle.loft_turns.proofs.RunsOn.{grown, hand_kept, hand_is, creates_after-append, gave_more, same_stand_by, same_map, set_one, from_none, stays}
+use Rattle.loft_turns.proofs.RunsOn.{grown, hand_kept, hand_is, gave_more, same_stand_by, same_map, set_one, from_none, stays}
 
 -- ---- no further order
 
@@ -134,10 +136,10 @@ gave_else h c m k other =
     ∙ ap length (append-nil (of (actor.Client k) h)))
 
 creates_now : (h : List Entry) (c : ℕ) (m : Sent) (k : ℕ) (own : Bool) → k == c ≡ own → creates k (h ++ Client c m ∷ []) ≡ (if own && is_create m.order then creates k h + 1 else creates k h)
-creates_now h c m k own is = creates_after-append k h (Client c m ∷ []) 0 ∙ ap (λ (b : Bool). if b && is_create m.order then creates k h + 1 else creates k h) is
+creates_now h c m k own is = fold-append (creates_step k) 0 h (Client c m ∷ []) ∙ ap (λ (b : Bool). if b && is_create m.order then creates k h + 1 else creates k h) is
 
 unsent_now : (d : Heads) (h : List Entry) (c : ℕ) (m : Sent) (k : ℕ) (own : Bool) → k == c ≡ own → unsent d k (h ++ Client c m ∷ []) ≡ (if own then drop 1 (unsent d k h) else unsent d k h)
-unsent_now d h c m k own is = unsent_after-append k h (Client c m ∷ []) _ ∙ ap (λ (b : Bool). if b then drop 1 (unsent d k h) else unsent d k h) is
+unsent_now d h c m k own is = fold-append (unsent_step k) _ h (Client c m ∷ []) ∙ ap (λ (b : Bool). if b then drop 1 (unsent d k h) else unsent d k h) is
 
 -- what a client has still to give is what comes after
 orders_now : (x : Prog) (o : RunOptions) (r : Course) (c : ℕ) (m : Sent) → IsRun x o r → slice_get (orders_left x c r.world.history (gave r.world.history c)) 0 ≡ Some m
@@ -181,7 +183,7 @@ pub stands_still : (x : Prog) (o : RunOptions) (h : List Entry) (c : ℕ) (m : S
 stands_still x o h c m j =
     same_stand_by x o h (h ++ Client c m ∷ []) j
     (log-append (scheduler j) h (Client c m ∷ []) ∙ append-nil _)
-    (in_instant-append (scheduler j) h (Client c m ∷ []) false)
+    (fold-append (instant_step (scheduler j)) false h (Client c m ∷ []))
 
 -- the run after an order of a client
 pub ordered : (x : Prog) (o : RunOptions) (r : Course) (c : ℕ) (m : Sent) (w : State) (n : ℕ) → IsRun x o r → slice_get (orders_left x c r.world.history (gave r.world.history c)) 0 ≡ Some m

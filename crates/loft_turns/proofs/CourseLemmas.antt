@@ -3,6 +3,7 @@ use Rattle.std.proofs.Common.{◌≡◌, ◌<◌, Bool, true, false, List, [], �
 use Rattle.std.proofs.lemmas.Bool.{lt-ltb}
 use Rattle.std.specs.Prelude.{if◌then◌else◌, not, ◌&&◌, is_some, MatchOption}
 use Rattle.std.specs.Option.{option_to_list}
+use Rattle.std.proofs.lemmas.List.Sums.{fold-append}
 use Rattle.loft_base.specs.declared.ids.SchedId.{SchedId}
 use Rattle.loft_sense.specs.declared.order.Order.{Order}
 use Rattle.loft_sense.specs.declared.order.Sent.{Sent}
@@ -12,8 +13,8 @@ use Rattle.loft_sense.specs.declared.entry.Entry.TheVariants.{Take, Give}
 use Rattle.loft_sense.specs.declared.limits.RunOptions.{RunOptions}
 use Rattle.loft_sense.specs.Machine.{Prog, heads, Mach}
 use Rattle.loft_sense.specs.Instant.{one_more, replay, instant}
-use Rattle.loft_sense.specs.History.{Choice, TakeBy, GiveBy, log, in_instant, is_open, replayed, has_turn, sent_last, waiting, entry_of}
-use Rattle.loft_sense.proofs.HistoryLemmas.{same_self, take_allowed, give_allowed, log-append, in_instant-append, replay_on-append}
+use Rattle.loft_sense.specs.History.{Choice, TakeBy, GiveBy, log, in_instant, is_open, replayed, has_turn, sent_last, waiting, entry_of, instant_step}
+use Rattle.loft_sense.proofs.HistoryLemmas.{same_self, take_allowed, give_allowed, log-append, replay_on-append}
 use Rattle.loft_turns.specs.Course.{Stand, stand_after, Moves}
 
 -- ---- stands
@@ -38,7 +39,7 @@ log_taken : (s : SchedId) (h : List Entry) (batch : List Order) → log s (h ++ 
 log_taken s h batch = log-append s h (Take s batch ∷ []) ∙ ap (λ (own : Bool). log s h ++ (if own then batch ∷ [] else [])) (same_self s)
 
 pub opened : (s : SchedId) (h : List Entry) (batch : List Order) → is_open s (h ++ Take s batch ∷ []) ≡ true
-opened s h batch = in_instant-append s h (Take s batch ∷ []) false ∙ ap (λ (b : Bool). b || in_instant s false h) (same_self s)
+opened s h batch = fold-append (instant_step s) false h (Take s batch ∷ []) ∙ ap (λ (b : Bool). b || in_instant s false h) (same_self s)
 
 pub replayed_taken : (x : Prog) (o : RunOptions) (s : SchedId) (h : List Entry) (batch : List Order) → replayed x o.limits s (h ++ Take s batch ∷ []) ≡ one_more x o.limits (replayed x o.limits s h) batch
 replayed_taken x o s h batch = ap (replay x o.limits s) (log_taken s h batch) ∙ replay_on-append x o.limits _ (log s h) batch
@@ -70,7 +71,7 @@ pub log_given : (s : SchedId) (h : List Entry) (sent : List Sent) → log s (h +
 log_given s h sent = log-append s h (Give s sent ∷ []) ∙ append-nil (log s h)
 
 pub shut : (s : SchedId) (h : List Entry) (sent : List Sent) → is_open s (h ++ Give s sent ∷ []) ≡ false
-shut s h sent = in_instant-append s h (Give s sent ∷ []) false ∙ ap (λ (b : Bool). not b && in_instant s false h) (same_self s)
+shut s h sent = fold-append (instant_step s) false h (Give s sent ∷ []) ∙ ap (λ (b : Bool). not b && in_instant s false h) (same_self s)
 
 -- the scheduler after a Give
 pub given : (x : Prog) (o : RunOptions) (s : SchedId) (h after : List Entry) (old new : Stand) (sent : List Sent)

@@ -2,6 +2,7 @@
 use Rattle.std.proofs.Common.{◌≡◌, ◌≢◌, ℕ, ◌+◌, ◌-◌, ◌<◌, ◌==◌, Bool, true, false, List, [], ◌∷◌, ◌++◌, length, refl, sym, ◌∙◌, ap, subst, arith, append-nil, None, ◌||◌, ◌⊎◌, inl, inr, eq-eqb}
 use Rattle.std.proofs.lemmas.Bool.{eqb-true, ltb-true, lt-ltb}
 use Rattle.std.specs.Prelude.{if◌then◌else◌, nat_lt, drop}
+use Rattle.std.proofs.lemmas.List.Sums.{fold-append}
 use Rattle.loft_base.specs.declared.ids.SchedId.{SchedId}
 use Rattle.loft_tree.specs.declared.heads.Heads.{Heads}
 use Rattle.loft_sense.specs.declared.entry.Entry.{Entry}
@@ -10,8 +11,8 @@ use Rattle.loft_sense.specs.declared.limits.RunOptions.{RunOptions}
 use Rattle.loft_sense.specs.declared.order.Sent.{Sent}
 use Rattle.loft_sense.specs.declared.thread.Thread.{Thread}
 use Rattle.loft_sense.specs.Machine.{Prog, heads}
-use Rattle.loft_sense.specs.History.{Choice, PickBy, PostBy, is_open, jobs_sent, jobs, left_of, is_busy, entry_of_first, pick_of, entry_of}
-use Rattle.loft_sense.proofs.HistoryLemmas.{on_if, on_first, on_pick, in_instant-append, jobs_after-append}
+use Rattle.loft_sense.specs.History.{Choice, PickBy, PostBy, is_open, jobs_sent, jobs, left_of, is_busy, entry_of_first, pick_of, entry_of, instant_step, jobs_step}
+use Rattle.loft_sense.proofs.HistoryLemmas.{on_if, on_first, on_pick}
 use Rattle.loft_turns.specs.Blocks.{IsHand}
 use Rattle.loft_turns.specs.Course.{Stand, Hand, Moves}
 use Rattle.loft_turns.specs.Rounds.{instants_left, orders_unsent, left, AllRest, WorksOff}
@@ -39,10 +40,10 @@ pub record IsPosting (x : Prog) (o : RunOptions) (start h : List Entry) (w : ℕ
 picked : (x : Prog) (o : RunOptions) (h : List Entry) (w : ℕ) (t : Thread) (rest : List Thread) → w < o.workers → AllRest x o h → jobs h ≡ t ∷ rest → IsPosting x o h (h ++ Pick w t ∷ []) w
 picked x o h w t rest declared free first = record {
   declared = declared;
-  schedulers = λ s. in_instant-append s h (Pick w t ∷ []) false ∙ free.schedulers s;
+  schedulers = λ s. fold-append (instant_step s) false h (Pick w t ∷ []) ∙ free.schedulers s;
   others = λ v other. sym (ap (λ (q : Hand). q.left) (other_hands x o h (Pick w t) w refl v other)) ∙ free.workers v;
   left = as_left x o h (Pick w t) tt;
-  fewer = let now : length (jobs (h ++ Pick w t ∷ [])) ≡ length rest = ap length (jobs_after-append h (Pick w t ∷ []) [] ∙ ap (λ (l : List Thread). drop 1 l) first) in
+  fewer = let now : length (jobs (h ++ Pick w t ∷ [])) ≡ length rest = ap length (fold-append jobs_step [] h (Pick w t ∷ []) ∙ ap (λ (l : List Thread). drop 1 l) first) in
       let before : length (jobs h) ≡ length (t ∷ rest) = ap length first in
       omega (arith, now, before);
 }
@@ -74,11 +75,11 @@ posted : (x : Prog) (o : RunOptions) (start h : List Entry) (w : ℕ) (m : Sent)
 posted x o start h w m rest before hand is =
     let none : jobs_sent (m ∷ []) ≡ [] = first_links (heads x) (is_busy w h) m rest (subst (IsHand (heads x) (is_busy w h)) is hand) in
     let jobs_same : jobs (h ++ Post w m ∷ []) ≡ jobs h =
-    jobs_after-append h (Post w m ∷ []) [] ∙ (ap (λ (l : List Thread). jobs h ++ l) none ∙ append-nil (jobs h)) in
+    fold-append jobs_step [] h (Post w m ∷ []) ∙ (ap (λ (l : List Thread). jobs h ++ l) none ∙ append-nil (jobs h)) in
     record {
       posting = record {
         declared = before.declared;
-        schedulers = λ s. in_instant-append s h (Post w m ∷ []) false ∙ before.schedulers s;
+        schedulers = λ s. fold-append (instant_step s) false h (Post w m ∷ []) ∙ before.schedulers s;
         others = λ v other. sym (ap (λ (q : Hand). q.left) (other_hands x o h (Post w m) w refl v other)) ∙ before.others v other;
         left = as_left x o h (Post w m) tt ∙ before.left;
         fewer = subst (λ (l : List Thread). length l < length (jobs start)) (sym jobs_same) before.fewer;

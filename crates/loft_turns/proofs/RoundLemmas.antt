@@ -4,6 +4,7 @@ use Rattle.std.proofs.lemmas.Bool.{eqb-true, eqb-false, lt-ltb, ltb-true, ltb-fa
 use Rattle.std.proofs.lemmas.List.Sums.{sum_by-cons}
 use Rattle.std.specs.List.{range_with_len}
 use Rattle.std.specs.Prelude.{if◌then◌else◌, not, ◌&&◌, nat_lt, drop, MatchOption, OnOk, IfOk}
+use Rattle.std.proofs.lemmas.List.Sums.{fold-append}
 use Rattle.loft_base.specs.declared.ids.SchedId.{SchedId}
 use Rattle.loft_sense.specs.declared.entry.Entry.{Entry}
 use Rattle.loft_sense.specs.declared.entry.Entry.TheVariants.{Take, Give, Pick, Client}
@@ -14,9 +15,9 @@ use Rattle.loft_sense.specs.Heads.{same_scheduler}
 use Rattle.loft_sense.specs.Machine.{Prog, heads}
 use Rattle.loft_sense.specs.Rest.{is_spent}
 use Rattle.loft_sense.specs.Instant.{Replayed, replay}
-use Rattle.loft_sense.specs.History.{Choice, TakeBy, GiveBy, ClientBy, in_instant, is_open, jobs, left_of, unsent, replayed, has_turn, waiting, sent_last, entry_of_first, pick_of, entry_of, HasEnded}
+use Rattle.loft_sense.specs.History.{Choice, TakeBy, GiveBy, ClientBy, in_instant, is_open, jobs, left_of, unsent, replayed, has_turn, waiting, sent_last, entry_of_first, pick_of, entry_of, HasEnded, instant_step, left_step, unsent_step}
 use Rattle.loft_sense.proofs.AroundLemmas.{instant_number}
-use Rattle.loft_sense.proofs.HistoryLemmas.{in_instant-append, left_after-append, unsent_after-append, unsent_none, on_first}
+use Rattle.loft_sense.proofs.HistoryLemmas.{unsent_none, on_first}
 use Rattle.loft_turns.specs.Course.{Stand, HasWorkers, Moves}
 use Rattle.loft_turns.specs.Rounds.{instants_left, orders_unsent, left, AllRest, Nears, WorksOff, EndsOrNears, turn_of, job_of, order_of}
 use Rattle.loft_turns.proofs.CourseLemmas.{replayed_taken, log_given, opened, give_entry}
@@ -106,12 +107,12 @@ rest_again false was e = e
 all_rest : (x : Prog) (o : RunOptions) (h : List Entry) (s : SchedId) (batch : List Order) (sent : List Sent) → AllRest x o h → AllRest x o (turned h s batch sent)
 all_rest x o h s batch sent rest = record {
   schedulers = λ q.
-      in_instant-append q (h ++ Take s batch ∷ []) (Give s sent ∷ []) false
-      ∙ (ap (λ (b : Bool). not (same_scheduler q s) && b) (in_instant-append q h (Take s batch ∷ []) false)
+      fold-append (instant_step q) false (h ++ Take s batch ∷ []) (Give s sent ∷ [])
+      ∙ (ap (λ (b : Bool). not (same_scheduler q s) && b) (fold-append (instant_step q) false h (Take s batch ∷ []))
       ∙ rest_again (same_scheduler q s) (in_instant q false h) (rest.schedulers q));
   workers = λ w.
-      left_after-append x o w (h ++ Take s batch ∷ []) (Give s sent ∷ []) []
-      ∙ (left_after-append x o w h (Take s batch ∷ []) [] ∙ rest.workers w);
+      fold-append (left_step x o w) [] (h ++ Take s batch ∷ []) (Give s sent ∷ [])
+      ∙ (fold-append (left_step x o w) [] h (Take s batch ∷ []) ∙ rest.workers w);
 }
 
 number_after : (x : Prog) (o : RunOptions) (h : List Entry) (s : SchedId) (batch : List Order) (sent : List Sent)
@@ -173,13 +174,13 @@ one_turn x o s h f g moved rest takes gives =
 
 rest_still : (x : Prog) (o : RunOptions) (h : List Entry) (c : ℕ) (m : Sent) → AllRest x o h → AllRest x o (h ++ Client c m ∷ [])
 rest_still x o h c m rest = record {
-  schedulers = λ q. in_instant-append q h (Client c m ∷ []) false ∙ rest.schedulers q;
-  workers = λ w. left_after-append x o w h (Client c m ∷ []) [] ∙ rest.workers w;
+  schedulers = λ q. fold-append (instant_step q) false h (Client c m ∷ []) ∙ rest.schedulers q;
+  workers = λ w. fold-append (left_step x o w) [] h (Client c m ∷ []) ∙ rest.workers w;
 }
 
 other_orders : (x : Prog) (h : List Entry) (c : ℕ) (m : Sent) (k : ℕ) → k ≢ c → orders_unsent x (h ++ Client c m ∷ []) k ≡ orders_unsent x h k
 other_orders x h c m k other =
-    ap length (unsent_after-append k h (Client c m ∷ []) _ ∙ ap (λ (b : Bool). if b then drop 1 (unsent (heads x) k h) else unsent (heads x) k h) (apart (k == c) refl))
+    ap length (fold-append (unsent_step k) _ h (Client c m ∷ []) ∙ ap (λ (b : Bool). if b then drop 1 (unsent (heads x) k h) else unsent (heads x) k h) (apart (k == c) refl))
   where
     apart : (is : Bool) → k == c ≡ is → k == c ≡ false
     apart true e = absurd (other (eqb-true k c e))
@@ -188,7 +189,7 @@ other_orders x h c m k other =
 fewer_orders : (x : Prog) (h : List Entry) (c : ℕ) (m : Sent) (rest : List Sent) → unsent (heads x) c h ≡ m ∷ rest → orders_unsent x (h ++ Client c m ∷ []) c < orders_unsent x h c
 fewer_orders x h c m rest all =
     let now : orders_unsent x (h ++ Client c m ∷ []) c ≡ length rest =
-    ap length (unsent_after-append c h (Client c m ∷ []) _
+    ap length (fold-append (unsent_step c) _ h (Client c m ∷ [])
     ∙ (ap (λ (b : Bool). if b then drop 1 (unsent (heads x) c h) else unsent (heads x) c h) (eq-eqb c c refl) ∙ ap (drop 1) all)) in
     let before : orders_unsent x h c ≡ suc (length rest) = ap length all in
     omega (arith, now, before)

@@ -6,6 +6,8 @@ use Rattle.std.proofs.Math.ListN.{set}
 use Rattle.std.proofs.lemmas.List.FromFn.{length-map-range_with_len, get_or-map-range_with_len}
 use Rattle.std.specs.List.{range_with_len}
 use Rattle.std.specs.Prelude.{if◌then◌else◌, not, ◌&&◌, nat_lt, drop, MatchOption, OnOk, IfOk}
+use Rattle.std.proofs.lemmas.List.Elements.{filter-append}
+use Rattle.std.proofs.lemmas.List.Sums.{fold-append}
 use Rattle.loft_base.specs.declared.ids.SchedId.{SchedId}
 use Rattle.loft_tree.specs.declared.heads.Heads.{Heads}
 use Rattle.loft_sense.specs.declared.entry.Actor.{Actor}
@@ -15,14 +17,14 @@ use Rattle.loft_sense.specs.declared.entry.Entry.TheVariants.{Take, Give, Pick, 
 use Rattle.loft_sense.specs.declared.limits.RunOptions.{RunOptions}
 use Rattle.loft_sense.specs.declared.order.Order.{Order}
 use Rattle.loft_sense.specs.declared.order.Sent.{Sent}
-use Rattle.loft_sense.specs.Heads.{same_scheduler}
+use Rattle.loft_sense.specs.Heads.{scheduler, same_scheduler}
 use Rattle.loft_sense.specs.Machine.{Prog, heads}
 use Rattle.loft_sense.specs.Instant.{replay}
 use Rattle.loft_sense.specs.Clients.{orders_from, orders_or_none}
-use Rattle.loft_sense.specs.History.{Choice, TakeBy, GiveBy, PickBy, PostBy, ClientBy, choice_of, log, in_instant, is_open, left_of, ends_block, in_hand, is_busy, unsent, is_create, creates_after, creates, replayed, has_turn, waiting, sent_last, entry_of, with_entry, hist_on, hist}
+use Rattle.loft_sense.specs.History.{Choice, TakeBy, GiveBy, PickBy, PostBy, ClientBy, choice_of, log, in_instant, is_open, left_of, is_busy, unsent, creates, replayed, has_turn, waiting, sent_last, entry_of, with_entry, hist_on, hist, creates_step, busy_step, instant_step, left_step, unsent_step}
 use Rattle.loft_sense.specs.Legal.{actor_of, same_actor, of}
-use Rattle.loft_sense.proofs.HistoryLemmas.{choice_kept, log-append, in_instant-append, left_after-append, unsent_after-append}
-use Rattle.loft_world.specs.State.{State, scheduler, no_entries}
+use Rattle.loft_sense.proofs.HistoryLemmas.{choice_kept, log-append}
+use Rattle.loft_world.specs.State.{State, no_entries}
 use Rattle.loft_turns.specs.Blocks.{IsHand}
 use Rattle.loft_turns.specs.Course.{Stand, stand_after, stands_after, Hand, hand_after, hands_after, gave, orders_left, Course, IsRun, Moves}
 
@@ -53,14 +55,6 @@ grown x o h c e made is =
 
 -- ---- workers
 
-pub in_hand-append : (w : ℕ) (xs ys : List Entry) (had : Bool) → in_hand w had (xs ++ ys) ≡ in_hand w (in_hand w had xs) ys
-in_hand-append w [] ys had = refl
-in_hand-append w (Take s batch ∷ xs) ys had = in_hand-append w xs ys had
-in_hand-append w (Give s sent ∷ xs) ys had = in_hand-append w xs ys had
-in_hand-append w (Pick v job ∷ xs) ys had = in_hand-append w xs ys (w == v || had)
-in_hand-append w (Post v sent ∷ xs) ys had = in_hand-append w xs ys (if w == v then not (ends_block sent.order) else had)
-in_hand-append w (Client c sent ∷ xs) ys had = in_hand-append w xs ys had
-
 pub same_hand : (a b : Hand) → a.left ≡ b.left → a.busy ≡ b.busy → a ≡ b
 same_hand a b l y = ap (λ (q : List Sent). record { left = q; busy = a.busy }) l ∙ ap (λ (q : Bool). record { left = b.left; busy = q }) y
 
@@ -74,9 +68,9 @@ IsWork (Client c sent) = ⊥
 
 -- the entries of schedulers and clients leave workers as they are
 pub hand_kept : (x : Prog) (o : RunOptions) (h : List Entry) (e : Entry) → (IsWork e → ⊥) → (w : ℕ) → hand_after x o h w ≡ hand_after x o (h ++ e ∷ []) w
-hand_kept x o h (Take s batch) other w = same_hand _ _ (sym (left_after-append x o w h (Take s batch ∷ []) [])) (sym (in_hand-append w h (Take s batch ∷ []) false))
-hand_kept x o h (Give s sent) other w = same_hand _ _ (sym (left_after-append x o w h (Give s sent ∷ []) [])) (sym (in_hand-append w h (Give s sent ∷ []) false))
-hand_kept x o h (Client c sent) other w = same_hand _ _ (sym (left_after-append x o w h (Client c sent ∷ []) [])) (sym (in_hand-append w h (Client c sent ∷ []) false))
+hand_kept x o h (Take s batch) other w = same_hand _ _ (sym (fold-append (left_step x o w) [] h (Take s batch ∷ []))) (sym (fold-append (busy_step w) false h (Take s batch ∷ [])))
+hand_kept x o h (Give s sent) other w = same_hand _ _ (sym (fold-append (left_step x o w) [] h (Give s sent ∷ []))) (sym (fold-append (busy_step w) false h (Give s sent ∷ [])))
+hand_kept x o h (Client c sent) other w = same_hand _ _ (sym (fold-append (left_step x o w) [] h (Client c sent ∷ []))) (sym (fold-append (busy_step w) false h (Client c sent ∷ [])))
 hand_kept x o h (Pick v job) other w = absurd (other tt)
 hand_kept x o h (Post v sent) other w = absurd (other tt)
 
@@ -97,24 +91,8 @@ same_map {A} f g a (suc n) same =
 
 -- ---- what an entry leaves as it is
 
-of-append : (a : Actor) (xs ys : List Entry) → of a (xs ++ ys) ≡ of a xs ++ of a ys
-of-append a [] ys = refl
-of-append a (e ∷ xs) ys = by (same_actor a (actor_of e)) (of-append a xs ys)
-  where
-    by : (own : Bool) → of a (xs ++ ys) ≡ of a xs ++ of a ys → (if own then e ∷ of a (xs ++ ys) else of a (xs ++ ys)) ≡ (if own then e ∷ of a xs else of a xs) ++ of a ys
-    by true same = ap (λ (l : List Entry). e ∷ l) same
-    by false same = same
-
-pub creates_after-append : (c : ℕ) (xs ys : List Entry) (before : ℕ) → creates_after c before (xs ++ ys) ≡ creates_after c (creates_after c before xs) ys
-creates_after-append c [] ys before = refl
-creates_after-append c (Take s batch ∷ xs) ys before = creates_after-append c xs ys before
-creates_after-append c (Give s sent ∷ xs) ys before = creates_after-append c xs ys before
-creates_after-append c (Pick w job ∷ xs) ys before = creates_after-append c xs ys before
-creates_after-append c (Post w sent ∷ xs) ys before = creates_after-append c xs ys before
-creates_after-append c (Client d sent ∷ xs) ys before = creates_after-append c xs ys (if c == d && is_create sent.order then before + 1 else before)
-
 pub gave_more : (c : ℕ) (h : List Entry) (e : Entry) → gave (h ++ e ∷ []) c ≡ length (of (actor.Client c) h ++ of (actor.Client c) (e ∷ []))
-gave_more c h e = ap length (of-append (actor.Client c) h (e ∷ []))
+gave_more c h e = ap length (filter-append (λ (d : Entry). same_actor (actor.Client c) (actor_of d)) h (e ∷ []))
 
 -- clients are as far as before
 pub record SameClients (x : Prog) (h g : List Entry) : Type 0 where
@@ -125,13 +103,13 @@ pub record SameClients (x : Prog) (h g : List Entry) : Type 0 where
 pub clients_kept : (x : Prog) (h : List Entry) (e : Entry) (s : SchedId) → actor_of e ≡ actor.Sched s → SameClients x h (h ++ e ∷ [])
 clients_kept x h (Take q batch) s is = record {
   gave = λ k. gave_more k h (Take q batch) ∙ ap length (append-nil (of (actor.Client k) h));
-  creates = λ k. creates_after-append k h (Take q batch ∷ []) 0;
-  unsent = λ k. unsent_after-append k h (Take q batch ∷ []) _;
+  creates = λ k. fold-append (creates_step k) 0 h (Take q batch ∷ []);
+  unsent = λ k. fold-append (unsent_step k) _ h (Take q batch ∷ []);
 }
 clients_kept x h (Give q sent) s is = record {
   gave = λ k. gave_more k h (Give q sent) ∙ ap length (append-nil (of (actor.Client k) h));
-  creates = λ k. creates_after-append k h (Give q sent ∷ []) 0;
-  unsent = λ k. unsent_after-append k h (Give q sent ∷ []) _;
+  creates = λ k. fold-append (creates_step k) 0 h (Give q sent ∷ []);
+  unsent = λ k. fold-append (unsent_step k) _ h (Give q sent ∷ []);
 }
 clients_kept x h (Pick w job) s is = absurd cc
 clients_kept x h (Post w sent) s is = absurd cc
@@ -170,12 +148,12 @@ other_stands x o h (Take q batch) s is j other =
     let apart : same_scheduler (scheduler j) q ≡ false = other_index (scheduler j) q (λ at. other (at ∙ ap (λ (r : SchedId). r.0) (sched_is q s is))) in
     same_stand_by x o h (h ++ Take q batch ∷ []) j
     (log-append (scheduler j) h (Take q batch ∷ []) ∙ (ap (λ (own : Bool). log (scheduler j) h ++ (if own then batch ∷ [] else [])) apart ∙ append-nil _))
-    (in_instant-append (scheduler j) h (Take q batch ∷ []) false ∙ ap (λ (b : Bool). b || in_instant (scheduler j) false h) apart)
+    (fold-append (instant_step (scheduler j)) false h (Take q batch ∷ []) ∙ ap (λ (b : Bool). b || in_instant (scheduler j) false h) apart)
 other_stands x o h (Give q sent) s is j other =
     let apart : same_scheduler (scheduler j) q ≡ false = other_index (scheduler j) q (λ at. other (at ∙ ap (λ (r : SchedId). r.0) (sched_is q s is))) in
     same_stand_by x o h (h ++ Give q sent ∷ []) j
     (log-append (scheduler j) h (Give q sent ∷ []) ∙ append-nil _)
-    (in_instant-append (scheduler j) h (Give q sent ∷ []) false ∙ ap (λ (b : Bool). not b && in_instant (scheduler j) false h) apart)
+    (fold-append (instant_step (scheduler j)) false h (Give q sent ∷ []) ∙ ap (λ (b : Bool). not b && in_instant (scheduler j) false h) apart)
 other_stands x o h (Pick w job) s is j other = absurd cc
 other_stands x o h (Post w sent) s is j other = absurd cc
 other_stands x o h (Client c sent) s is j other = absurd cc

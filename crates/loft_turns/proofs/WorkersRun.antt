@@ -5,6 +5,7 @@ use Rattle.std.proofs.lemmas.List.FromFn.{length-map-range_with_len, get_or-map-
 use Rattle.std.proofs.Math.ListN.{set}
 use Rattle.std.specs.List.{range_with_len}
 use Rattle.std.specs.Prelude.{if◌then◌else◌, not, nat_lt, drop, All, MatchOption}
+use Rattle.std.proofs.lemmas.List.Sums.{fold-append}
 use Rattle.loft_base.specs.declared.ids.ThreadId.{ThreadId}
 use Rattle.loft_tree.specs.declared.heads.Heads.{Heads}
 use Rattle.loft_sense.specs.declared.entry.Actor.TheVariants as actor
@@ -20,14 +21,15 @@ use Rattle.loft_sense.specs.declared.thread.Thread.{Thread}
 use Rattle.loft_sense.specs.Machine.{Prog, heads}
 use Rattle.loft_sense.specs.Async.{async}
 use Rattle.loft_sense.specs.Legal.{of}
-use Rattle.loft_sense.specs.History.{Choice, TakeBy, GiveBy, PickBy, PostBy, ClientBy, choice_of, jobs_sent, job_before, jobs, ends_block, left_of, is_busy, unsent, hist, entry_of_first, pick_of, entry_of}
-use Rattle.loft_sense.proofs.HistoryLemmas.{choice_kept, on_if, on_first, on_pick, log-append, in_instant-append, left_after-append, unsent_after-append}
-use Rattle.loft_world.specs.State.{State, scheduler}
+use Rattle.loft_sense.specs.History.{Choice, TakeBy, GiveBy, PickBy, PostBy, ClientBy, choice_of, jobs_sent, job_before, jobs, ends_block, left_of, is_busy, unsent, hist, entry_of_first, pick_of, entry_of, creates_step, busy_step, instant_step, left_step, unsent_step}
+use Rattle.loft_sense.proofs.HistoryLemmas.{choice_kept, on_if, on_first, on_pick, log-append}
+use Rattle.loft_sense.specs.Heads.{scheduler}
+use Rattle.loft_world.specs.State.{State}
 use Rattle.loft_sends.specs.Blocks.{IsExit, IsQuiet, IsBlock}
 use Rattle.loft_turns.specs.Blocks.{IsHand}
 use Rattle.loft_turns.specs.Course.{Hand, hand_after, stand_after, gave, orders_left, Course, IsRun, CanRun, Moves}
 use Rattle.loft_turns.proofs.CourseLemmas.{moved_by}
-use Rattle.loft_turns.proofs.RunsOn.{grown, in_hand-append, same_hand, IsWork, hand_is, from_none, same_map, set_one, SameClients, gave_more, creates_after-append, given_same, orders_same, same_stand_by, stays}
+use Rattle.loft_turns.proofs.RunsOn.{grown, same_hand, IsWork, hand_is, from_none, same_map, set_one, SameClients, gave_more, given_same, orders_same, same_stand_by, stays}
 
 -- ---- the worker's own choices
 
@@ -79,8 +81,8 @@ picks x o h g w t declared free first grows = moved_by x o h (PickBy w) g (Pick 
 pub picked_hand : (x : Prog) (o : RunOptions) (h : List Entry) (w : ℕ) (t : Thread) → hand_after x o (h ++ Pick w t ∷ []) w ≡ record { left = async x t o.limits.block; busy = true }
 picked_hand x o h w t =
     same_hand (hand_after x o (h ++ Pick w t ∷ []) w) _
-    (left_after-append x o w h (Pick w t ∷ []) [] ∙ ap (λ (own : Bool). if own then async x t o.limits.block else left_of x o w h) (eq-eqb w w refl))
-    (in_hand-append w h (Pick w t ∷ []) false ∙ ap (λ (own : Bool). own || is_busy w h) (eq-eqb w w refl))
+    (fold-append (left_step x o w) [] h (Pick w t ∷ []) ∙ ap (λ (own : Bool). if own then async x t o.limits.block else left_of x o w h) (eq-eqb w w refl))
+    (fold-append (busy_step w) false h (Pick w t ∷ []) ∙ ap (λ (own : Bool). own || is_busy w h) (eq-eqb w w refl))
 
 -- nothing is left to post
 pub none_to_post : (x : Prog) (o : RunOptions) (h : List Entry) (w : ℕ) → left_of x o w h ≡ [] → Moves x o h (PostBy w) false h
@@ -101,9 +103,9 @@ pub posted_hand : (x : Prog) (o : RunOptions) (h : List Entry) (w : ℕ) (m : Se
     → hand_after x o (h ++ Post w m ∷ []) w ≡ record { left = left; busy = not (ends_block m.order) }
 posted_hand x o h w m left is =
     same_hand (hand_after x o (h ++ Post w m ∷ []) w) _
-    (left_after-append x o w h (Post w m ∷ []) []
+    (fold-append (left_step x o w) [] h (Post w m ∷ [])
     ∙ (ap (λ (own : Bool). if own then drop 1 (left_of x o w h) else left_of x o w h) (eq-eqb w w refl) ∙ ap (λ (l : List Sent). drop 1 l) is))
-    (in_hand-append w h (Post w m ∷ []) false ∙ ap (λ (own : Bool). if own then not (ends_block m.order) else is_busy w h) (eq-eqb w w refl))
+    (fold-append (busy_step w) false h (Post w m ∷ []) ∙ ap (λ (own : Bool). if own then not (ends_block m.order) else is_busy w h) (eq-eqb w w refl))
 
 -- a worker with a job in hand has something left to post
 pub next_of_block : {Q : Type 0} (h : Heads) (t : ThreadId) (left : List Sent) → IsBlock h t left → ((m : Sent) (rest : List Sent) → left ≡ m ∷ rest → Q) → Q
@@ -199,13 +201,13 @@ other_hands x o h (Client c sent) w is v other = absurd is
 other_hands x o h (Pick u t) w is v other =
     let else_ : v == u ≡ false = apart v u (λ same. other (same ∙ is)) in
     same_hand (hand_after x o h v) (hand_after x o (h ++ Pick u t ∷ []) v)
-    (sym (left_after-append x o v h (Pick u t ∷ []) [] ∙ ap (λ (own : Bool). if own then async x t o.limits.block else left_of x o v h) else_))
-    (sym (in_hand-append v h (Pick u t ∷ []) false ∙ ap (λ (own : Bool). own || is_busy v h) else_))
+    (sym (fold-append (left_step x o v) [] h (Pick u t ∷ []) ∙ ap (λ (own : Bool). if own then async x t o.limits.block else left_of x o v h) else_))
+    (sym (fold-append (busy_step v) false h (Pick u t ∷ []) ∙ ap (λ (own : Bool). own || is_busy v h) else_))
 other_hands x o h (Post u m) w is v other =
     let else_ : v == u ≡ false = apart v u (λ same. other (same ∙ is)) in
     same_hand (hand_after x o h v) (hand_after x o (h ++ Post u m ∷ []) v)
-    (sym (left_after-append x o v h (Post u m ∷ []) [] ∙ ap (λ (own : Bool). if own then drop 1 (left_of x o v h) else left_of x o v h) else_))
-    (sym (in_hand-append v h (Post u m ∷ []) false ∙ ap (λ (own : Bool). if own then not (ends_block m.order) else is_busy v h) else_))
+    (sym (fold-append (left_step x o v) [] h (Post u m ∷ []) ∙ ap (λ (own : Bool). if own then drop 1 (left_of x o v h) else left_of x o v h) else_))
+    (sym (fold-append (busy_step v) false h (Post u m ∷ []) ∙ ap (λ (own : Bool). if own then not (ends_block m.order) else is_busy v h) else_))
 
 -- ---- schedulers and clients
 
@@ -216,11 +218,11 @@ work_stands x o h (Client c sent) is j = absurd is
 work_stands x o h (Pick u t) is j =
     same_stand_by x o h (h ++ Pick u t ∷ []) j
     (log-append (scheduler j) h (Pick u t ∷ []) ∙ append-nil _)
-    (in_instant-append (scheduler j) h (Pick u t ∷ []) false)
+    (fold-append (instant_step (scheduler j)) false h (Pick u t ∷ []))
 work_stands x o h (Post u m) is j =
     same_stand_by x o h (h ++ Post u m ∷ []) j
     (log-append (scheduler j) h (Post u m ∷ []) ∙ append-nil _)
-    (in_instant-append (scheduler j) h (Post u m ∷ []) false)
+    (fold-append (instant_step (scheduler j)) false h (Post u m ∷ []))
 
 pub work_clients : (x : Prog) (h : List Entry) (e : Entry) → IsWork e → SameClients x h (h ++ e ∷ [])
 work_clients x h (Take s batch) is = absurd is
@@ -228,13 +230,13 @@ work_clients x h (Give s sent) is = absurd is
 work_clients x h (Client c sent) is = absurd is
 work_clients x h (Pick u t) is = record {
   gave = λ k. gave_more k h (Pick u t) ∙ ap length (append-nil (of (actor.Client k) h));
-  creates = λ k. creates_after-append k h (Pick u t ∷ []) 0;
-  unsent = λ k. unsent_after-append k h (Pick u t ∷ []) _;
+  creates = λ k. fold-append (creates_step k) 0 h (Pick u t ∷ []);
+  unsent = λ k. fold-append (unsent_step k) _ h (Pick u t ∷ []);
 }
 work_clients x h (Post u m) is = record {
   gave = λ k. gave_more k h (Post u m) ∙ ap length (append-nil (of (actor.Client k) h));
-  creates = λ k. creates_after-append k h (Post u m ∷ []) 0;
-  unsent = λ k. unsent_after-append k h (Post u m ∷ []) _;
+  creates = λ k. fold-append (creates_step k) 0 h (Post u m ∷ []);
+  unsent = λ k. fold-append (unsent_step k) _ h (Post u m ∷ []);
 }
 
 -- ---- the run after a choice of a worker

@@ -4,6 +4,7 @@ use Rattle.std.specs.List.{range_with_len}
 use Rattle.loft_base.specs.declared.ids.SchedId.{SchedId}
 use Rattle.loft_tree.specs.declared.limits.TheConstants.{MAX_SCHEDULERS, MAX_CLIENTS}
 use Rattle.loft_tree.specs.Fits.{Each}
+use Rattle.loft_tree.specs.NamedFits.{IsScheduler}
 use Rattle.loft_sense.specs.declared.entry.Entry.{Entry}
 use Rattle.loft_sense.specs.declared.entry.Actor.TheVariants as actor
 use Rattle.loft_sense.specs.declared.limits.RunOptions.{RunOptions}
@@ -17,7 +18,8 @@ use Rattle.loft_sense.specs.Async.{async}
 use Rattle.loft_sense.specs.Clients.{orders_from, orders_or_none, outside_of}
 use Rattle.loft_sense.specs.History.{Choice, choice_of, hist, entry_of, waiting, jobs, is_open, left_of, is_busy, creates, unsent, replayed}
 use Rattle.loft_sense.specs.Legal.{of, FitsOne}
-use Rattle.loft_world.specs.State.{State, scheduler}
+use Rattle.loft_sense.specs.Heads.{scheduler}
+use Rattle.loft_world.specs.State.{State}
 use Rattle.loft_world.specs.Replay.{stand_of}
 use Rattle.loft_sends.specs.Blocks.{IsBlock}
 use Rattle.loft_turns.specs.Blocks.{IsHand}
@@ -92,10 +94,10 @@ pub record IsRun (x : Prog) (o : RunOptions) (c : Course) : Type 0 where
 abbrev pub HasWorkers : RunOptions → Type 0
 HasWorkers o = (1 ≤ o.workers) × (o.workers ≤ MAX_WORKERS)
 
--- what runs so far ask of a program: whatever has happened, what waits for a scheduler fits there, and the block of each thread
+-- what runs so far ask of a program: whatever has happened, what waits for each scheduler fits there, and the block of each thread
 -- that waits for a worker comes to its end; and what a client of the source gives fits the one scheduler to which it goes
 pub record CanRun (x : Prog) (o : RunOptions) : Type 0 where
-  pub waiting : (choices : List Choice) (es : List Entry) → hist x o choices ≡ Ok es → (s : SchedId) → All (Fits x s) (waiting (heads_of x) s es)
+  pub waiting : (choices : List Choice) (es : List Entry) → hist x o choices ≡ Ok es → (s : SchedId) → IsScheduler (heads_of x) s → All (Fits x s) (waiting (heads_of x) s es)
   pub blocks : (choices : List Choice) (es : List Entry) → hist x o choices ≡ Ok es → All (λ t. IsBlock (heads_of x) t.id (async x t o.limits.block)) (jobs es)
   pub clients : (c : ℕ) → Each (λ m. FitsOne x m.to m.order) (outside_of (heads_of x) c)
   pub few_schedulers : length (heads_of x).schedulers ≤ MAX_SCHEDULERS

@@ -6,7 +6,7 @@ use Rattle.loft_sense.specs.declared.entry.Entry.{Entry}
 use Rattle.loft_sense.specs.declared.limits.RunOptions.{RunOptions}
 use Rattle.loft_sense.specs.Machine.{Prog, heads}
 use Rattle.loft_sense.specs.History.{Choice, TakeBy, PickBy, ClientBy, is_open, jobs, left_of, unsent, replayed, entry_of, HasEnded}
-use Rattle.loft_world.specs.State.{scheduler}
+use Rattle.loft_sense.specs.Heads.{scheduler}
 
 -- the instants that the scheduler of this index may still make
 abbrev pub instants_left : Prog → RunOptions → List Entry → ℕ → ℕ

@@ -7,7 +7,9 @@ ghost use Rattle.loft_sense.specs.Machine.{empty, heads as heads_of};
 ghost use Rattle.loft_sense.specs.History.{TakeBy, GiveBy, has_turn, waiting};
 ghost use Rattle.loft_sense.specs.declared.entry.Entry.TheVariants as entry;
 ghost use Rattle.loft_sense.specs.Rest.{is_spent};
-ghost use Rattle.loft_world.specs.State.{IsScheduler, scheduler, with_entry};
+ghost use Rattle.loft_sense.specs.Heads.{scheduler};
+ghost use Rattle.loft_tree.specs.NamedFits.{IsScheduler};
+ghost use Rattle.loft_world.specs.State.{with_entry};
 ghost use Rattle.loft_world.specs.Replay.{stand_of};
 ghost use Rattle.loft_turns.specs.Course.{Moves, stand_after, between, IsLast};
 

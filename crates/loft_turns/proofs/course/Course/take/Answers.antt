@@ -21,6 +21,14 @@ take-requires-clause-declared g c =
     let there : c.args.s.0 < length c.self.inside.stations.items = subst (λ (n : ℕ). c.args.s.0 < n) (c.len.ensures ∙ c.self.inside.stations.ok.0) c.if-at-len.false in
     subst (λ (n : ℕ). c.args.s.0 < n) (so_many x o _ run ∙ ap (λ (h : Heads). length h.schedulers) (sym run.heads)) there
 
+pub take-requires-clause-fits : goal.take-requires-clause-fits
+take-requires-clause-fits g c =
+    let x = g.X.Setting.program in
+    let o = g.X.Setting.options in
+    let run : IsRun x o (record { world = c.self.inside.world; stations = c.self.inside.stations.items; workers = c.self.inside.workers.items; given = c.self.inside.given.items }) = subst (IsRun x o) (sym c.self.view_is) c.requires.run in
+    let there : c.args.s.0 < length c.self.inside.stations.items = subst (λ (n : ℕ). c.args.s.0 < n) (c.len.ensures ∙ c.self.inside.stations.ok.0) c.if-at-len.false in
+    c.requires.can.waiting _ _ run.made c.args.s (subst (λ (n : ℕ). c.args.s.0 < n) (so_many x o _ run) there)
+
 pub take-requires-clause-stands : goal.take-requires-clause-stands
 take-requires-clause-stands g c =
     let x = g.X.Setting.program in
