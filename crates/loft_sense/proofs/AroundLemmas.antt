@@ -1,8 +1,8 @@
 -- What a run of a thread leaves around it follows on what it found.
-use Rattle.std.proofs.Common.{◌≡◌, ℕ, zero, suc, ◌+◌, ◌≤◌, Bool, true, false, List, [], ◌∷◌, ◌++◌, Option, Some, None, length, map, refl, sym, subst, ap, ◌∙◌, arith, append_assoc, zero-add}
+use Rattle.std.proofs.Common.{◌≡◌, ℕ, zero, suc, ◌+◌, ◌≤◌, Bool, true, false, List, [], ◌∷◌, ◌++◌, Option, Some, None, length, map, refl, sym, subst, ap, ◌∙◌, arith, zero-add}
 use Rattle.std.specs.Prelude.{ℤ, pos, int_le, ◌<ℤ◌, if◌then◌else◌, nat_lt, slice_set}
 use Rattle.std.specs.List.{count_by}
-use Rattle.std.proofs.lemmas.List.Sums.{sum_by-append, fold-append}
+use Rattle.std.proofs.lemmas.List.Sums.{sum_by-append}
 use Rattle.std.proofs.lemmas.List.{append-nil, length-set, length-replicate}
 use Rattle.std.proofs.lemmas.Grind.{common_steps}
 use Rattle.loft_base.specs.declared.ids.EventId.{EventId}
@@ -10,8 +10,7 @@ use Rattle.loft_base.specs.declared.ids.ModuleId.{ModuleId}
 use Rattle.loft_base.specs.declared.ids.SchedId.{SchedId}
 use Rattle.loft_base.specs.declared.ids.ThreadId.{ThreadId}
 use Rattle.loft_base.specs.declared.ids.Value.{Value}
-use Rattle.loft_board.specs.Board.{Board, values as event_values, generate, generate_all}
-use Rattle.loft_board.proofs.BoardLemmas.{stays, prefix}
+use Rattle.loft_board.specs.Board.{values as event_values, generate, generate_all}
 use Rattle.loft_tree.specs.declared.heads.Heads.{Heads}
 use Rattle.loft_tree.specs.declared.heads.Place.{Place}
 use Rattle.loft_tree.specs.declared.heads.Place.TheVariants.{Sched}
@@ -33,7 +32,7 @@ use Rattle.loft_sense.specs.Around.{Around, Beside, done, entered}
 use Rattle.loft_sense.specs.Eval.{eval, eval_all, eval_if, number_of, number_if, thread_or}
 use Rattle.loft_sense.specs.CanGo.{has_any, is_index, is_known}
 use Rattle.loft_sense.specs.Statements.{Effect, GoesOn, Waits, Leaves, Dies, Now, if_value, goes_on, most_entries, ok, one_made, is_up, hold, set_if, with_code, target_of, did, begun, answered}
-use Rattle.loft_sense.specs.Runs.{is_entry, generated_in, ended_in, Tells, KeepsEvents, instant_walk}
+use Rattle.loft_sense.specs.Runs.{is_entry, generated_in, ended_in, Tells, instant_walk}
 use Rattle.loft_sense.specs.Codes.{IsPending}
 use Rattle.loft_sense.specs.Run.{Next, Finish, Stuck, Acts, Passes, Tests, Counts, Holds, Runs, Control, Active, Outcome, Held, Left, Ended, ends, live, effect_on, test_on, count_on, run_on, begun_frame, stopped, step, step_on, no_step, going, go_on, go, here, beside, actives_of}
 use Rattle.loft_sense.specs.Tree.{tree}
@@ -41,6 +40,7 @@ use Rattle.loft_sense.specs.Code.{code}
 use Rattle.loft_sense.specs.Passes.{Runner, run_of, around_after, pass, passes}
 use Rattle.loft_sense.specs.Moments.{Moment, IsKeptByRuns}
 use Rattle.loft_sense.proofs.MomentLemmas.{kept_by_pass, kept_by_passes}
+use Rattle.loft_sense.proofs.TellLemmas.{told_twice, told_nothing, IsQuiet, told_quiet}
 use Rattle.loft_sense.specs.Apply.{Applied, is_linked, apply_order, apply_orders, unapplied, apply}
 use Rattle.loft_sense.specs.Instant.{runner_of, around_of, instant}
 
@@ -55,54 +55,6 @@ pub record Follows (a b : Around) : Type 0 where
   pub tells : Tells a b
 
 -- ---- one thing at a time
-
-pub same_board : (board : Board) → KeepsEvents board board
-same_board board = record { present = λ e h. h; values = λ e. ([], sym (append-nil _)) }
-
-pub generated_board : (event : EventId) (v : Option ℤ) (board : Board) → KeepsEvents board (generate event v board)
-generated_board event v board = record { present = λ e h. stays ((event, v) ∷ []) e board h; values = λ e. prefix ((event, v) ∷ []) e board }
-
--- what tells of a later moment keeps the events of the one before it
-pub told_board : (a b : Around) → Tells a b → KeepsEvents a.board b.board
-told_board a b p = subst (KeepsEvents a.board) (sym p.board) (record {
-  present = λ e h. stays (generated_in p.more) e a.board h;
-  values = λ e. prefix (generated_in p.more) e a.board;
-})
-
-generated_in-append : (xs ys : List Act) → generated_in (xs ++ ys) ≡ generated_in xs ++ generated_in ys
-generated_in-append [] ys = refl
-generated_in-append (act.Print t line ∷ xs) ys = generated_in-append xs ys
-generated_in-append (act.Gen t event v ∷ xs) ys = ap (λ (l : List (EventId × Option ℤ)). (event, v) ∷ l) (generated_in-append xs ys)
-generated_in-append (act.Out t sent ∷ xs) ys = generated_in-append xs ys
-generated_in-append (act.End t end ∷ xs) ys = generated_in-append xs ys
-
-ended_in-append : (xs ys : List Act) → ended_in (xs ++ ys) ≡ ended_in xs ++ ended_in ys
-ended_in-append [] ys = refl
-ended_in-append (act.Print t line ∷ xs) ys = ended_in-append xs ys
-ended_in-append (act.Gen t event v ∷ xs) ys = ended_in-append xs ys
-ended_in-append (act.Out t sent ∷ xs) ys = ended_in-append xs ys
-ended_in-append (act.End t end ∷ xs) ys = ap (λ (l : List ThreadId). t ∷ l) (ended_in-append xs ys)
-
--- more is told in two parts
-told_board_twice : (xs ys : List Act) (a b c : Board) → b ≡ generate_all (generated_in xs) a → c ≡ generate_all (generated_in ys) b → c ≡ generate_all (generated_in (xs ++ ys)) a
-told_board_twice xs ys a b c p q =
-    q ∙ (ap (generate_all (generated_in ys)) p
-    ∙ (sym (fold-append _ a (generated_in xs) (generated_in ys)) ∙ ap (λ (l : List (EventId × Option ℤ)). generate_all l a) (sym (generated_in-append xs ys))))
-
-one_after : {A : Type 0} (xs ys a b c : List A) → b ≡ a ++ xs → c ≡ b ++ ys → c ≡ a ++ (xs ++ ys)
-one_after xs ys a b c p q = q ∙ (ap (λ (l : List _). l ++ ys) p ∙ append_assoc a xs ys)
-
-told_twice : (a b c : Around) → Tells a b → Tells b c → Tells a c
-told_twice a b c p q = record {
-  more = p.more ++ q.more;
-  acts = one_after p.more q.more a.acts b.acts c.acts p.acts q.acts;
-  board = told_board_twice p.more q.more a.board b.board c.board p.board q.board;
-  known = one_after (ended_in p.more) (ended_in q.more) a.known b.known c.known p.known q.known ∙ ap (λ (l : List ThreadId). a.known ++ l) (sym (ended_in-append p.more q.more));
-}
-
--- nothing was done
-told_nothing : (a : Around) → Tells a a
-told_nothing a = record { more = []; acts = sym (append-nil _); board = refl; known = sym (append-nil _) }
 
 pub same : (a : Around) → Follows a a
 same a = record { place = refl; events = refl; shared = refl; few = λ h. h; made = omega arith; acts = refl; tells = told_nothing a }
@@ -151,12 +103,6 @@ HasRoom a = nat_lt a.entries (most_entries a.place) ≡ true
 one_entry : (n most : ℕ) → nat_lt n most ≡ true → n + 1 ≤ most
 one_entry n most room = grind (arith, common_steps)
 
--- an entry that generates no event
-record IsQuiet (one : Act) : Type 0 where
-  pub entry : is_entry one ≡ true
-  pub no_event : generated_in (one ∷ []) ≡ []
-  pub no_end : ended_in (one ∷ []) ≡ []
-
 few_more : (a : Around) → HasRoom a → a.entries + 1 ≤ most_entries a.place
 few_more a room = one_entry a.entries (most_entries a.place) room
 
@@ -164,14 +110,6 @@ acts_more : (a : Around) (one : Act) → is_entry one ≡ true → count_by is_e
 acts_more a one is =
     let acts = count_more a.acts one ∙ ap (λ (b : Bool). count_by is_entry a.acts + (if b then 1 else 0)) is in
     omega (arith, acts)
-
-told_quiet : (a b : Around) (one : Act) → IsQuiet one → b.acts ≡ a.acts ++ one ∷ [] → b.board ≡ a.board → b.known ≡ a.known → Tells a b
-told_quiet a b one q acts board known = record {
-  more = one ∷ [];
-  acts = acts;
-  board = board ∙ ap (λ (l : List (EventId × Option ℤ)). generate_all l a.board) (sym q.no_event);
-  known = known ∙ (sym (append-nil _) ∙ ap (λ (l : List ThreadId). a.known ++ l) (sym q.no_end));
-}
 
 entry : (a : Around) (one : Act) → IsQuiet one → HasRoom a → Follows a (entered one a)
 entry a one q room =

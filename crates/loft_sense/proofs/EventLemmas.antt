@@ -23,7 +23,7 @@ use Rattle.loft_sense.specs.Passes.{Runner, is_ready}
 use Rattle.loft_sense.specs.Apply.{Applied, is_linked, apply_order, apply}
 use Rattle.loft_sense.specs.Instant.{runner_of, around_of, closed_wait, closed, stays, instant}
 use Rattle.loft_sense.specs.Runs.{KeepsEvents, events_in, instant_walk}
-use Rattle.loft_sense.proofs.AroundLemmas.{same_board, generated_board}
+use Rattle.loft_sense.proofs.TellLemmas.{same_board, generated_board}
 use Rattle.loft_sense.proofs.PassLemmas.{nobody_is_ready}
 
 chosen_stays : (board : Board) (b : Bool) (v w : Applied) → KeepsEvents board v.board → KeepsEvents board w.board → KeepsEvents board (if b then v else w).board

@@ -1,5 +1,6 @@
 pub mod StepLemmas
 pub mod MomentLemmas
+pub mod TellLemmas
 pub mod AroundLemmas
 pub mod PassLemmas
 pub mod RunnerLemmas

@@ -1,4 +1,5 @@
-use Rattle.loft_sense.proofs.AroundLemmas.{told_board, run_follows, pass_follows, passes_follow}
+use Rattle.loft_sense.proofs.AroundLemmas.{run_follows, pass_follows, passes_follow}
+use Rattle.loft_sense.proofs.TellLemmas.{told_board}
 use Rattle.loft_sense.proofs.EventLemmas.{order_stays}
 use Rattle.loft_sense.proofs.run_laws.events_stay_present_in_an_instant.Goals as goal
 
