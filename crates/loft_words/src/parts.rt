@@ -77,21 +77,19 @@ impl<'a> Parts<'a> {
     fn with_option(self, name: &str, value: &'a str) -> Option<Self>
         ensures { option_map parts_of result ≡ with_argument (Given name.now value.now) (parts_of self.entry) }
     {
-        if name == "--instants" {
-            let instants = Some(first_value(self.instants, value)?);
-            Some(Parts { instants, ..self })
+        let mut parts = self;
+        let before = if name == "--instants" {
+            parts.instants.replace(value)
         } else if name == "--budget" {
-            let budget = Some(first_value(self.budget, value)?);
-            Some(Parts { budget, ..self })
+            parts.budget.replace(value)
         } else if name == "--block" {
-            let block = Some(first_value(self.block, value)?);
-            Some(Parts { block, ..self })
+            parts.block.replace(value)
         } else if name == "--workers" {
-            let workers = Some(first_value(self.workers, value)?);
-            Some(Parts { workers, ..self })
+            parts.workers.replace(value)
         } else {
-            None
-        }
+            return None;
+        };
+        if before.is_none() { Some(parts) } else { None }
     }
 
     /// With one more argument.
