@@ -3,13 +3,13 @@
 ghost use Rattle.std.specs.Prelude.{◌≡◌, ◌++◌, [], ◌∷◌, map};
 ghost use Rattle.std.specs.Option.{option_to_list, option_map};
 ghost use Rattle.loft_base.specs.Writing.{WritesTo};
-ghost use Rattle.loft_history.specs.History.{ClientBy, choice_of, log};
+ghost use Rattle.loft_history.specs.History.{choice_of, log};
 ghost use Rattle.loft_sense.specs.Lines.{text_of};
 ghost use Rattle.loft_history.specs.Report.{choice_line};
 
-use super::lines::make_client_line;
 use super::{ReportWriter, write_line};
 use loft_base::{SchedId, Sink, WriteError};
+use loft_choices::make_choice_line;
 use loft_sense::{Entry, Order};
 use loft_text::LineBuffer;
 use loft_world::World;
@@ -51,26 +51,7 @@ impl ReportWriter<'_> {
         ensures { WritesTo S.written S.faults sink.old sink.new result
             (choice_line self.now.heads.now (choice_of entry.now) ++ 10 ∷ []) }
     {
-        match entry {
-            Entry::Take { s, .. } => self.write_scheduler("take ", *s, line, sink),
-            Entry::Give { s, .. } => self.write_scheduler("give ", *s, line, sink),
-            Entry::Pick { w, .. } => self.write_number("pick ", u64::from(*w), line, sink),
-            Entry::Post { w, .. } => self.write_number("post ", u64::from(*w), line, sink),
-            Entry::Client { c, .. } => self.write_client(*c, line, sink),
-        }
-    }
-
-    /// Writes the choice of a client.
-    fn write_client<S: Sink>(
-        &self,
-        c: u32,
-        line: &mut LineBuffer,
-        sink: &mut S,
-    ) -> Result<(), WriteError>
-        ensures { WritesTo S.written S.faults sink.old sink.new result
-            (choice_line self.now.heads.now (ClientBy c) ++ 10 ∷ []) }
-    {
-        make_client_line(line, self.heads, c);
+        make_choice_line(line, self.heads, entry);
         write_line(line, sink)
     }
 }

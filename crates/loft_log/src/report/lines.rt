@@ -5,7 +5,7 @@ ghost use Rattle.std.specs.Prelude.{◌++◌, ℕ, List, codes};
 ghost use Rattle.std.specs.Fmt.{decimal, signed_decimal};
 ghost use Rattle.loft_tree.specs.declared.heads.Heads.{Heads};
 ghost use Rattle.loft_text.specs.Buffer.{Adds, Holds};
-ghost use Rattle.loft_sense.specs.Text.{space, client_name, scheduler_name, event_name, sent_value, id_text, order_text};
+ghost use Rattle.loft_sense.specs.Text.{space, scheduler_name, event_name, sent_value, id_text, order_text};
 ghost use Rattle.loft_sense.specs.Lines.{end_line, mark_word, to_text, act_line, at_line, shared_line};
 ghost use Rattle.loft_history.specs.Report.{left_line, standing_line};
 
@@ -14,8 +14,7 @@ use super::thread_text::push_thread;
 use loft_base::{EventId, SchedId, ThreadId};
 use loft_sense::{Act, Change, End, Mark, Order, Sent, Standing, Thread, To};
 use loft_text::{
-    LineBuffer, push_client_name, push_end, push_event_name, push_id, push_scheduler_name,
-    push_shared_name,
+    LineBuffer, push_end, push_event_name, push_id, push_scheduler_name, push_shared_name,
 };
 use loft_tree::Heads;
 
@@ -53,15 +52,6 @@ pub fn make_scheduler_line(line: &mut LineBuffer, heads: &Heads, word: &str, s: 
     line.clear();
     line.text(word);
     push_scheduler_name(line, heads, s);
-}
-
-/// Makes the line of a client's choice.
-pub fn make_client_line(line: &mut LineBuffer, heads: &Heads, c: u32)
-    ensures { Holds line.new (codes "client " ++ client_name heads.now c) }
-{
-    line.clear();
-    line.text("client ");
-    push_client_name(line, heads, c);
 }
 
 /// Makes the line of an end.

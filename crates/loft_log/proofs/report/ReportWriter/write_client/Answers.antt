@@ -1,4 +1,0 @@
-use Rattle.loft_log.proofs.report.ReportWriter.write_client.Goals as goal
-
-pub returns : goal.returns
-returns g c = c.write_line.ensures _ c.make_client_line.ensures
