@@ -3,18 +3,20 @@ use Rattle.std.proofs.Common.{◌≡◌, ℕ, ◌+◌, ◌<◌, ◌≤◌, List,
 use Rattle.std.specs.Option.{option_map}
 use Rattle.std.proofs.lemmas.List.{length-map}
 use Rattle.loft_lex.specs.declared.TheConstants.{MAX_TEXT_LEN}
+use Rattle.loft_tree.specs.Source as src
 use Rattle.loft_tree.specs.Source.{Declaration, Named, Scheduler, Event, Shared, Module, Start, Outside, Source}
-use Rattle.loft_tree.specs.View.{head_of, named_of}
-use Rattle.loft_tree.specs.declared.limits.TheConstants.{MAX_LOCALS}
+use Rattle.loft_tree.specs.View.{head_of, named_of, order_of}
+use Rattle.loft_tree.specs.declared.limits.TheConstants.{MAX_LOCALS, MAX_ORDERS}
 use Rattle.loft_code.specs.declared.limits.TheConstants.{MAX_OPERATIONS}
 use Rattle.loft_rows.specs.declared.row.Row.{Row}
-use Rattle.loft_rows.specs.Rows.{ListingLine, Item, Local, line_text, bare_line}
+use Rattle.loft_rows.specs.Rows.{ListingLine, Item, Local, Order, line_text, bare_line}
 use Rattle.loft_rows.specs.RowsFit.{IsLine}
 use Rattle.loft_rows.specs.RowView.{row_of}
 use Rattle.loft_rows.specs.Feeds.{EndsAtItsFeed}
 use Rattle.loft_rows.proofs.Feeds.{line_ends_at_feed}
 use Rattle.loft_draft.specs.declared.closed.Closed.{Closed}
 use Rattle.loft_draft.specs.declared.sofar.Open.TheVariants as begun
+use Rattle.loft_draft.specs.declared.sofar.OpenClient.{OpenClient}
 use Rattle.loft_draft.specs.declared.sofar.OpenModule.{OpenModule}
 use Rattle.loft_draft.specs.declared.sofar.SoFar.{SoFar as SoFarInMemory}
 use Rattle.loft_draft.specs.declared.take.Taken.{Taken}
@@ -22,7 +24,7 @@ use Rattle.loft_draft.specs.declared.take.Taken.TheVariants as taken
 use Rattle.loft_draft.specs.Drafts.{Draft, DraftOperation, source_of, operation_lines, lines_text}
 use Rattle.loft_draft.specs.Held.{AreCounts, HoldsClosed, MayClose, Holds, Takes, StandsAt, GoesOn}
 use Rattle.loft_draft.specs.Lined.{lined_declaration}
-use Rattle.loft_draft.specs.Taking.{Begun, InModule, SoFar, HasRoom, MayFollow, MayStand, going_on, with_line, lined_line, simple_item}
+use Rattle.loft_draft.specs.Taking.{Begun, InModule, InClient, SoFar, HasRoom, MayFollow, MayStand, going_on, with_line, lined_line, simple_item}
 use Rattle.loft_draft.proofs.Offsets.{line_at_fits, line_at_text, line_twice, same_lined}
 use Rattle.loft_draft.proofs.Parts.{line_of, operations_end}
 use Rattle.loft_draft.proofs.Following.{lines_text_end}
@@ -94,6 +96,24 @@ local_goes m o n rest after v first few head locals number from s holds =
     let begins : n.from.now ≡ lines_text (operation_lines 0 os) ++ after = from ∙ ap (λ xs. lines_text (operation_lines 0 xs) ++ after) (sym (no_operations os none)) in (
       subst P (sym is) (none, less),
       subst Q (sym is) (record { done = holds.done; room = subst (MayClose (source_of s.done)) is holds.room; begun = (os, same, number ∙ sym none, begins) }),
+    )
+
+-- ---- orders
+
+abbrev pub with_client : Closed → OpenClient → SoFarInMemory
+with_client m o = record { done = m; begun = begun.Client o }
+
+pub order_goes : (m : Closed) (o n : OpenClient) (rest after : List ℕ) (x : src.Order) → length o.orders.items < MAX_ORDERS
+    → n.name ≡ o.name → map order_of n.orders.items ≡ map order_of o.orders.items ++ x ∷ []
+    → (s : SoFar) → Holds (with_client m o) rest s → MayStand s (Order x) × Holds (with_client m n) after (with_line s (Order x))
+order_goes m o n rest after x few name orders s holds =
+    let P : Begun → Type 0 = λ b. MayFollow (source_of s.done) b (Order x) in
+    let Q : Begun → Type 0 = λ b. Holds (with_client m n) after (going_on s.done b (Order x)) in
+    let is = holds.begun in
+    let less : length (map order_of o.orders.items) < MAX_ORDERS = omega (arith, few, length-map o.orders.items order_of) in
+    let same : InClient o.name (map order_of o.orders.items ++ x ∷ []) ≡ InClient n.name (map order_of n.orders.items) = cc in (
+      subst P (sym is) less,
+      subst Q (sym is) (record { done = holds.done; room = subst (MayClose (source_of s.done)) is holds.room; begun = same }),
     )
 
 -- ---- operations

@@ -1,15 +1,15 @@
 //! Operations of statements.
 
-ghost use Rattle.std.specs.Prelude.{◌≡◌, map, IfOk};
+ghost use Rattle.std.specs.Prelude.{◌≡◌, map, true, IfOk};
 ghost use Rattle.loft_tree.specs.NamedView.{creation_of, event_use_of, statement_of, value_of};
-ghost use Rattle.loft_tree.specs.Resolved.{exps_of, exp_if, events_of, step_of, Make, Await};
+ghost use Rattle.loft_tree.specs.Resolved.{exps_of, exp_if, events_of, step_of, Make, PrintText, Await};
 ghost use Rattle.loft_code.specs.View.{target_in, operation_of as operation_in};
 ghost use Rattle.loft_code.specs.Operations.{Do, Hold};
 ghost use Rattle.loft_reading.specs.Numbered.{operation_of};
 
-use loft_base::{EventId, NoMemory};
+use loft_base::{EventId, NoMemory, Room};
 use loft_code::{Action, Op, Pause, SharedText};
-use loft_tree::{EventUse, NamedCreation, NamedExpr, NamedStmt, Target};
+use loft_tree::{EventUse, NamedCreation, NamedExpr, NamedStmt, Target, Text};
 use std::alloc::Global;
 
 /// Makes a thread, and sets the variable to it, if there is one.
@@ -25,43 +25,55 @@ fn make(target: Option<Target>, creation: NamedCreation) -> Op
     })
 }
 
-/// The events that are named.
-fn events(alloc: Global, named: &[EventUse]) -> Result<Vec<EventId>, NoMemory>
-    ensures { IfOk result (λ events. events.items ≡ events_of (map event_use_of named.now)) }
+/// Prints a text.
+fn print_text(room: &mut Room, text: &Text, value: Option<NamedExpr>) -> Op
+    ensures before { room.new.is_whole ≡ true → room.old.is_whole ≡ true }
+    ensures operation { room.new.is_whole ≡ true → operation_in result
+        ≡ Do (PrintText text.now (exp_if (value_of value))) }
 {
-    let mut events = Vec::with_capacity(alloc, named.len())?;
-    for event in named {
-        events.push(event.event)?;
+    match SharedText::from_slice(room.alloc, text.bytes()) {
+        Ok(text) => Op::Do(Action::PrintText { text, value }),
+        Err(_) => {
+            room.is_whole = false;
+            Op::End
+        }
     }
-    Ok(events)
+}
+
+/// The events that are named.
+fn events(room: &mut Room, named: &[EventUse]) -> Vec<EventId>
+    ensures before { room.new.is_whole ≡ true → room.old.is_whole ≡ true }
+    ensures events { room.new.is_whole ≡ true → result.items
+        ≡ events_of (map event_use_of named.now) }
+{
+    let mut events = Vec::new(room.alloc);
+    for event in named {
+        room.push_to(&mut events, event.event);
+    }
+    events
 }
 
 /// A wait for one of these events.
-fn wait(
-    alloc: Global,
-    stop: u64,
-    named: &[EventUse],
-    limit: Option<NamedExpr>,
-) -> Result<Op, NoMemory>
-    ensures { IfOk result (λ op. operation_in op
-        ≡ Hold stop (Await (events_of (map event_use_of named.now)) (exp_if (value_of limit)))) }
+fn wait(room: &mut Room, stop: u64, named: &[EventUse], limit: Option<NamedExpr>) -> Op
+    ensures before { room.new.is_whole ≡ true → room.old.is_whole ≡ true }
+    ensures operation { room.new.is_whole ≡ true → operation_in result
+        ≡ Hold stop (Await (events_of (map event_use_of named.now)) (exp_if (value_of limit))) }
 {
-    let events = events(alloc, named)?;
-    Ok(Op::Hold {
+    let events = events(room, named);
+    Op::Hold {
         stop,
         pause: Pause::Await { events, limit },
-    })
+    }
 }
 
-/// The operation that a statement is, with this number if it is a stop (docs/CODE.md, "Listings that
-/// are read").
-///
-/// No operation is a statement with bodies.
+/// The operation that a statement is, with this number if it is a stop.
 #[tactic(auto, using(loft_tree::proofs::NamedTrees::named_statements))]
-pub fn operation(alloc: Global, stop: u64, s: NamedStmt) -> Result<Op, NoMemory>
-    ensures { IfOk result (λ op. operation_in op ≡ operation_of stop (step_of (statement_of s))) }
+fn operation_with(room: &mut Room, stop: u64, s: NamedStmt) -> Op
+    ensures before { room.new.is_whole ≡ true → room.old.is_whole ≡ true }
+    ensures operation { room.new.is_whole ≡ true → operation_in result
+        ≡ operation_of stop (step_of (statement_of s)) }
 {
-    Ok(match s {
+    match s {
         NamedStmt::Assign { target, value } => Op::Do(Action::Assign { target, value }),
         NamedStmt::AssignCreate {
             target,
@@ -69,10 +81,7 @@ pub fn operation(alloc: Global, stop: u64, s: NamedStmt) -> Result<Op, NoMemory>
             ..
         } => make(Some(target), creation),
         NamedStmt::Create { creation, .. } => make(None, creation),
-        NamedStmt::PrintText { text, value, .. } => Op::Do(Action::PrintText {
-            text: SharedText::from_slice(alloc, text.bytes())?,
-            value,
-        }),
+        NamedStmt::PrintText { text, value, .. } => print_text(room, &text, value),
         NamedStmt::PrintValue { value, .. } => Op::Do(Action::PrintValue(value)),
         NamedStmt::Generate { event, value, .. } => Op::Do(Action::Generate {
             event: event.event,
@@ -96,8 +105,8 @@ pub fn operation(alloc: Global, stop: u64, s: NamedStmt) -> Result<Op, NoMemory>
             stop,
             pause: Pause::Cooperate { instants },
         },
-        NamedStmt::Await { event, limit, .. } => wait(alloc, stop, &[event], limit)?,
-        NamedStmt::Select { events, limit, .. } => wait(alloc, stop, events.as_slice(), limit)?,
+        NamedStmt::Await { event, limit, .. } => wait(room, stop, &[event], limit),
+        NamedStmt::Select { events, limit, .. } => wait(room, stop, events.as_slice(), limit),
         NamedStmt::Get {
             event,
             index,
@@ -136,6 +145,21 @@ pub fn operation(alloc: Global, stop: u64, s: NamedStmt) -> Result<Op, NoMemory>
             module,
             arguments,
         },
-        _with_bodies => Op::End,
-    })
+        with_bodies => {
+            drop(with_bodies);
+            Op::End
+        }
+    }
+}
+
+/// The operation that a statement is, with this number if it is a stop (docs/CODE.md, "Listings that
+/// are read").
+///
+/// No operation is a statement with bodies.
+pub fn operation(alloc: Global, stop: u64, s: NamedStmt) -> Result<Op, NoMemory>
+    ensures { IfOk result (λ op. operation_in op ≡ operation_of stop (step_of (statement_of s))) }
+{
+    let mut room = Room::new(alloc);
+    let operation = operation_with(&mut room, stop, s);
+    room.done(operation)
 }
