@@ -20,6 +20,7 @@ pub mod OrderLemmas
 pub mod InstantLemmas
 pub mod HistoryWalk
 pub mod HistoryFits
+pub mod CarryLemmas
 pub mod ThreadWalk
 pub mod ThreadLaws
 pub mod AlikeLemmas

@@ -8,12 +8,6 @@ use Rattle.loft_base.specs.declared.ids.ThreadId.{ThreadId}
 use Rattle.loft_base.specs.declared.ids.Value.{Value}
 use Rattle.loft_tree.specs.declared.heads.Place.{Place}
 use Rattle.loft_tree.specs.declared.heads.Place.TheVariants.{Sched, Unlinked}
-use Rattle.loft_base.specs.declared.ids.Maker.TheVariants.{Source}
-use Rattle.loft_tree.specs.declared.heads.Start.{Start}
-use Rattle.loft_tree.specs.declared.heads.ClientOrder.{ClientOrder}
-use Rattle.loft_tree.specs.declared.heads.ClientOrder.TheVariants as client
-use Rattle.loft_tree.specs.declared.kinds.Control.{Control}
-use Rattle.loft_tree.specs.declared.kinds.Control.TheVariants as control
 use Rattle.loft_tree.specs.Fits.{Each}
 use Rattle.loft_sense.specs.declared.entry.Entry.{Entry}
 use Rattle.loft_sense.specs.declared.entry.Entry.TheVariants.{Take, Give, Pick, Post, Client}
@@ -38,41 +32,22 @@ use Rattle.loft_sense.specs.Moments.{Moment, IsKeptByRuns}
 use Rattle.loft_sense.specs.Apply.{Applied, new_thread, is_linked, link, unlink, suspend, tell_end, apply_order, apply_orders, unapplied, apply}
 use Rattle.loft_sense.specs.Instant.{runner_of, around_of, closed_wait, closed, stays, leaver, leavers, sent_by, instant}
 use Rattle.loft_sense.specs.Async.{alone, block_sent, async}
-use Rattle.loft_history.specs.Clients.{control_of, orders_from, orders_or_none, outside_of}
+use Rattle.loft_history.specs.Clients.{orders_or_none, outside_of}
 use Rattle.loft_sense.specs.Fits.{Fits}
-use Rattle.loft_sense.specs.Heads.{same_scheduler}
-use Rattle.loft_history.specs.History.{sends, is_addressed, orders_to, starts_from, starts_of, job_before, jobs_sent}
-use Rattle.loft_history.specs.Legal.{AtEach, FitsOne, IsCallersOrder, IsCallersEntry, ComesNext}
+use Rattle.loft_history.specs.History.{sends, is_addressed, orders_to, starts_of, jobs_sent}
+use Rattle.loft_history.specs.Legal.{AtEach, IsCallersEntry, ComesNext}
 use Rattle.loft_sense.proofs.MomentLemmas.{kept_by_passes}
-use Rattle.loft_stand.specs.Points.{AroundFits, OutFits, ActFits, LeavesStanding}
+use Rattle.loft_stand.specs.Points.{AroundFits, ActFits, LeavesStanding}
 use Rattle.loft_stand.specs.Machines.{ThreadFits, MachFits, SentFits}
 use Rattle.loft_stand.specs.WellFormed.{IsWellFormed}
 use Rattle.loft_stand.specs.Threads.{Claim, Grant, Carries, CarriesTo, SentCarries, IsGranted, ActGrants, LeavesSo}
 use Rattle.loft_stand.proofs.ListLemmas.{each_append, each_of}
 use Rattle.loft_stand.proofs.StandLemmas.{run_leaves}
+use Rattle.loft_stand.proofs.CarryLemmas.{each_parted, each_both, each_first, each_second, out_so, starts_carry, clients_carry, call_carries, job_so}
 use Rattle.loft_stand.proofs.OrderLemmas.{orders_fit, starts_fit, outside_fits}
 use Rattle.loft_stand.proofs.InstantLemmas.{RunnerFits, runners_fit, around_fits, ready_fits, begin_fit, alone_fits, batch_applied, first_around, instant_fits, async_fits, empty_fits}
 use Rattle.loft_stand.proofs.HistoryWalk.{Claims, Routes, AreKept, HistoryHolds, history_holds}
 use Rattle.loft_stand.proofs.HistoryFits.{sent_stand, called_fit}
-
--- ---- lists
-
--- of each in front, of one, and of each of the rest
-each_parted : {A : Type 0} (Q : A → Type 0) (front : List A) (y : A) (rest : List A) → Each Q (front ++ y ∷ rest) → Each Q front × (Q y × Each Q rest)
-each_parted Q [] y rest f = (tt, f)
-each_parted Q (z ∷ zs) y rest f = let g = each_parted Q zs y rest f.1 in ((f.0, g.0), g.1)
-
-each_both : {A : Type 0} (P Q : A → Type 0) (xs : List A) → Each P xs → Each Q xs → Each (λ y. P y × Q y) xs
-each_both P Q [] f g = tt
-each_both P Q (y ∷ ys) f g = ((f.0, g.0), each_both P Q ys f.1 g.1)
-
-each_first : {A : Type 0} (P Q : A → Type 0) (xs : List A) → Each (λ y. P y × Q y) xs → Each P xs
-each_first P Q [] f = tt
-each_first P Q (y ∷ ys) f = (f.0.0, each_first P Q ys f.1)
-
-each_second : {A : Type 0} (P Q : A → Type 0) (xs : List A) → Each (λ y. P y × Q y) xs → Each Q xs
-each_second P Q [] f = tt
-each_second P Q (y ∷ ys) f = (f.0.1, each_second P Q ys f.1)
 
 -- ---- the claim
 
@@ -223,19 +198,6 @@ module _ (x : Prog) (well : IsWellFormed x) (P : Claim) (M N : Grant) (h : Premi
 
   -- ---- acts
 
-  -- statements send no thread
-  out_so : (to : To) (o : Order) → OutFits (heads x) to o → CarriesTo P to o
-  out_so (to.Sched s) (order.Create t m args) f = tt
-  out_so (to.Sched s) (order.Arrive t) f = absurd f
-  out_so (to.Sched s) (order.Stop t) f = tt
-  out_so (to.Sched s) (order.Suspend t) f = tt
-  out_so (to.Sched s) (order.Resume t) f = tt
-  out_so (to.Sched s) (order.Broadcast e v) f = tt
-  out_so (to.Sched s) (order.Ended t end) f = tt
-  out_so (to.Others s) o f = absurd f
-  out_so to.All o f = absurd f
-  out_so to.Workers o f = absurd f
-
   told_so : (place : Place) (t : ThreadId) (end : End) → SentSo (tell_end place t end)
   told_so (Sched s) t end = (λ q. tt, tt)
   told_so Unlinked t end = (λ q. tt, tt)
@@ -244,7 +206,7 @@ module _ (x : Prog) (well : IsWellFormed x) (P : Claim) (M N : Grant) (h : Premi
   acts_so place [] fits f = tt
   acts_so place (act.Print t line ∷ acts) fits f = acts_so place acts fits.1 f.1
   acts_so place (act.Gen t event value ∷ acts) fits f = acts_so place acts fits.1 f.1
-  acts_so place (act.Out t sent ∷ acts) fits f = ((out_so sent.to sent.order fits.0, f.0), acts_so place acts fits.1 f.1)
+  acts_so place (act.Out t sent ∷ acts) fits f = ((out_so x P sent.to sent.order fits.0, f.0), acts_so place acts fits.1 f.1)
   acts_so place (act.End t end ∷ acts) fits f = (told_so place t end, acts_so place acts fits.1 f.1)
 
   -- ---- instants and blocks
@@ -309,57 +271,9 @@ module _ (x : Prog) (well : IsWellFormed x) (P : Claim) (M N : Grant) (h : Premi
   waits_so s [] f g = tt
   waits_so s (m ∷ ms) f g = addressed_to s m.to m.order (orders_to s ms) f.0.0 (f.0.1, g.0) (waits_so s ms f.1 g.1)
 
-  job_so : (to : To) (o : Order) (ts : List Thread) → CarriesTo P to o → Each (P Unlinked) ts → Each (P Unlinked) (job_before to o ts)
-  job_so (to.Sched s) o ts f g = g
-  job_so (to.Others s) o ts f g = g
-  job_so to.All o ts f g = g
-  job_so to.Workers (order.Create t m args) ts f g = g
-  job_so to.Workers (order.Arrive t) ts f g = (f, g)
-  job_so to.Workers (order.Stop t) ts f g = g
-  job_so to.Workers (order.Suspend t) ts f g = g
-  job_so to.Workers (order.Resume t) ts f g = g
-  job_so to.Workers (order.Broadcast e v) ts f g = g
-  job_so to.Workers (order.Ended t end) ts f g = g
-
   jobs_so : (ms : List Sent) → Each SentSo ms → Each (P Unlinked) (jobs_sent ms)
   jobs_so [] f = tt
-  jobs_so (m ∷ ms) f = job_so m.to m.order (jobs_sent ms) f.0.0 (jobs_so ms f.1)
-
-  -- ---- at first
-
-  -- no start and no client of the source sends a thread
-  starts_carry : (s : SchedId) (k : ℕ) (ts : List Start) → Each (Carries P s) (starts_from s k ts)
-  starts_carry s k [] = tt
-  starts_carry s k (t ∷ ts) = start_one (same_scheduler s t.scheduler) (starts_carry s (k + 1) ts)
-    where
-      start_one : (b : Bool) → Each (Carries P s) (starts_from s (k + 1) ts)
-          → Each (Carries P s) (if b then order.Create (record { maker = Source; seq = k }) t.module t.arguments ∷ starts_from s (k + 1) ts else starts_from s (k + 1) ts)
-      start_one true f = (tt, f)
-      start_one false f = f
-
-  control_carries : (control : Control) (t : ThreadId) (s : SchedId) → Carries P s (control_of control t)
-  control_carries control.Stop t s = tt
-  control_carries control.Suspend t s = tt
-  control_carries control.Resume t s = tt
-
-  clients_carry : (c k : ℕ) (os : List ClientOrder) → Each (SentCarries P) (orders_from (heads x) c k os)
-  clients_carry c k [] = tt
-  clients_carry c k (client.Create s m args ∷ os) = (tt, clients_carry c (k + 1) os)
-  clients_carry c k (client.Control control t s ∷ os) = (control_carries control t s, clients_carry c k os)
-  clients_carry c k (client.Broadcast e v ∷ os) = (tt, clients_carry c k os)
-
-  -- nor does a caller
-  call_carries : (next : ThreadId) (to : To) (o : Order) → IsCallersOrder next o → FitsOne x to o → CarriesTo P to o
-  call_carries next (to.Sched s) (order.Create t m args) f g = tt
-  call_carries next (to.Sched s) (order.Arrive t) f g = absurd f
-  call_carries next (to.Sched s) (order.Stop t) f g = tt
-  call_carries next (to.Sched s) (order.Suspend t) f g = tt
-  call_carries next (to.Sched s) (order.Resume t) f g = tt
-  call_carries next (to.Sched s) (order.Broadcast e v) f g = tt
-  call_carries next (to.Sched s) (order.Ended t end) f g = tt
-  call_carries next (to.Others s) o f g = absurd g
-  call_carries next to.All o f g = absurd g
-  call_carries next to.Workers o f g = absurd g
+  jobs_so (m ∷ ms) f = job_so x P m.to m.order (jobs_sent ms) f.0.0 (jobs_so ms f.1)
 
   -- ---- histories
 
@@ -396,12 +310,12 @@ module _ (x : Prog) (well : IsWellFormed x) (P : Claim) (M N : Grant) (h : Premi
     starts = λ s.
         let orders = starts_of (heads x) s in
         each_both (Fits x s) (WaitsBoth s) orders (each_of (Fits x s) orders (starts_fit x well s))
-        (each_both (Carries P s) (λ q. IsGranted M q × IsGranted N q) orders (starts_carry s 0 (heads x).starts)
+        (each_both (Carries P s) (λ q. IsGranted M q × IsGranted N q) orders (starts_carry x P s 0 (heads x).starts)
         (each_both (IsGranted M) (IsGranted N) orders (h.starts s) (h.known_starts s)));
     clients = λ c.
         let sent = outside_of (heads x) c in
         each_both (SentFits x) SentSo sent (outside_fits x well c)
-        (each_both (SentCarries P) (λ m. IsGranted M m.order) sent (clients_carry c 0 (orders_or_none (slice_get (heads x).clients c))) (h.clients c));
+        (each_both (SentCarries P) (λ m. IsGranted M m.order) sent (clients_carry x P c 0 (orders_or_none (slice_get (heads x).clients c))) (h.clients c));
     routes = threads_routed;
   }
 
@@ -414,7 +328,7 @@ module _ (x : Prog) (well : IsWellFormed x) (P : Claim) (M N : Grant) (h : Premi
   call_so before (Give s sent) g call = absurd call
   call_so before (Pick w job) g call = absurd call
   call_so before (Post w sent) g call = absurd call
-  call_so before (Client c sent) g call = (((called_fit x before (Client c sent) call).0, (call_carries _ sent.to sent.order call.1.0 call.1.1, (g call).0)), tt)
+  call_so before (Client c sent) g call = (((called_fit x before (Client c sent) call).0, (call_carries x P _ sent.to sent.order call.1.0 call.1.1, (g call).0)), tt)
 
   -- what a history needs beside: callers grant, and of each entry it is known
   abbrev pub EntrySo : List Entry → Entry → Type 0
