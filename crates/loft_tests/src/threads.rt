@@ -1,8 +1,6 @@
 //! What may go to another thread and what threads may share, by asking the compiler.
 
-use loft_code::Code;
-use loft_engine::CodeEngine;
-use loft_job::Job;
+use loft_tree::Heads;
 use loft_world::World;
 
 /// Takes types whose values may go to another thread.
@@ -11,10 +9,9 @@ fn goes_to_threads<T: Send>() {}
 /// Takes types whose values threads may share.
 fn is_shared<T: Sync>() {}
 
+/// The world goes round among the threads of its actors, and these share what is declared.
 #[test]
 fn actors_may_have_threads(_rt: HostRuntime) {
     goes_to_threads::<World>();
-    goes_to_threads::<CodeEngine<'static>>();
-    goes_to_threads::<Job>();
-    is_shared::<Code>();
+    is_shared::<Heads>();
 }
