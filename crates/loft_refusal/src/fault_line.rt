@@ -1,11 +1,11 @@
 //! The line of a refusal (docs/COMMANDS.md, "Fault lines").
 
-ghost use Rattle.std.specs.Prelude.{◌≡◌, [], ◌∷◌, ◌++◌, IfOk, slice_get, string_bytes, unwrap_or};
+ghost use Rattle.std.specs.Prelude.{◌≡◌, [], ◌∷◌, ◌++◌, true, IfOk, slice_get, string_bytes, unwrap_or};
 ghost use Rattle.std.specs.Fmt.{decimal};
 ghost use Rattle.loft_refusal.specs.Refusals.{lexical_line, text_line, name_line, place_text, two_places, link_line, listing_line, operation_line, code_line, line_of};
 
 use crate::refusal::Refusal;
-use loft_base::{ModuleId, NoMemory};
+use loft_base::{ModuleId, NoMemory, Out};
 use loft_code::{CodeError, OpAt};
 use loft_lex::LexError;
 use loft_parse::ParseError;
@@ -98,6 +98,16 @@ fn place_text(schedulers: &Names, place: Place) -> &[u8]
     }
 }
 
+/// Appends words, and where a thread is linked.
+fn put_place(line: &mut Out, schedulers: &Names, words: &str, place: Place)
+    ensures before { line.new.is_whole ≡ true → line.old.is_whole ≡ true }
+    ensures text { line.new.is_whole ≡ true → line.new.text.items
+        ≡ line.old.text.items ++ (words.now ++ place_text schedulers.now place) }
+{
+    line.put(words.as_bytes());
+    line.put(place_text(schedulers, place));
+}
+
 /// A line of an offset in the text and two places of threads, each after its words, with its line feed.
 fn two_places(
     alloc: Global,
@@ -110,58 +120,53 @@ fn two_places(
     ensures { IfOk result (λ line. line.items ≡ two_places schedulers.now what.now at
         first.entry.0.now first.entry.1 second.entry.0.now second.entry.1 ++ 10 ∷ []) }
 {
-    let mut line = format!(in alloc; "{what}{at}")?.into_bytes();
-    line.extend_from_slice(first.0.as_bytes())?;
-    line.extend_from_slice(place_text(schedulers, first.1))?;
-    line.extend_from_slice(second.0.as_bytes())?;
-    line.extend_from_slice(place_text(schedulers, second.1))?;
-    line.push(b'\n')?;
-    Ok(line)
+    let mut line = Out {
+        text: format!(in alloc; "{what}{at}")?.into_bytes(),
+        is_whole: true,
+    };
+    put_place(&mut line, schedulers, first.0, first.1);
+    put_place(&mut line, schedulers, second.0, second.1);
+    line.put(b"\n");
+    line.done()
 }
 
 /// The line of a fault of links, with its line feed. `NoMemory` where it is out of memory, or the fault is that.
 fn link_line(alloc: Global, schedulers: &Names, fault: &PlaceError) -> Result<Vec<u8>, NoMemory>
     ensures { IfOk result (λ line. line.items ≡ link_line schedulers.now fault.now ++ 10 ∷ []) }
 {
-    let (what, at, first, second) = match fault {
+    match fault {
         PlaceError::NotHere { at, needs, has } => {
-            (
+            let needed = (", needs ", *needs);
+            let found = (", has ", *has);
+            two_places(
+                alloc,
+                schedulers,
                 "source: not here at ",
-                at,
-                (", needs ", *needs),
-                (", has ", *has),
+                *at,
+                needed,
+                found,
             )
         }
         PlaceError::Unlinked(at) => {
-            return Ok(format!(in alloc; "source: unlinked at {at}\n")?.into_bytes());
+            Ok(format!(in alloc; "source: unlinked at {at}\n")?.into_bytes())
         }
         PlaceError::Branches { at, left, right } => {
-            (
-                "source: branches at ",
-                at,
-                (" end at ", *left),
-                (" and ", *right),
-            )
+            let left = (" end at ", *left);
+            let right = (" and ", *right);
+            two_places(alloc, schedulers, "source: branches at ", *at, left, right)
         }
         PlaceError::LoopEnds { at, start, end } => {
-            (
-                "source: loop at ",
-                at,
-                (" begins at ", *start),
-                (", ends at ", *end),
-            )
+            let start = (" begins at ", *start);
+            let end = (", ends at ", *end);
+            two_places(alloc, schedulers, "source: loop at ", *at, start, end)
         }
         PlaceError::ModuleEnds { at, declared, end } => {
-            (
-                "source: module at ",
-                at,
-                (" declares ", *declared),
-                (", ends at ", *end),
-            )
+            let declared = (" declares ", *declared);
+            let end = (", ends at ", *end);
+            two_places(alloc, schedulers, "source: module at ", *at, declared, end)
         }
-        PlaceError::NoMemory => return Err(NoMemory),
-    };
-    two_places(alloc, schedulers, what, *at, first, second)
+        PlaceError::NoMemory => Err(NoMemory),
+    }
 }
 
 /// The line of a fault of a listing's lines, with its line feed. `NoMemory` where it is out of memory, or the fault is
@@ -191,11 +196,14 @@ fn module_name(modules: &Names, module: ModuleId) -> &[u8]
 fn operation_line(alloc: Global, modules: &Names, at: OpAt) -> Result<Vec<u8>, NoMemory>
     ensures { IfOk result (λ line. line.items ≡ operation_line modules.now at ++ 10 ∷ []) }
 {
-    let mut line = format!(in alloc; "listing: operation {}", at.op)?.into_bytes();
-    line.extend_from_slice(b" of ")?;
-    line.extend_from_slice(module_name(modules, at.module))?;
-    line.push(b'\n')?;
-    Ok(line)
+    let mut line = Out {
+        text: format!(in alloc; "listing: operation {}", at.op)?.into_bytes(),
+        is_whole: true,
+    };
+    line.put(b" of ");
+    line.put(module_name(modules, at.module));
+    line.put(b"\n");
+    line.done()
 }
 
 /// The line of an error of code, with its line feed. `NoMemory` where it is out of memory, or the error is that.
