@@ -5,7 +5,7 @@ use Rattle.loft_words.specs.CommandView.{command_of}
 use Rattle.loft_refusal.specs.declared.refusal.Stopped.{Stopped}
 use Rattle.loft_commands.specs.Doing.{Attempts}
 use Rattle.loft_commands.proofs.Doing.{does_attempts, unread_attempts, unlisted_attempts}
-use Rattle.loft_commands.proofs.doing.attempt.Goals as goal
+use Rattle.loft_commands.proofs.attempt_command.attempt.Goals as goal
 
 pub returns-in_ok-program-in-Run-clause-attempts : goal.returns-in_ok-program-in-Run-clause-attempts
 returns-in_ok-program-in-Run-clause-attempts g c =
