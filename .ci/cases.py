@@ -4,7 +4,9 @@
 A folder in cases/ has the name of its command; the sources in examples/ and docs/tutorial/ are run.
 NAME.loft is the source, NAME.loft.args has further words, one a line, where there are any, and
 NAME.loft.stdout is all that the command has to print; the status follows from the first word of
-that (docs/COMMANDS.md). A case passes where each program gives both exactly. In the folder `exec`
+that (docs/COMMANDS.md). A case passes where each program gives both exactly. NAME.loft.stdout.rule
+stands for a long answer: a line `N x TEXT` is N lines, TEXT with the numbers from 0 to N - 1 in place of
+`{}`; every other line stands for itself, and all end with a line feed. In the folder `exec`
 NAME.listing stands for NAME.loft. Each source in `run` that has a report is compiled, too, and `exec`
 of its listing has to print that report.
 
@@ -18,6 +20,7 @@ tabs. Its words are written as for a shell, and are those of a program that is r
 import concurrent.futures
 import os
 import pathlib
+import re
 import shlex
 import subprocess
 import sys
@@ -32,7 +35,8 @@ FOLLOWER = TOP / "crates/loft_follow/out/loft_follow"
 FOLLOWERS = [str(FOLLOWER), f"{FOLLOWER}.by-rattle"]
 STATUSES = {b"source:": 3, b"listing:": 3, b"loft:": 2, b"log:": 4, b"files:": 5}
 SECONDS = 300
-FOLDERS = {f"cases/{it}": it for it in COMMANDS} | {"examples": "run", "docs/tutorial": "run"}
+REPEATED = re.compile(rb"([0-9]+) x (.*)")
+FOLDERS = {**{f"cases/{it}": it for it in COMMANDS}, "examples": "run", "docs/tutorial": "run"}
 
 
 def ending_of(command):
@@ -40,10 +44,31 @@ def ending_of(command):
     return ".listing" if command == "exec" else ".loft"
 
 
+def by_rule(rule):
+    """The answer for which a rule stands."""
+    lines = []
+    for line in rule.split(b"\n")[:-1]:
+        repeated = REPEATED.fullmatch(line)
+        if repeated:
+            lines += [repeated[2].replace(b"{}", b"%d" % at) for at in range(int(repeated[1]))]
+        else:
+            lines.append(line)
+    return b"".join(line + b"\n" for line in lines)
+
+
+def stored_answer(source):
+    """The stored answer of a source, or None."""
+    answer = source.with_name(source.name + ".stdout")
+    if answer.is_file():
+        return answer.read_bytes()
+    rule = answer.with_name(answer.name + ".rule")
+    return by_rule(rule.read_bytes()) if rule.is_file() else None
+
+
 def has_report(source):
     """Whether the stored answer of a source is a report."""
-    answer = source.with_name(source.name + ".stdout")
-    return answer.is_file() and status_of(answer.read_bytes()) == 0
+    answer = stored_answer(source)
+    return answer is not None and status_of(answer) == 0
 
 
 def status_of(answer):
@@ -84,10 +109,9 @@ class Source:
 
     def failure(self, program):
         """Why the case fails, or None."""
-        expected = self.beside(".stdout")
-        if not expected.is_file():
-            return f"there is no {expected.name}"
-        wanted = expected.read_bytes()
+        wanted = stored_answer(self.source)
+        if wanted is None:
+            return f"there is no {self.source.name}.stdout"
         ran = self.ran(program)
         if ran.stdout != wanted:
             return difference(ran.stdout, wanted)
@@ -130,7 +154,7 @@ class Followed(Source):
 
     def ran(self, program):
         """How the program ends for the choices in the head of the stored report."""
-        lines = self.beside(".stdout").read_bytes().splitlines(keepends=True)
+        lines = stored_answer(self.source).splitlines(keepends=True)
         at, count = next((at, int(it.split()[1])) for at, it in enumerate(lines) if it.startswith(b"history "))
         choices = b"".join(lines[at + 1 : at + 1 + count])
         return followed(program, choices, [self.command, str(self.source), *self.further()])
@@ -187,13 +211,13 @@ def source_name(file):
     """The name of the source to which a file of a case belongs."""
     if file.parent == HISTORIES and file.suffix in (".choices", ".next"):
         return file.with_suffix(".loft").name
-    return file.name.removesuffix(".stdout").removesuffix(".args")
+    return re.sub(r"\.(args|stdout|stdout\.rule)$", "", file.name)
 
 
 def strays():
     """Files of the cases that belong to no case."""
     folders = [*TOP.glob("cases/*"), TOP / "examples", TOP / "docs/tutorial"]
-    commands = FOLDERS | {str(HISTORIES.relative_to(TOP)): "run"}
+    commands = {**FOLDERS, str(HISTORIES.relative_to(TOP)): "run"}
     for file in sorted(file for folder in folders for file in folder.glob("*")):
         name = source_name(file)
         command = commands.get(str(file.parent.relative_to(TOP)))
@@ -201,6 +225,8 @@ def strays():
         is_known = file.parent == WORDS or file.name == "README.md" or is_source
         if not is_known or not file.with_name(name).is_file():
             yield f"{file.relative_to(TOP)}: it belongs to no case"
+        elif file.suffix == ".rule" and file.with_suffix("").is_file():
+            yield f"{file.relative_to(TOP)}: its answer is stored too"
 
 
 def failures_of(programs, case):
