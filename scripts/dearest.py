@@ -38,7 +38,7 @@ def modules(folder):
 
 def function_of(name):
     """The function that a module belongs to, and the kind of the module."""
-    found = NAME.fullmatch(name.removesuffix(".decls"))
+    found = NAME.fullmatch(re.sub(r"\.decls$", "", name))
     parts = (found[1] if found else name).split(".")
     kind = NUMBERED.sub("", parts[-1])
     rest = parts[:-1]
