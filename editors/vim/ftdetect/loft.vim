@@ -1,0 +1,2 @@
+autocmd BufNewFile,BufRead *.loft setfiletype loft
+autocmd BufNewFile,BufRead *.listing setfiletype loftlisting
