@@ -1,5 +1,6 @@
 pub mod Division
 pub mod LineLemmas
+pub mod PlanLemmas
 pub mod Reading
 pub mod StreamLemmas
 pub mod Wrapping
