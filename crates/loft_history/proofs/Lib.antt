@@ -3,3 +3,4 @@ pub mod OwnLemmas
 pub mod GrowthLemmas
 pub mod LegalLemmas
 pub mod LegalEntries
+pub mod TallyLemmas

@@ -16,7 +16,7 @@ use Rattle.loft_sense.specs.declared.entry.Entry.{Entry}
 use Rattle.loft_sense.specs.Heads.{shared_of}
 use Rattle.loft_history.specs.History.{Choice, TakeBy, GiveBy, PickBy, PostBy, ClientBy, choice_of, log, waiting, replayed}
 use Rattle.loft_sense.specs.Text.{client_name, space, scheduler_name, thread_text, order_text}
-use Rattle.loft_sense.specs.Lines.{text_of, shared_line, instant_lines}
+use Rattle.loft_sense.specs.Lines.{text_of, scheduler_line, shared_line, instant_lines}
 
 abbrev pub choice_line : Heads → Choice → List ℕ
 choice_line h (TakeBy s) = codes "take " ++ scheduler_name h s
@@ -61,9 +61,13 @@ final_lines h s linked shared =
     (codes "state " ++ decimal (length linked))
     ∷ (map (standing_line h) linked ++ shared_lines h (shared_of h s) shared)
 
+-- a scheduler's block up to its final state
+abbrev pub begun_lines : Heads → SchedId → List (List Order) → List InstantNote → List (List ℕ)
+begun_lines h s batches notes = scheduler_line h s ∷ instants_lines h batches notes
+
 -- a scheduler's block, of its batches alone
 abbrev pub block_lines : Heads → SchedId → List (List Order) → Replayed → List (List ℕ)
-block_lines h s batches r = (codes "scheduler " ++ scheduler_name h s) ∷ instants_lines h batches r.notes ++ final_lines h s r.machine.linked r.machine.shared
+block_lines h s batches r = begun_lines h s batches r.notes ++ final_lines h s r.machine.linked r.machine.shared
 
 abbrev pub scheduler_lines : Prog → Limits → List Entry → SchedId → List (List ℕ)
 scheduler_lines x limits es s = block_lines (heads x) s (log s es) (replayed x limits s es)

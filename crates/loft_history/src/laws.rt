@@ -2,15 +2,22 @@
 
 ghost use Rattle.std.specs.Prelude.{◌≡◌, ◌<◌, ◌↔◌, ℕ, IsTrue, List, [], ◌∷◌, ◌++◌};
 ghost use Rattle.std.specs.Prelude.{map, length, drop, All, None, Ok};
+ghost use Rattle.std.specs.List.{flat_map};
 ghost use Rattle.loft_base.specs.declared.ids.SchedId.{SchedId};
 ghost use Rattle.loft_tree.specs.declared.heads.Heads.{Heads};
 ghost use Rattle.loft_sense.specs.declared.entry.Actor.{Actor};
 ghost use Rattle.loft_sense.specs.declared.entry.Actor.TheVariants.{Sched, Worker, Client};
 ghost use Rattle.loft_sense.specs.declared.entry.Entry.{Entry};
 ghost use Rattle.loft_sense.specs.declared.limits.RunOptions.{RunOptions};
+ghost use Rattle.loft_sense.specs.declared.limits.Limits.{Limits};
+ghost use Rattle.loft_sense.specs.declared.order.Order.{Order};
 ghost use Rattle.loft_sense.specs.Machine.{Prog, heads};
+ghost use Rattle.loft_sense.specs.Tally.{capped};
+ghost use Rattle.loft_sense.specs.Instant.{replay};
+ghost use Rattle.loft_sense.specs.Lines.{text_of};
+ghost use Rattle.loft_history.specs.Report.{begun_lines};
 ghost use Rattle.loft_history.specs.History.{log, is_open, left_of, is_busy, creates, unsent};
-ghost use Rattle.loft_history.specs.History.{Choice, choice_of, entry_of, hist, HasEnded};
+ghost use Rattle.loft_history.specs.History.{Choice, choice_of, entry_of, hist, HasEnded, jobs_sent};
 ghost use Rattle.loft_history.specs.Clients.{outside_of};
 ghost use Rattle.loft_history.specs.Legal.{actor_of, same_actor, of, AtEach, IsFaithful, IsNextOf};
 ghost use Rattle.loft_history.specs.Legal.{IsLegal, HasNoCallers, ComesNext};
@@ -71,4 +78,19 @@ pub fn own_lists_grow()
 pub fn ended_histories_go_no_further()
     ensures { (x : Prog) (o : RunOptions) (h : List Entry) → 0 < o.workers
         → HasEnded x o h ↔ ((c : Choice) → entry_of x o h c ≡ None) }
+{}
+
+/// What a scheduler has used of its bounds is told by its block of the report, as its instants have
+/// left it: how many instants it has, how many bytes it has before its final state, its first line
+/// among them, and how many threads went to the workers. Bytes and threads stop at the end of 64
+/// bits.
+pub fn blocks_tell_what_is_used()
+    ensures number { (x : Prog) (limits : Limits) (s : SchedId) (batches : List (List Order))
+        → (replay x limits s batches).machine.tally.number ≡ length batches }
+    ensures bytes { (x : Prog) (limits : Limits) (s : SchedId) (batches : List (List Order))
+        → let r = replay x limits s batches in
+        r.machine.tally.bytes ≡ capped (length (text_of (begun_lines (heads x) s batches r.notes))) }
+    ensures gone { (x : Prog) (limits : Limits) (s : SchedId) (batches : List (List Order))
+        → let r = replay x limits s batches in
+        r.machine.tally.gone ≡ capped (length (jobs_sent (flat_map (λ n. n.sent) r.notes))) }
 {}

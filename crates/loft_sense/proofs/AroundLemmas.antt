@@ -42,6 +42,7 @@ use Rattle.loft_sense.specs.Moments.{Moment, IsKeptByRuns}
 use Rattle.loft_sense.proofs.MomentLemmas.{kept_by_pass, kept_by_passes}
 use Rattle.loft_sense.proofs.TellLemmas.{told_twice, told_nothing, IsQuiet, told_quiet}
 use Rattle.loft_sense.specs.Apply.{Applied, is_linked, apply_order, apply_orders, unapplied, apply}
+use Rattle.loft_sense.specs.Tally.{tally_after}
 use Rattle.loft_sense.specs.Instant.{runner_of, around_of, instant}
 
 -- what b is after some statements that found a
@@ -403,8 +404,8 @@ pub instant_shared : (x : Prog) (limits : Limits) (m : Mach) (batch : List Order
 unfolding instant
 instant_shared x limits m batch = (instant_follows x limits m batch).shared
 
-pub instant_number : (x : Prog) (limits : Limits) (m : Mach) (batch : List Order) → (instant x limits m batch).machine.number ≡ m.number + 1
-unfolding instant
+pub instant_number : (x : Prog) (limits : Limits) (m : Mach) (batch : List Order) → (instant x limits m batch).machine.tally.number ≡ m.tally.number + 1
+unfolding instant tally_after
 instant_number x limits m batch = refl
 
 pub instant_scheduler : (x : Prog) (limits : Limits) (m : Mach) (batch : List Order) → (instant x limits m batch).machine.s ≡ m.s

@@ -9,3 +9,4 @@ pub mod CodeLemmas
 pub mod OriginLemmas
 pub mod CloseLemmas
 pub mod ReplayLemmas
+pub mod TallyLemmas

@@ -20,6 +20,7 @@ use Rattle.loft_sense.specs.declared.note.Standing.{Standing}
 use Rattle.loft_sense.specs.declared.note.InstantNote.{InstantNote}
 use Rattle.loft_sense.specs.declared.limits.Limits.{Limits}
 use Rattle.loft_sense.specs.Heads.{shared_of}
+use Rattle.loft_sense.specs.Tally.{tally_after}
 use Rattle.loft_sense.specs.Machine.{Prog, heads, Mach, empty}
 use Rattle.loft_sense.specs.Around.{Around}
 use Rattle.loft_sense.specs.Passes.{Runner, Walk, passes}
@@ -91,12 +92,17 @@ pub record AfterInstant : Type 0 where
   pub machine : Mach
   pub note : InstantNote
 
-abbrev pub machine_after : Mach → Walk → Mach
-machine_after m w = record m { linked = map closed (filter stays w.runners); shared = w.around.shared; known = w.around.known; made = w.around.made; number = m.number + 1 }
+-- what the close leaves of it; its instant isn't told yet
+abbrev pub machine_closed : Mach → Walk → Mach
+machine_closed m w = record m { linked = map closed (filter stays w.runners); shared = w.around.shared; known = w.around.known; made = w.around.made }
+
+-- the instant with this note is one more
+abbrev pub machine_after : Prog → Mach → List Order → InstantNote → Walk → Mach
+machine_after x m batch note w = record (machine_closed m w) { tally = tally_after (heads x) m.tally batch note }
 
 abbrev pub note_of : Prog → Mach → Applied → Walk → InstantNote
 note_of x m a w = record {
-  number = m.number + 1;
+  number = m.tally.number + 1;
   marks = a.marks;
   stopped = a.stopped;
   acts = w.around.acts;
@@ -110,7 +116,8 @@ unfoldable pub instant : Prog → Limits → Mach → List Order → AfterInstan
 instant x limits m batch =
     let a = apply x m batch in
     let w = passes x (map (runner_of limits.budget) a.linked) (around_of m a) in
-    record { machine = machine_after m w; note = note_of x m a w }
+    let note = note_of x m a w in
+    record { machine = machine_after x m batch note w; note = note }
 
 -- the machine and the notes after some instants
 pub record Replayed : Type 0 where

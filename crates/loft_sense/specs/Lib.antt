@@ -1,6 +1,7 @@
 pub mod Group
 pub mod Printed
 pub mod Heads
+pub mod Tally
 pub mod Machine
 pub mod Around
 pub mod CanGo

@@ -2,6 +2,7 @@
 use Rattle.std.specs.Prelude.{ℕ, ◌+◌, ◌==◌, ℤ, List, [], ◌∷◌, ◌++◌, map, codes, if◌then◌else◌}
 use Rattle.std.specs.List.{flat_map}
 use Rattle.std.specs.Fmt.{decimal, signed_decimal}
+use Rattle.loft_base.specs.declared.ids.SchedId.{SchedId}
 use Rattle.loft_base.specs.declared.ids.SharedId.{SharedId}
 use Rattle.loft_base.specs.declared.ids.ThreadId.{ThreadId}
 use Rattle.loft_tree.specs.declared.heads.Heads.{Heads}
@@ -74,6 +75,10 @@ at_line h t = codes "at " ++ thread_text h t
 
 abbrev pub shared_line : Heads → SharedId → ℤ → List ℕ
 shared_line h x value = codes "shared " ++ (shared_name h x ++ (space ++ signed_decimal value))
+
+-- the first line of a scheduler's block
+abbrev pub scheduler_line : Heads → SchedId → List ℕ
+scheduler_line h s = codes "scheduler " ++ scheduler_name h s
 
 -- an instant: its number, its batch, its acts, who left, who stands how, which shared variables changed
 abbrev pub instant_lines : Heads → List Order → InstantNote → List (List ℕ)

@@ -6,7 +6,9 @@ use Rattle.loft_tree.specs.declared.heads.Heads.{Heads}
 use Rattle.loft_tree.specs.Resolved.{Resolved}
 use Rattle.loft_code.specs.Operations.{Automata}
 use Rattle.loft_sense.specs.declared.note.Standing.{Standing}
+use Rattle.loft_sense.specs.declared.tally.Tally.{Tally}
 use Rattle.loft_sense.specs.Heads.{shared_values}
+use Rattle.loft_sense.specs.Tally.{first_tally}
 
 -- a program: a source tree, or code
 pub data Prog : Type 0 where
@@ -28,9 +30,9 @@ pub record Mach : Type 0 where
   pub known : List ThreadId
   -- the creates that it has sent
   pub made : ℕ
-  -- the instants that it has made
-  pub number : ℕ
+  -- what it has used of its bounds: instants, bytes of its block, threads that left by `unlink`
+  pub tally : Tally
 
 -- a scheduler that has made no instant
 abbrev pub empty : Prog → SchedId → Mach
-empty x s = record { s = s; linked = []; shared = shared_values (heads x) s; known = []; made = 0; number = 0 }
+empty x s = record { s = s; linked = []; shared = shared_values (heads x) s; known = []; made = 0; tally = first_tally (heads x) s }

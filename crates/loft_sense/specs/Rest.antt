@@ -1,12 +1,13 @@
 -- Schedulers that rest, and that have used their bounds up (docs/SEMANTICS.md, "Rest").
-use Rattle.std.specs.Prelude.{◌≤◌, nat_le, ℤ, Bool, true, false, ◌||◌, ◌&&◌, not, List, [], ◌∷◌, Option, Some, None}
+use Rattle.std.specs.Prelude.{◌≤◌, ℤ, Bool, true, false, ◌||◌, ◌&&◌, not, List, [], ◌∷◌, Option, Some, None}
 use Rattle.loft_base.specs.declared.ids.ThreadId.{ThreadId}
 use Rattle.loft_sense.specs.declared.thread.Wait.{Wait}
 use Rattle.loft_sense.specs.declared.thread.Wait.TheVariants.{New, Coop, Events, Index, Next, Join, Halt}
 use Rattle.loft_sense.specs.declared.note.Standing.{Standing}
 use Rattle.loft_sense.specs.declared.limits.Limits.{Limits}
 use Rattle.loft_sense.specs.declared.limits.TheConstants.{MAX_INSTANTS, MAX_BUDGET, MAX_BLOCK}
-use Rattle.loft_sense.specs.Machine.{Prog, Mach}
+use Rattle.loft_sense.specs.Tally.{reaches_bound}
+use Rattle.loft_sense.specs.Machine.{Prog, heads, Mach}
 use Rattle.loft_sense.specs.CanGo.{is_known}
 
 abbrev pub is_none_left : Option ℤ → Bool
@@ -31,9 +32,9 @@ all_rest (s ∷ ss) known = (s.suspended || waits_for_ever s.thread.wait known) 
 abbrev pub is_resting : Mach → Bool
 is_resting m = all_rest m.linked m.known
 
--- it has made all its instants
+-- one of its bounds is reached: its instants, the bytes of its block, the threads that left it by `unlink`
 abbrev pub is_spent : Prog → Limits → Mach → Bool
-is_spent x limits m = nat_le limits.instants m.number
+is_spent x limits m = reaches_bound (heads x) limits m.tally
 
 -- the bounds of a run have their ranges (docs/LANGUAGE.md, "Limits")
 pub record IsInRange (limits : Limits) : Type 0 where

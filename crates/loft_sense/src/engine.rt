@@ -52,7 +52,7 @@ pub trait Engine: Drop {
 
     /// How many instants it has made.
     fn instant(&self) -> u64
-        ensures { has_failed self.now ≡ false → result ≡ (machine self.now).number };
+        ensures { has_failed self.now ≡ false → result ≡ (machine self.now).tally.number };
 
     /// How the scheduler stands.
     fn last(&self, alloc: Global) -> Result<FinalState, NoMemory>

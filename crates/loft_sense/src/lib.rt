@@ -12,6 +12,7 @@ pub mod note;
 pub mod order;
 pub mod run_laws;
 pub mod shared_thread;
+pub mod tally;
 pub mod thread;
 
 pub use code_laws::{
@@ -24,7 +25,7 @@ pub use entry::{Actor, Entry};
 pub use laws::passes_end;
 pub use limits::{
     Limits, MAX_BLOCK, MAX_BLOCK_ENTRIES, MAX_BUDGET, MAX_ENTRIES, MAX_FRAMES, MAX_INSTANTS,
-    MAX_LINKED, MAX_WORKERS, RunOptions,
+    MAX_LINKED, MAX_WORKERS, RunOptions, SPENT_BYTES, SPENT_GONE,
 };
 pub use line::Line;
 pub use note::{
@@ -39,4 +40,5 @@ pub use run_laws::{
     runs_make_few_entries, threads_run_within_the_budget, what_runs_keep_holds_between_them,
 };
 pub use shared_thread::{SharedThread, ThreadGroup};
+pub use tally::{Tally, most_bytes, most_gone};
 pub use thread::{Counts, Events, Frame, Frames, Thread, Threads, Wait};

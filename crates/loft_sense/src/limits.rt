@@ -12,6 +12,12 @@ pub const MAX_FRAMES: usize = 32;
 /// The most threads that a scheduler links by creates.
 pub const MAX_LINKED: usize = 4096;
 
+/// A scheduler whose block of the report has so many bytes makes no further instant.
+pub const SPENT_BYTES: u64 = 16_777_216;
+
+/// A scheduler that so many threads have left by `unlink` makes no further instant.
+pub const SPENT_GONE: u64 = 65_536;
+
 /// The most instants that a scheduler can be given.
 pub const MAX_INSTANTS: u64 = 1_000_000;
 

@@ -69,7 +69,7 @@ pub fn instants_keep_what_is_declared()
     ensures scheduler { (x : Prog) (limits : Limits) (m : Mach) (batch : List Order)
         → (instant x limits m batch).machine.s ≡ m.s }
     ensures number { (x : Prog) (limits : Limits) (m : Mach) (batch : List Order)
-        → (instant x limits m batch).machine.number ≡ m.number + 1 }
+        → (instant x limits m batch).machine.tally.number ≡ m.tally.number + 1 }
     ensures shared { (x : Prog) (limits : Limits) (m : Mach) (batch : List Order)
         → length (instant x limits m batch).machine.shared ≡ length m.shared }
     ensures batch { (x : Prog) (m : Mach) (batch : List Order)

@@ -10,13 +10,14 @@ use Rattle.loft_sense.specs.declared.limits.Limits.{Limits}
 use Rattle.loft_sense.specs.declared.order.Order.{Order}
 use Rattle.loft_sense.specs.declared.thread.Thread.{Thread}
 use Rattle.loft_sense.specs.Heads.{shared_of}
+use Rattle.loft_sense.specs.Tally.{tally_after}
 use Rattle.loft_sense.specs.Machine.{Prog, heads, Mach}
 use Rattle.loft_sense.specs.Around.{Around}
 use Rattle.loft_sense.specs.Run.{Outcome}
 use Rattle.loft_sense.specs.Fits.{Fits}
 use Rattle.loft_sense.specs.Passes.{Runner, Walk, is_ready, run_of, runners_after, around_after, walked, pass, passes_within, steps_left, passes}
 use Rattle.loft_sense.specs.Apply.{Applied, unapplied, apply_orders, apply}
-use Rattle.loft_sense.specs.Instant.{runner_of, around_of, changes, AfterInstant, machine_after, note_of, instant}
+use Rattle.loft_sense.specs.Instant.{runner_of, around_of, changes, AfterInstant, machine_closed, note_of, instant}
 use Rattle.loft_sense.specs.Async.{alone, block_sent, async}
 use Rattle.loft_stand.specs.Points.{AroundFits}
 use Rattle.loft_stand.specs.Machines.{ThreadFits, MachFits}
@@ -74,19 +75,21 @@ module _ (x y : Prog) (well : IsWellFormed x) (alike : RunsAlike x y) where
 
   -- ---- instants
 
-  -- an instant whose passes made this walk, of a program with these declarations
-  abbrev instant_by : Mach → Applied → Walk → Heads → AfterInstant
-  instant_by m a w h = record { machine = machine_after m w; note = record (note_of x m a w) { changed = changes (shared_of h m.s) m.shared w.around.shared } }
+  -- an instant on this batch whose passes made this walk, of a program with these declarations
+  abbrev instant_by : Mach → List Order → Applied → Walk → Heads → AfterInstant
+  instant_by m batch a w h =
+      let note = record (note_of x m a w) { changed = changes (shared_of h m.s) m.shared w.around.shared } in
+      record { machine = record (machine_closed m w) { tally = tally_after h m.tally batch note }; note = note }
 
   pub instant_same : (limits : Limits) (m : Mach) (batch : List Order) → MachFits x m → Each (Fits x m.s) batch → instant x limits m batch ≡ instant y limits m batch
   unfolding instant
   instant_same limits m batch f g =
       let a = apply x m batch in
       let linked = begin_fit x m.s limits.budget a.linked (batch_applied x well m batch f g).linked in
-      ap (λ (w : Walk). instant_by m a w (heads x)) (passes_same m.s (map (runner_of limits.budget) a.linked) linked (around_of m a) (first_around x well m batch f g))
+      ap (λ (w : Walk). instant_by m batch a w (heads x)) (passes_same m.s (map (runner_of limits.budget) a.linked) linked (around_of m a) (first_around x well m batch f g))
       ∙ ap (λ (h : Heads).
       let b = apply_orders h m.s (unapplied h m) batch in
-      instant_by m b (passes y (map (runner_of limits.budget) b.linked) (around_of m b)) h) alike.heads
+      instant_by m batch b (passes y (map (runner_of limits.budget) b.linked) (around_of m b)) h) alike.heads
 
   -- as the law says it
   pub instants_same : (limits : Limits) (m : Mach) (batch : List Order) → MachFits x m → All (Fits x m.s) batch → instant x limits m batch ≡ instant y limits m batch

@@ -19,11 +19,13 @@ use Rattle.loft_sense.specs.declared.order.To.{To}
 use Rattle.loft_sense.specs.declared.order.To.TheVariants as to
 use Rattle.loft_sense.specs.declared.order.Sent.{Sent}
 use Rattle.loft_sense.specs.Heads.{shared_values}
-use Rattle.loft_sense.specs.Machine.{Prog, heads, empty}
+use Rattle.loft_sense.specs.Tally.{first_tally, reaches_bound}
+use Rattle.loft_sense.specs.Machine.{Prog, heads, Mach, empty}
+use Rattle.loft_sense.specs.Rest.{is_resting}
 use Rattle.loft_sense.specs.Instant.{AfterInstant, Replayed, one_more, replay_on}
 use Rattle.loft_sense.specs.Fits.{IsThread, IsValue, IsEventOf, Fits}
 use Rattle.loft_history.specs.Clients.{made_by}
-use Rattle.loft_history.specs.History.{Choice, TakeBy, GiveBy, PickBy, PostBy, ClientBy, choice_of, log, is_open, waiting, jobs, left_after, left_of, unsent, creates, replayed, has_turn, sent_last, entry_of_first, pick_of, entry_of, with_entry, hist_on, hist, has_finished, HasEnded, left_step}
+use Rattle.loft_history.specs.History.{Choice, TakeBy, GiveBy, PickBy, PostBy, ClientBy, choice_of, log, is_open, waiting, jobs, left_after, left_of, unsent, creates, replayed, is_empty, has_turn, sent_last, entry_of_first, pick_of, entry_of, with_entry, hist_on, hist, has_finished, HasEnded, left_step}
 use Rattle.loft_history.specs.Legal.{AtEach, IsCallersOrder, FitsOne, IsLegal, IsCallersEntry, ComesNext}
 use Rattle.loft_sense.specs.Lines.{text_of}
 use Rattle.loft_history.specs.Report.{head_lines, block_lines, scheduler_lines, left_line, schedulers_from, left_part, report_lines, report}
@@ -96,7 +98,7 @@ module _ (x y : Prog) (well : IsWellFormed x) (alike : RunsAlike x y) (o : RunOp
   history_replayed : (h : List Entry) (s : SchedId) → HistoryFits x well o h → IsScheduler (heads x) s → replayed x o.limits s h ≡ replayed y o.limits s h
   history_replayed h s f declared =
       replay_same s (record { machine = empty x s; notes = [] }) (log s h) (begun_fits x well o s declared) (f.took s declared)
-      ∙ ap (λ (d : Heads). replay_on y o.limits (record { machine = record (empty x s) { shared = shared_values d s }; notes = [] }) (log s h)) alike.heads
+      ∙ ap (λ (d : Heads). replay_on y o.limits (record { machine = record (empty x s) { shared = shared_values d s; tally = first_tally d s }; notes = [] }) (log s h)) alike.heads
 
   -- ---- histories
 
@@ -105,12 +107,16 @@ module _ (x y : Prog) (well : IsWellFormed x) (alike : RunsAlike x y) (o : RunOp
     pub fits : HistoryFits x well o h
     pub left : (w : ℕ) → left_of x o w h ≡ left_of y o w h
 
+  -- whether there is a turn to make is asked of the declarations and the machine alone
+  turn_same : (m : Mach) (orders : List Order) → has_turn x o.limits m orders ≡ has_turn y o.limits m orders
+  turn_same m orders = ap (λ (d : Heads). not (reaches_bound d o.limits m.tally) && not (is_resting m && is_empty orders)) alike.heads
+
   chosen_same : (h : List Entry) (c : Choice) → AlikeSoFar h → entry_of x o h c ≡ entry_of y o h c
   chosen_same h (TakeBy s) f =
       let orders = waiting (heads x) s h in
       let own = replayed y o.limits s h in
       take_same (nat_lt s.0 (length (heads x).schedulers)) (is_open s h) (has_turn x o.limits (replayed x o.limits s h).machine orders) (has_turn y o.limits own.machine orders) (Take s orders)
-      (λ e. ap (λ (r : Replayed). has_turn x o.limits r.machine orders) (history_replayed h s f.fits (ltb-true s.0 _ e)))
+      (λ e. ap (λ (r : Replayed). has_turn x o.limits r.machine orders) (history_replayed h s f.fits (ltb-true s.0 _ e)) ∙ turn_same own.machine orders)
       ∙ ap (λ (d : Heads). if nat_lt s.0 (length d.schedulers) && not (is_open s h) && has_turn y o.limits own.machine (waiting d s h) then Some (Take s (waiting d s h)) else None) alike.heads
   chosen_same h (GiveBy s) f =
       let own = replayed y o.limits s h in
@@ -192,6 +198,7 @@ module _ (x y : Prog) (well : IsWellFormed x) (alike : RunsAlike x y) (o : RunOp
     finished_same : (s : SchedId) → IsScheduler (heads x) s → has_finished x o es s ≡ has_finished y o es s
     finished_same s declared =
         ap (λ (r : Replayed). not (is_open s es) && not (has_turn x o.limits r.machine (waiting (heads x) s es))) (replays_same s declared)
+        ∙ ap (λ (b : Bool). not (is_open s es) && not b) (turn_same (replayed y o.limits s es).machine (waiting (heads x) s es))
         ∙ ap (λ (d : Heads). not (is_open s es) && not (has_turn y o.limits (replayed y o.limits s es).machine (waiting d s es))) alike.heads
 
     -- a client's orders, by the declarations of one of the two

@@ -1,6 +1,6 @@
 -- What is claimed of new threads, and kept by each run and each close, holds of the threads of each history, wherever they are.
 use Rattle.std.proofs.Common.{◌≡◌, ℕ, Bool, true, false, cond, List, [], ◌∷◌, ◌++◌, map, filter, length, Option, Some, None, refl, sym, subst, ap}
-use Rattle.std.specs.Prelude.{◌+◌, if◌then◌else◌, ◌==◌, nat_lt, not, is_some, slice_get}
+use Rattle.std.specs.Prelude.{if◌then◌else◌, ◌==◌, nat_lt, not, is_some, slice_get}
 use Rattle.std.proofs.lemmas.Bool.{eqb-true}
 use Rattle.loft_base.specs.declared.ids.ModuleId.{ModuleId}
 use Rattle.loft_base.specs.declared.ids.SchedId.{SchedId}
