@@ -1,0 +1,13 @@
+pub mod Sums
+pub mod Order
+pub mod WorkSteps
+pub mod EffectEnds
+pub mod Runs
+pub mod Table
+pub mod Modules
+pub mod Threads
+pub mod Instants
+pub mod BlockRuns
+pub mod Histories
+pub mod OverLemmas
+pub mod Verdicts
