@@ -6,7 +6,7 @@ import pathlib
 import sys
 
 TOP = pathlib.Path(__file__).resolve().parent.parent
-PAGES = ["*.md", "docs/*.md", "cases/*.md", "editors/*.md", "examples/*.md"]
+PAGES = ["*.md", "docs/*.md", "cases/*.md", "editors/*.md", "examples/*.md", "view/*.md"]
 
 
 def headings(page):

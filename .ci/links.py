@@ -18,8 +18,8 @@ from headings import PAGES, TOP, headings
 
 LINK = re.compile(r"\]\(([^)\s]+)\)")
 CODE = re.compile(r"`([^`\n]+)`")
-FILE = re.compile(r"[\w.-]+(/[\w.-]+)*\.(antt|args|loft|md|py|rt|sh|stdout|tsv|txt)")
-FOLDER = re.compile(r"(\.ci|cases|crates|docs|examples|loft_\w+)/[\w./-]+")
+FILE = re.compile(r"[\w.-]+(/[\w.-]+)*\.(antt|args|css|html|js|loft|md|mjs|py|rt|sh|stdout|svg|tsv|txt)")
+FOLDER = re.compile(r"(\.ci|cases|crates|docs|editors|examples|loft_\w+|scripts|view)/[\w./-]+")
 CITED = re.compile(r'`((?:\w+/)?[A-Z]+\.md)`((?:,| and| or)(?: )?"[^"]+")+')
 QUOTED = re.compile(r'"([^"]+)"')
 OF_CRATE = re.compile(r"(?!(?:crates|loft_\w+)/).*\.(antt|rt)")

@@ -19,7 +19,7 @@ import re
 import sys
 
 TOP = pathlib.Path(__file__).resolve().parent.parent
-PAGES = ["*.md", "docs/*.md", "cases/*.md", "editors/*.md", "examples/*.md"]
+PAGES = ["*.md", "docs/*.md", "cases/*.md", "editors/*.md", "examples/*.md", "view/*.md"]
 EXEMPT = {"sh", "grammar", "edit", "mermaid"}
 FENCE = "```"
 MARK = re.compile(r"<!-- ([^ ]+) -->")

@@ -1,0 +1,63 @@
+// The reports that are tried: all that are stored, and large ones.
+import { readFileSync, readdirSync } from "node:fs";
+import { dirname, join } from "node:path";
+import { fileURLToPath } from "node:url";
+
+export const VIEW = dirname(dirname(fileURLToPath(import.meta.url)));
+export const TOP = dirname(VIEW);
+const FOLDERS = ["cases/run", "cases/history", "cases/exec", "examples", "docs/tutorial"];
+const REPEATED = /^([0-9]+) x (.*)$/;
+
+/** The text of a file, a letter for each byte. @param {string} name from the top */
+export function bytes(name) {
+  return readFileSync(join(TOP, name), "latin1");
+}
+
+/** The report for which a rule stands (cases/README.md). @param {string} rule */
+function byRule(rule) {
+  return rule.split("\n").map((line) => {
+    const repeated = REPEATED.exec(line);
+    if (repeated === null) return line;
+    return Array.from({ length: Number(repeated[1]) }, (_, at) => repeated[2].replaceAll("{}", at)).join("\n");
+  }).join("\n");
+}
+
+/** Each stored answer that is a report. @returns {{name: string, text: string}[]} */
+export function storedReports() {
+  const found = [];
+  for (const folder of FOLDERS) {
+    for (const file of readdirSync(join(TOP, folder)).sort()) {
+      const name = `${folder}/${file}`;
+      if (file.endsWith(".stdout")) found.push({ name, text: bytes(name) });
+      if (file.endsWith(".stdout.rule")) found.push({ name, text: byRule(bytes(name)) });
+    }
+  }
+  return found.filter(({ text }) => text.startsWith("loft-report "));
+}
+
+/** A report of many instants of two schedulers, with a thread that goes to and fro. @param {number} instants */
+export function longReport(instants) {
+  const choices = [];
+  const blocks = { A: [], B: [] };
+  const threads = ["start.0", "start.1", "start.2", "start.3"];
+  for (let at = 1; at <= instants; at += 1) {
+    choices.push("take A", "give A", "take B", "give B");
+    const [a, b] = [[`instant ${at}`], [`instant ${at}`]];
+    if (at === 1) a.push(...threads.map((id) => `in create ${id} m(1)`));
+    if (at > 1 && at % 2 === 1) a.push("in arrive start.3 0 0 new m:4[](1)");
+    const here = at % 2 === 1 ? threads : threads.slice(0, 3);
+    for (const id of here) a.push(`print ${id} this is instant ${at} of A`, `gen ${id} bell ${at}`);
+    if (at % 2 === 1) a.push("leave start.3 B");
+    for (const id of threads.slice(0, 3)) a.push(`at ${id} 0 0 coop:0 m:1[](${at})`);
+    if (at % 2 === 1) b.push("in arrive start.3 0 0 new m:2[](1)", "print start.3 away", "at start.3 0 0 coop:0 m:3[](1)");
+    else b.push("leave start.3 A");
+    blocks.A.push(...a);
+    blocks.B.push(...b);
+  }
+  const head = ["loft-report 1", `instants ${instants}`, "budget 10000", "block 1000000", "workers 2", `history ${choices.length}`];
+  const states = [...threads.slice(0, 3)].map((id) => `linked ${id} 0 0 coop:0 m:1[](${instants})`);
+  const last = instants % 2 === 1 ? ["state 1", "linked start.3 0 0 coop:0 m:3[](1)"] : ["state 0"];
+  const left = instants % 2 === 1 ? ["left 0"] : ["left 1", "A arrive start.3 0 0 new m:4[](1)"];
+  return [...head, ...choices, "scheduler A", ...blocks.A, `state ${states.length}`, ...states, "scheduler B", ...blocks.B,
+    ...last, ...left, "end", ""].join("\n");
+}
