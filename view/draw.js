@@ -217,7 +217,8 @@ globalThis.Loft ??= {};
       if (!ends) {
         const time = next?.time ?? stay.to;
         const until = this.x(time === null ? layout.width : layout.start(time));
-        this.wait(mark, mark.ran ? right : left, until, y, stroke);
+        if (mark.ran) this.wait(mark, right, until, y, stroke);
+        else this.wait(mark, left + 14, until, y, stroke);
       }
       painter.titled(Loft.staySentences(stay, happening).join("\n"), () => {
         if (mark.ran) this.bar(stay, mark, left, right, y, named);
