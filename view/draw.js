@@ -5,7 +5,7 @@ globalThis.Loft ??= {};
 {
   const { HEADER, TRACK } = Loft;
   const BAR = 16;
-  const FEW_LINKS = 3000;
+  const MOST_LINKS = 1500;
   /** Lines of threads that wait, by the kind of their wait. */
   const DASHES = { coop: [7, 4], await: [2, 3], select: [2, 3], join: [8, 3, 2, 3], halt: [1, 7] };
   /** Lines of orders. */
@@ -49,9 +49,10 @@ globalThis.Loft ??= {};
       for (const band of this.bands) this.band(band);
       this.painter.clip(gutter, 0, width - gutter, height, () => {
         for (const band of this.bands) this.instants(band);
-        this.links();
+        const left = this.links();
         for (const band of this.bands) this.stays(band);
         this.selection();
+        if (left > 0) this.note(`${left} further orders aren't drawn: a filter shows those of one thread`);
         if (this.view.hovered !== null) this.link(this.view.hovered, true);
       });
       for (const band of this.bands) this.names(band);
@@ -91,17 +92,25 @@ globalThis.Loft ??= {};
       }
     }
 
-    /** The links that can be seen. */
+    /** A note at the foot of the picture. @param {string} text */
+    note(text) {
+      const { gutter, height } = this.view;
+      this.painter.rect(gutter + 6, height - 24, Loft.widthOf(text) + 12, 18, { fill: "page", stroke: "edge" });
+      this.painter.text(gutter + 12, height - 15, text, { fill: "ink" });
+    }
+
+    /** The links that can be seen. @returns {number} how many aren't drawn, since there are too many */
     links() {
       const { height } = this.view;
       let drawn = 0;
       for (const link of this.layout.linksIn(this.first, this.last)) {
         const ends = this.endsOf(link);
         if (ends === null || Math.max(ends.y1, ends.y2) < 0 || Math.min(ends.y1, ends.y2) > height) continue;
-        if (link.from > this.last || (link.to ?? link.from) < this.first || drawn > FEW_LINKS) continue;
+        if (link.from > this.last || (link.to ?? link.from) < this.first) continue;
         drawn += 1;
-        this.link(link, false, ends);
+        if (drawn <= MOST_LINKS) this.link(link, false, ends);
       }
+      return Math.max(0, drawn - MOST_LINKS);
     }
 
     /** Where a link begins and ends, in pixels; nothing where it can't be drawn. */
@@ -121,7 +130,7 @@ globalThis.Loft ??= {};
       const { x1, y1, x2, y2 } = ends;
       const style = this.styleOf(link);
       const shown = strong ? { ...style, width: 3 } : style;
-      this.painter.titled(Loft.linkSentence(link), () => {
+      this.painter.titled(() => Loft.linkSentence(link), () => {
         if (link.to === null) {
           this.painter.line([[x1, y1], [x2, y2]], shown);
           this.painter.line([[x2 + 2, y2 - 5], [x2 + 2, y2 + 5]], { stroke: style.stroke, width: 2 });
@@ -165,7 +174,7 @@ globalThis.Loft ??= {};
       const right = this.x(layout.end(stay.to ?? layout.run.length - 1)) - 2;
       const y = this.y(layout.yOf(stay));
       const colour = Loft.colourOf(stay.thread);
-      painter.titled(Loft.staySentences(stay).join("\n"), () => {
+      painter.titled(() => Loft.staySentences(stay).join("\n"), () => {
         painter.rect(left, y - BAR / 2, Math.max(2, right - left), BAR, { fill: colour, radius: 3 });
         this.label(left, right, y, stay.thread.id);
         for (const { time } of stay.marks) {
@@ -217,9 +226,10 @@ globalThis.Loft ??= {};
       if (!ends) {
         const time = next?.time ?? stay.to;
         const until = this.x(time === null ? layout.width : layout.start(time));
-        this.wait(mark, mark.ran ? right : left, until, y, stroke);
+        if (mark.ran) this.wait(mark, right, until, y, stroke);
+        else this.wait(mark, left + 14, until, y, stroke);
       }
-      painter.titled(Loft.staySentences(stay, happening).join("\n"), () => {
+      painter.titled(() => Loft.staySentences(stay, happening).join("\n"), () => {
         if (mark.ran) this.bar(stay, mark, left, right, y, named);
         else this.flag(mark, left, y);
       });
@@ -355,24 +365,10 @@ globalThis.Loft ??= {};
     for (const link of layout.linksIn(drawing.first, drawing.last)) {
       const ends = drawing.endsOf(link);
       if (ends === null || px < ends.x1 - 6 || px > ends.x2 + 6) continue;
-      const away = distance(ends, px, py);
+      const away = Loft.distance(ends, px, py);
       if (away < least) [best, least] = [link, away];
     }
     return best;
-  }
-
-  /** How far a point is from a curve. */
-  function distance({ x1, y1, x2, y2 }, px, py) {
-    const bend = Loft.bendOf(x1, x2);
-    let least = Infinity;
-    for (let step = 0; step <= 20; step += 1) {
-      const t = step / 20;
-      const u = 1 - t;
-      const x = u ** 3 * x1 + 3 * u * u * t * (x1 + bend) + 3 * u * t * t * (x2 - bend) + t ** 3 * x2;
-      const y = (u ** 3 + 3 * u * u * t) * y1 + (3 * u * t * t + t ** 3) * y2;
-      least = Math.min(least, Math.hypot(px - x, py - y));
-    }
-    return least;
   }
 
   /** What a view shows, as an SVG text. @param {object} layout @param {View} view @param {string} title */

@@ -78,7 +78,10 @@ globalThis.Loft ??= {};
     /** @param {File|undefined} file */
     async openFile(file) {
       if (file === undefined) return;
+      part("summary").className = "";
+      part("summary").textContent = `Reading ${file.name} ..`;
       const bytes = await file.arrayBuffer();
+      await new Promise((resolve) => setTimeout(resolve));
       this.open(new TextDecoder("latin1").decode(bytes), file.name);
       part("file").value = "";
     }

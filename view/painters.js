@@ -28,6 +28,20 @@ globalThis.Loft ??= {};
     return Math.max(10, Math.min(60, Math.abs(x2 - x1) / 2));
   }
 
+  /** How far a point is from the curve of a link. */
+  function distance({ x1, y1, x2, y2 }, px, py) {
+    const bend = bendOf(x1, x2);
+    let least = Infinity;
+    for (let step = 0; step <= 20; step += 1) {
+      const t = step / 20;
+      const u = 1 - t;
+      const x = u ** 3 * x1 + 3 * u * u * t * (x1 + bend) + 3 * u * t * t * (x2 - bend) + t ** 3 * x2;
+      const y = (u ** 3 + 3 * u * u * t) * y1 + (3 * u * t * t + t ** 3) * y2;
+      least = Math.min(least, Math.hypot(px - x, py - y));
+    }
+    return least;
+  }
+
   /** Paints on a canvas. */
   class CanvasPainter {
     /** @param {CanvasRenderingContext2D} context @param {Object<string, string>} colours */
@@ -107,7 +121,7 @@ globalThis.Loft ??= {};
       this.context.restore();
     }
 
-    /** Paints what has a title, which a canvas doesn't show. */
+    /** Paints what has a title, which a canvas doesn't show. @param {() => string} title @param {() => void} paint */
     titled(title, paint) {
       paint();
     }
@@ -171,7 +185,7 @@ globalThis.Loft ??= {};
     }
 
     titled(title, paint) {
-      this.parts.push(`<g><title>${escaped(title)}</title>`);
+      this.parts.push(`<g><title>${escaped(title())}</title>`);
       paint();
       this.parts.push("</g>");
     }
@@ -189,5 +203,5 @@ globalThis.Loft ??= {};
     }
   }
 
-  Object.assign(Loft, { CanvasPainter, SvgPainter, widthOf, fitted, bendOf });
+  Object.assign(Loft, { CanvasPainter, SvgPainter, widthOf, fitted, distance });
 }

@@ -10,10 +10,10 @@ globalThis.Loft ??= {};
     return new Map(run.orders.arrows.map((arrow) => [arrow.line, arrow]));
   }
 
-  /** Whether a line names a thread. */
-  function names(line, id) {
-    const at = line.indexOf(id);
-    return at >= 0 && !/[0-9]/.test(line[at + id.length] ?? "") && !/\w/.test(line[at - 1] ?? "");
+  /** Whether a line of an instant is about a thread. */
+  function isAbout(line, id) {
+    const words = line.split(" ", 3);
+    return words[["in", "void", "full"].includes(words[0]) ? 2 : 1] === id;
   }
 
   /**
@@ -40,7 +40,7 @@ globalThis.Loft ??= {};
     for (let line = note.line; line < note.after; line += 1) {
       const text = run.report.lines[line - 1];
       const arrow = lines.length < FEW_LINES ? arrows.get(line) : undefined;
-      const own = thread !== null && names(text, thread.id);
+      const own = thread !== null && isAbout(text, thread.id);
       lines.push({ text, note: arrow === undefined ? "" : `given ${Loft.givenSentence(arrow)}`, own });
     }
     return { place: `${lane.name}, instant ${note.number} (${choices} of ${run.length})`, lines };

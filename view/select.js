@@ -52,5 +52,5 @@ globalThis.Loft ??= {};
     return stepTime(layout, place, 0);
   }
 
-  Object.assign(Loft, { placeAt, stayOf, stepTime, stepRow, nearest });
+  Object.assign(Loft, { placeAt, stayOf, stepTime, stepRow });
 }

@@ -112,5 +112,5 @@ globalThis.Loft ??= {};
     return [close.to === "unlinked" ? "leaves, unlinked" : `leaves for ${close.to}`];
   }
 
-  Object.assign(Loft, { waitLabel, waitSentence, endSentence, laneName, givenSentence, takenSentence, linkSentence, staySentences });
+  Object.assign(Loft, { waitLabel, laneName, givenSentence, takenSentence, linkSentence, staySentences });
 }

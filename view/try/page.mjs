@@ -102,6 +102,23 @@ class Trial {
       box.dispatchEvent(new Event("input")); return Loft.page.layout.shown.size; })()`;
     this.same(`the filter ${id}`, await this.browser.value(set(id)), 1);
     this.same("no filter", await this.browser.value(set("")), this.run.threads.size);
+    const first = this.run.lanes.find(({ stays }) => stays.length > 0);
+    await this.browser.value(`Loft.page.choose({ lane: Loft.page.run.lane.get("${first.kind} ${first.name}"), row: 0, time: ${first.stays[0].from} });
+      document.getElementById("scroller").focus()`);
+    for (const [key, wanted] of [["f", 1], ["f", this.run.threads.size], ["f", 1], ["Escape", this.run.threads.size]]) {
+      await this.browser.press(key);
+      this.same(`the number of threads after ${key}`, await this.browser.value("Loft.page.layout.shown.size"), wanted);
+    }
+    this.same("the panel after Escape", await this.browser.value('document.getElementById("panel").hidden'), true);
+  }
+
+  /** The report as it is dropped on the page. */
+  async drop() {
+    await this.browser.value(`(() => { const data = new DataTransfer();
+      data.items.add(new File([${JSON.stringify(this.text)}], "dropped"));
+      document.body.dispatchEvent(new DragEvent("drop", { dataTransfer: data, bubbles: true, cancelable: true })); })()`);
+    await this.browser.until('document.getElementById("summary").textContent.startsWith("dropped:")');
+    await this.summary();
   }
 
   /** The page is as wide as its window, and nothing of it is scrolled sideways. */
@@ -126,6 +143,7 @@ async function tryReport(browser, name, file, text, most) {
   }
   await trial.instants(most);
   await trial.filter();
+  await trial.drop();
   return trial.failures;
 }
 
