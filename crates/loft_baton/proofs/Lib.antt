@@ -1,0 +1,5 @@
+pub mod HistoryLemmas
+pub mod LawLemmas
+pub mod Moves
+pub mod Numbers
+pub mod Sharing
