@@ -2,9 +2,9 @@
 """Finds the definitions on which what the program promises rests, and writes them as tables into docs/THEOREM.md.
 
 It begins with the names of each of ROOTS, and goes from each definition to those that its text names, by the `use`
-lines of its file: to definitions of `specs/`, and to types of `src/` with those of their fields. A variable that is
-called like a definition counts as that definition, so a table may have too much. What is defined together (`mutual`)
-counts as one definition. What is of std is trusted, and isn't listed.
+lines of its file: to definitions of `specs/`, and to types and constants of `src/`, with the types of their fields. A
+variable that is called like a definition counts as that definition, so a table may have too much. What is defined
+together (`mutual`) counts as one definition. What is of std is trusted, and isn't listed.
 
     scripts/theorem.py           writes the tables
     scripts/theorem.py --check   says whether they differ, and ends with 1 if they do"""
@@ -25,7 +25,7 @@ ITEM = re.compile(r" *(?:pub )?(?:abbrev|unfoldable|data|record)(?: pub)? (\S+)"
 CONSTRUCTOR = re.compile(r"\s+([A-Z]\w*) :")
 FUNCTION = re.compile(r"\s+(?:pub )?([a-z]\w*) :")
 WORD = re.compile(r"[^\W\d]\w*(?:\.[^\W\d]\w*)?")
-TYPE = re.compile(r"pub (?:struct|enum) (\w+)\b.*?(?:\n}\n|;\n)", re.S)
+TYPE = re.compile(r"^pub (?:struct|enum|type) (\w+)\b(?:[^;{]*;|.*?\n}\n)", re.S | re.M)
 
 
 def split_names(names):
@@ -94,7 +94,10 @@ class Reached:
             return
         if rest.startswith("declared."):
             module, _, owner = re.sub(r"\.TheVariants$", "", rest[len("declared."):]).rpartition(".")
-            self.type(crate, owner, module or "lib")
+            if owner == "TheConstants":
+                self.types[TOP / "crates" / crate / "src" / f"{module or 'lib'}.rt", name] = 1
+            else:
+                self.type(crate, owner, module or "lib")
         else:
             self.definition(crate, rest, name)
 
@@ -152,13 +155,13 @@ def table(root):
         files[of, name] = (definitions + 1, lines + count)
     total = [sum(counts[at] for counts in files.values()) for at in (0, 1)]
     homes = sorted({file.relative_to(TOP / "crates").as_posix() for file, _ in reached.types})
-    lines = [f"{total[0]:,} definitions of {total[1]:,} lines, in {len(files)} files of `specs/`, and {len(reached.types)} types "
-             f"of {sum(reached.types.values())} lines, in {len(homes)} files of `src/`.", "",
+    lines = [f"{total[0]:,} definitions of {total[1]:,} lines, in {len(files)} files of `specs/`, and {len(reached.types)} "
+             f"types and constants of {sum(reached.types.values())} lines, in {len(homes)} files of `src/`.", "",
              "| crate | definitions that are reached, with their lines |", "|---|---|"]
     for of in sorted({of for of, _ in files}):
         mine = [(name, counts) for (crate, name), counts in sorted(files.items()) if crate == of]
         lines.append(f"| `{of}` | {', '.join(f'`{name}.antt` {many} ({long})' for name, (many, long) in mine)} |")
-    lines += ["", "| crate | types that are reached, by file |", "|---|---|"]
+    lines += ["", "| crate | types and constants that are reached, by file |", "|---|---|"]
     for of in sorted({home.split("/")[0] for home in homes}):
         told = []
         for home in homes:

@@ -2,6 +2,9 @@
 import { Loft } from "./load.mjs";
 import { longReport, storedReports } from "./reports.mjs";
 
+const UNIT = 60;
+const MOST_PLACES = 5000;
+
 /** How the lines of a report that begin with some words end a thread. */
 function reasonsOf(text) {
   const reasons = new Map();
@@ -49,6 +52,23 @@ function* rows(run) {
   }
 }
 
+/** What is wrong with the picture of a run, and with what the page says of each place and each link. */
+function* drawn(run) {
+  const layout = new Loft.Layout(run, () => true);
+  if (run.length * run.threads.size > MOST_PLACES) return;
+  const texts = [Loft.pictureOf(layout, Loft.wholeView(layout, UNIT), "a run"), ...layout.links.map(Loft.linkSentence)];
+  const arrows = Loft.arrowsByLine(run);
+  for (const { lane, tracks } of layout.bands) {
+    for (const row of [-1, ...tracks.keys()]) {
+      for (let time = 0; time < run.length; time += 1) {
+        const { place, about, lines } = Loft.panelOf(layout, { lane, row, time }, arrows);
+        texts.push(place, about, ...lines.map(({ note }) => note));
+      }
+    }
+  }
+  if (texts.some((text) => /undefined|NaN|null/.test(text))) yield "a text or a number of its picture is missing";
+}
+
 /** A filter shows the threads that it names. */
 function* filters(run) {
   for (const thread of [...run.threads.values()].slice(0, 5)) {
@@ -83,7 +103,7 @@ export function tryRuns() {
   const reports = [...storedReports(), ...[1, 2, 300].map((count) => ({ name: `${count} instants`, text: longReport(count) }))];
   for (const { name, text } of reports) {
     const run = Loft.runOf(Loft.readReport(text));
-    const wrong = [...orders(run, text), ...threads(run, text), ...rows(run), ...filters(run)];
+    const wrong = [...orders(run, text), ...threads(run, text), ...rows(run), ...filters(run), ...drawn(run)];
     failures.push(...wrong.map((failure) => `${name}: ${failure}`));
   }
   failures.push(...noRuns());
