@@ -38,7 +38,7 @@ full() { timeout 60 "$program" "$@" > /dev/full; }
 answer_of_input() { cat "$source" | answer run /dev/stdin; }
 answer_of_pipe() {
     local ended=0
-    timeout 60 cp "$source" "$room/pipe" &
+    timeout 60 cp "$(input_of "$1")" "$room/pipe" &
     answer "$1" "$room/pipe" || ended=$?
     wait
     return "$ended"
@@ -51,14 +51,20 @@ printf 'ok\n' > "$room/ok"
 printf '#' > "$room/refused"
 mkfifo "$room/pipe"
 
-for command in run show check; do
-    wants "$command, the output is full" 6 full "$command" "$source"
+# The listing of the source, for `exec`.
+wants "compile" 0 answer compile "$source"
+mv "$room/answer" "$room/listing"
+input_of() { if [ "$1" = exec ]; then echo "$room/listing"; else echo "$source"; fi; }
+
+for command in run show check compile exec; do
+    wants "$command, the output is full" 6 full "$command" "$(input_of "$command")"
     wants "$command, a missing file" 5 answer "$command" "$room/missing"
     wrote "$command, a missing file" "$room/fault"
     wants "$command, a folder" 5 answer "$command" "$room"
     wrote "$command, a folder" "$room/fault"
 done
 wants "a refusal, the output is full" 6 full check "$room/refused"
+wants "a refusal of exec, the output is full" 6 full exec "$room/refused"
 wants "a missing file, the output is full" 6 full run "$room/missing"
 wants "no command, the output is full" 6 full
 
@@ -71,6 +77,9 @@ wants "a named pipe, check" 0 answer_of_pipe check
 wrote "a named pipe, check" "$room/ok"
 wants "a named pipe, show" 0 answer_of_pipe show
 wants "a named pipe, compile" 0 answer_of_pipe compile
+wrote "a named pipe, compile" "$room/listing"
+wants "a named pipe, exec" 0 answer_of_pipe exec
+wrote "a named pipe, exec" "$report"
 
 # A source of 4 MiB, one that has a byte more, and one of as many bytes that are no tokens.
 { cat "$source"; head -c 4194305 /dev/zero | tr '\0' ' '; } > "$room/blanks"
@@ -96,6 +105,15 @@ wants "an unknown option" 2 answer run "$source" --loud
 wrote "an unknown option" "$room/usage"
 wants "a file after --" 0 answer run -- "$source"
 wrote "a file after --" "$report"
+# A word that isn't UTF-8 is a word that no command has, wherever it stands.
+bad=$(printf '\377')
+wants "a command that isn't UTF-8" 2 answer "$bad"
+wrote "a command that isn't UTF-8" "$room/usage"
+wants "a file whose name isn't UTF-8" 2 answer run "$bad"
+wrote "a file whose name isn't UTF-8" "$room/usage"
+wants "an option that isn't UTF-8" 2 answer run "$source" "--$bad"
+wrote "an option that isn't UTF-8" "$room/usage"
+wants "a word that isn't UTF-8, the output is full" 6 full run "$bad"
 
 [ "$failed" = 1 ] || echo "$name: files, pipes and a full output are answered as docs/COMMANDS.md says"
 exit "$failed"

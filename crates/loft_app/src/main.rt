@@ -3,14 +3,19 @@
 
 use loft_base::{Failed, HostFiles, HostSink, OpenGate};
 use loft_top::{Status, loft_main};
+use std::io::ErrorKind;
 use std::process::ExitCode;
 use std::rt::Env;
 use std::{env, io};
 
-/// The words after the program's name.
+/// The words after the program's name; none where one isn't UTF-8, since no command has such a word.
 fn arguments<R: Env + AllocGlobal>(rt: &R) -> io::Result<Vec<String>> {
     let mut words = Vec::new(rt.alloc());
-    for word in env::args(rt)?.skip(1) {
+    let given = match env::args(rt) {
+        Err(error) if error.kind() == ErrorKind::InvalidData => return Ok(words),
+        given => given?,
+    };
+    for word in given.skip(1) {
         words.push(word)?;
     }
     Ok(words)
