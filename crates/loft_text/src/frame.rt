@@ -2,18 +2,19 @@
 
 ghost use Rattle.std.specs.Prelude.{◌++◌, codes};
 ghost use Rattle.std.specs.Fmt.{signed_decimal};
-ghost use Rattle.loft_text.specs.Buffer.{Adds};
+ghost use Rattle.loft_text.specs.Appending.{Appends};
 ghost use Rattle.loft_sense.specs.Text.{separated, value_text, frame_text};
 
-use crate::line::LineBuffer;
 use crate::text::{Item, push_module_name, push_separated};
+use crate::writer::TextWriter;
 use loft_base::Value;
 use loft_sense::Frame;
 use loft_tree::Heads;
 
 /// A frame.
-fn push_frame(line: &mut LineBuffer, heads: &Heads, frame: &Frame)
-    ensures { Adds line.old line.new (frame_text heads.now frame.now) }
+fn push_frame<W: TextWriter>(line: &mut W, heads: &Heads, frame: &Frame)
+    ensures { Appends W.is_whole W.kept W.extended line.old line.new
+        (frame_text heads.now frame.now) }
 {
     push_module_name(line, heads, frame.module);
     line.byte(b':');
@@ -27,8 +28,8 @@ fn push_frame(line: &mut LineBuffer, heads: &Heads, frame: &Frame)
 }
 
 /// What a frame keeps: its counts and its values.
-fn push_kept(line: &mut LineBuffer, heads: &Heads, counts: &[i64], values: &[Value])
-    ensures { Adds line.old line.new
+fn push_kept<W: TextWriter>(line: &mut W, heads: &Heads, counts: &[i64], values: &[Value])
+    ensures { Appends W.is_whole W.kept W.extended line.old line.new
         (codes "[" ++ (separated signed_decimal counts.now ++ (codes "]("
         ++ (separated (value_text heads.now) values.now ++ codes ")")))) }
 {
@@ -42,7 +43,7 @@ fn push_kept(line: &mut LineBuffer, heads: &Heads, counts: &[i64], values: &[Val
 impl Item for Frame {
     ghost text = { frame_text };
 
-    fn push_to(&self, line: &mut LineBuffer, heads: &Heads) {
+    fn push_to<W: TextWriter>(&self, line: &mut W, heads: &Heads) {
         push_frame(line, heads, self);
     }
 }

@@ -4,6 +4,7 @@ ghost use Rattle.std.specs.Prelude.{◌≡◌, ◌<◌, ◌+◌, ◌/◌, ◌%�
 ghost use Rattle.std.specs.Fmt.{decimal, signed_decimal};
 ghost use Rattle.loft_text.specs.Buffer.{Adds};
 
+use crate::writer::TextWriter;
 use loft_base::NoMemory;
 use loft_sense::Line;
 use std::alloc::Global;
@@ -165,4 +166,41 @@ impl LineBuffer {
         }
         self.number(number.unsigned_abs());
     }
+}
+
+impl TextWriter for LineBuffer {
+    ghost use Rattle.std.specs.Prelude.{ℕ, List, ◌++◌};
+    ghost use Rattle.std.proofs.Common.{sym, append-nil, append_assoc};
+
+    ghost Kept = { List ℕ };
+
+    ghost kept = { λ line. line.text.items };
+
+    ghost extended = { λ text bytes. text ++ bytes };
+
+    ghost is_whole = { λ line. line.is_whole };
+
+    fn bytes(&mut self, bytes: &[u8]) {
+        LineBuffer::bytes(self, bytes);
+    }
+
+    fn byte(&mut self, byte: u8) {
+        LineBuffer::byte(self, byte);
+    }
+
+    fn text(&mut self, text: &str) {
+        LineBuffer::text(self, text);
+    }
+
+    fn number(&mut self, number: u64) {
+        LineBuffer::number(self, number);
+    }
+
+    fn signed(&mut self, number: i64) {
+        LineBuffer::signed(self, number);
+    }
+
+    ghost nothing = { λ line. append-nil line.text.items };
+
+    ghost together = { λ text a b. sym (append_assoc text a b) };
 }

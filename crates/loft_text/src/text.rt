@@ -3,10 +3,10 @@
 ghost use Rattle.std.specs.Prelude.{◌++◌, ℕ, List};
 ghost use Rattle.std.specs.Fmt.{signed_decimal};
 ghost use Rattle.loft_tree.specs.declared.heads.Heads.{Heads};
-ghost use Rattle.loft_text.specs.Buffer.{Adds};
+ghost use Rattle.loft_text.specs.Appending.{Appends};
 ghost use Rattle.loft_sense.specs.Text.{client_name, separated_by, separated, name_at, scheduler_name, module_name, event_name, shared_name, maker_name, id_text, value_text, at_text, end_text};
 
-use crate::line::LineBuffer;
+use crate::writer::TextWriter;
 use loft_base::{EventId, Maker, ModuleId, SchedId, SharedId, ThreadId, Value};
 use loft_sense::{At, End};
 use loft_tree::{Heads, Name};
@@ -17,14 +17,15 @@ pub trait Item {
     ghost text: { Heads → Self → List ℕ };
 
     /// Appends its text to a line.
-    fn push_to(&self, line: &mut LineBuffer, heads: &Heads)
-        ensures { Adds line.old line.new (text heads.now self.now) };
+    fn push_to<W: TextWriter>(&self, line: &mut W, heads: &Heads)
+        ensures { Appends W.is_whole W.kept W.extended line.old line.new
+            (text heads.now self.now) };
 }
 
 impl Item for i64 {
     ghost text = { λ _ number. signed_decimal number };
 
-    fn push_to(&self, line: &mut LineBuffer, _heads: &Heads) {
+    fn push_to<W: TextWriter>(&self, line: &mut W, _heads: &Heads) {
         line.signed(*self);
     }
 }
@@ -32,7 +33,7 @@ impl Item for i64 {
 impl Item for EventId {
     ghost text = { event_name };
 
-    fn push_to(&self, line: &mut LineBuffer, heads: &Heads) {
+    fn push_to<W: TextWriter>(&self, line: &mut W, heads: &Heads) {
         push_event_name(line, heads, *self);
     }
 }
@@ -40,7 +41,7 @@ impl Item for EventId {
 impl Item for Value {
     ghost text = { value_text };
 
-    fn push_to(&self, line: &mut LineBuffer, heads: &Heads) {
+    fn push_to<W: TextWriter>(&self, line: &mut W, heads: &Heads) {
         match self {
             Value::Int(number) => line.signed(*number),
             Value::Thread(thread) => push_id(line, heads, *thread),
@@ -49,8 +50,14 @@ impl Item for Value {
 }
 
 /// The texts of items, with this text between each two.
-pub fn push_separated_by<T: Item>(line: &mut LineBuffer, heads: &Heads, between: &str, items: &[T])
-    ensures { Adds line.old line.new (separated_by between.now (T.text heads.now) items.now) }
+pub fn push_separated_by<T: Item, W: TextWriter>(
+    line: &mut W,
+    heads: &Heads,
+    between: &str,
+    items: &[T],
+)
+    ensures { Appends W.is_whole W.kept W.extended line.old line.new
+        (separated_by between.now (T.text heads.now) items.now) }
 {
     let [first, rest @ ..] = items else {
         return;
@@ -63,15 +70,16 @@ pub fn push_separated_by<T: Item>(line: &mut LineBuffer, heads: &Heads, between:
 }
 
 /// The texts of items, with a comma between each two.
-pub fn push_separated<T: Item>(line: &mut LineBuffer, heads: &Heads, items: &[T])
-    ensures { Adds line.old line.new (separated (T.text heads.now) items.now) }
+pub fn push_separated<T: Item, W: TextWriter>(line: &mut W, heads: &Heads, items: &[T])
+    ensures { Appends W.is_whole W.kept W.extended line.old line.new
+        (separated (T.text heads.now) items.now) }
 {
     push_separated_by(line, heads, ",", items);
 }
 
 /// The name with this number, and nothing where there is none.
-pub fn push_name_at(line: &mut LineBuffer, names: &[Name], number: u32)
-    ensures { Adds line.old line.new (name_at names.now number) }
+pub fn push_name_at<W: TextWriter>(line: &mut W, names: &[Name], number: u32)
+    ensures { Appends W.is_whole W.kept W.extended line.old line.new (name_at names.now number) }
 {
     match names.get(number as usize) {
         Some(name) => line.bytes(name.as_slice()),
@@ -80,15 +88,16 @@ pub fn push_name_at(line: &mut LineBuffer, names: &[Name], number: u32)
 }
 
 /// The name of a scheduler.
-pub fn push_scheduler_name(line: &mut LineBuffer, heads: &Heads, s: SchedId)
-    ensures { Adds line.old line.new (scheduler_name heads.now s) }
+pub fn push_scheduler_name<W: TextWriter>(line: &mut W, heads: &Heads, s: SchedId)
+    ensures { Appends W.is_whole W.kept W.extended line.old line.new (scheduler_name heads.now s) }
 {
     push_name_at(line, heads.schedulers.as_slice(), s.0);
 }
 
 /// The name of a module, and nothing where there is none.
-pub fn push_module_name(line: &mut LineBuffer, heads: &Heads, module: ModuleId)
-    ensures { Adds line.old line.new (module_name heads.now «module») }
+pub fn push_module_name<W: TextWriter>(line: &mut W, heads: &Heads, module: ModuleId)
+    ensures { Appends W.is_whole W.kept W.extended line.old line.new
+        (module_name heads.now «module») }
 {
     match heads.modules.as_slice().get(module.0 as usize) {
         Some(signature) => line.bytes(signature.name.as_slice()),
@@ -97,8 +106,8 @@ pub fn push_module_name(line: &mut LineBuffer, heads: &Heads, module: ModuleId)
 }
 
 /// The name of an event, and nothing where there is none.
-pub fn push_event_name(line: &mut LineBuffer, heads: &Heads, event: EventId)
-    ensures { Adds line.old line.new (event_name heads.now event) }
+pub fn push_event_name<W: TextWriter>(line: &mut W, heads: &Heads, event: EventId)
+    ensures { Appends W.is_whole W.kept W.extended line.old line.new (event_name heads.now event) }
 {
     match heads.events.as_slice().get(event.0 as usize) {
         Some(head) => line.bytes(head.name.as_slice()),
@@ -107,8 +116,9 @@ pub fn push_event_name(line: &mut LineBuffer, heads: &Heads, event: EventId)
 }
 
 /// The name of a shared variable, and nothing where there is none.
-pub fn push_shared_name(line: &mut LineBuffer, heads: &Heads, shared: SharedId)
-    ensures { Adds line.old line.new (shared_name heads.now shared) }
+pub fn push_shared_name<W: TextWriter>(line: &mut W, heads: &Heads, shared: SharedId)
+    ensures { Appends W.is_whole W.kept W.extended line.old line.new
+        (shared_name heads.now shared) }
 {
     match heads.shared.as_slice().get(shared.0 as usize) {
         Some(head) => line.bytes(head.name.as_slice()),
@@ -117,8 +127,9 @@ pub fn push_shared_name(line: &mut LineBuffer, heads: &Heads, shared: SharedId)
 }
 
 /// The name of a client, and nothing where there is none.
-pub fn push_client_name(line: &mut LineBuffer, heads: &Heads, client: u32)
-    ensures { Adds line.old line.new (client_name heads.now client) }
+pub fn push_client_name<W: TextWriter>(line: &mut W, heads: &Heads, client: u32)
+    ensures { Appends W.is_whole W.kept W.extended line.old line.new
+        (client_name heads.now client) }
 {
     match heads.clients.as_slice().get(client as usize) {
         Some(head) => line.bytes(head.name.as_slice()),
@@ -127,8 +138,8 @@ pub fn push_client_name(line: &mut LineBuffer, heads: &Heads, client: u32)
 }
 
 /// Who made a thread.
-fn push_maker(line: &mut LineBuffer, heads: &Heads, maker: Maker)
-    ensures { Adds line.old line.new (maker_name heads.now maker) }
+fn push_maker<W: TextWriter>(line: &mut W, heads: &Heads, maker: Maker)
+    ensures { Appends W.is_whole W.kept W.extended line.old line.new (maker_name heads.now maker) }
 {
     match maker {
         Maker::Source => line.text("start"),
@@ -138,8 +149,8 @@ fn push_maker(line: &mut LineBuffer, heads: &Heads, maker: Maker)
 }
 
 /// The name of a thread.
-pub fn push_id(line: &mut LineBuffer, heads: &Heads, thread: ThreadId)
-    ensures { Adds line.old line.new (id_text heads.now thread) }
+pub fn push_id<W: TextWriter>(line: &mut W, heads: &Heads, thread: ThreadId)
+    ensures { Appends W.is_whole W.kept W.extended line.old line.new (id_text heads.now thread) }
 {
     push_maker(line, heads, thread.maker);
     line.byte(b'.');
@@ -147,8 +158,8 @@ pub fn push_id(line: &mut LineBuffer, heads: &Heads, thread: ThreadId)
 }
 
 /// A point in a program.
-fn push_at(line: &mut LineBuffer, heads: &Heads, at: At)
-    ensures { Adds line.old line.new (at_text heads.now at) }
+fn push_at<W: TextWriter>(line: &mut W, heads: &Heads, at: At)
+    ensures { Appends W.is_whole W.kept W.extended line.old line.new (at_text heads.now at) }
 {
     push_module_name(line, heads, at.module);
     line.byte(b':');
@@ -156,8 +167,8 @@ fn push_at(line: &mut LineBuffer, heads: &Heads, at: At)
 }
 
 /// How a thread ended.
-pub fn push_end(line: &mut LineBuffer, heads: &Heads, end: End)
-    ensures { Adds line.old line.new (end_text heads.now end) }
+pub fn push_end<W: TextWriter>(line: &mut W, heads: &Heads, end: End)
+    ensures { Appends W.is_whole W.kept W.extended line.old line.new (end_text heads.now end) }
 {
     match end {
         End::Done => line.text("done"),
@@ -171,8 +182,9 @@ pub fn push_end(line: &mut LineBuffer, heads: &Heads, end: End)
 }
 
 /// A word, and a point in a program.
-fn push_reason(line: &mut LineBuffer, heads: &Heads, word: &str, at: At)
-    ensures { Adds line.old line.new (word.now ++ at_text heads.now at) }
+fn push_reason<W: TextWriter>(line: &mut W, heads: &Heads, word: &str, at: At)
+    ensures { Appends W.is_whole W.kept W.extended line.old line.new
+        (word.now ++ at_text heads.now at) }
 {
     line.text(word);
     push_at(line, heads, at);

@@ -1,0 +1,4 @@
+pub mod Appended
+pub mod EndLemmas
+pub mod InstantLemmas
+pub mod Lists
