@@ -24,7 +24,7 @@ use Rattle.loft_turns.proofs.RoundLemmas.{moved_not, moved_some, sum_same, less_
 as_left : (x : Prog) (o : RunOptions) (h : List Entry) (e : Entry) → IsWork e → left x o (h ++ e ∷ []) ≡ left x o h
 as_left x o h e work =
     let instants = sum_same (instants_left x o h) (instants_left x o (h ++ e ∷ [])) 0 (length (heads x).schedulers)
-    (λ j later. ap (λ (q : Stand). o.limits.instants - q.machine.number) (sym (work_stands x o h e work j))) in
+    (λ j later. ap (λ (q : Stand). o.limits.instants - q.machine.tally.number) (sym (work_stands x o h e work j))) in
     let orders = sum_same (orders_unsent x h) (orders_unsent x (h ++ e ∷ [])) 0 (length (heads x).clients) (λ k later. ap length ((work_clients x h e work).unsent k)) in
     omega (arith, instants, orders)
 

@@ -1,6 +1,6 @@
 -- What a turn and an order leave of a run.
 use Rattle.std.proofs.Common.{◌≡◌, ◌≢◌, ℕ, zero, suc, ◌+◌, ◌-◌, ◌<◌, ◌≤◌, ◌==◌, Bool, true, false, List, [], ◌∷◌, ◌++◌, length, refl, sym, ◌∙◌, ap, subst, arith, Option, Some, None, ◌||◌, ◌⊎◌, inl, inr, sum_by, eq-eqb, Result, Ok, Err}
-use Rattle.std.proofs.lemmas.Bool.{eqb-true, eqb-false, lt-ltb, ltb-true, ltb-false, leb-false}
+use Rattle.std.proofs.lemmas.Bool.{eqb-true, eqb-false, lt-ltb, ltb-true, ltb-false}
 use Rattle.std.proofs.lemmas.List.Sums.{sum_by-cons, fold-append}
 use Rattle.std.specs.List.{range_with_len}
 use Rattle.std.specs.Prelude.{if◌then◌else◌, not, ◌&&◌, nat_lt, drop, MatchOption, OnOk, IfOk}
@@ -13,6 +13,7 @@ use Rattle.loft_sense.specs.declared.order.Sent.{Sent}
 use Rattle.loft_sense.specs.Heads.{same_scheduler}
 use Rattle.loft_sense.specs.Machine.{Prog, heads}
 use Rattle.loft_sense.specs.Rest.{is_spent}
+use Rattle.loft_sense.proofs.TallyLemmas.{unspent_number}
 use Rattle.loft_sense.specs.Instant.{Replayed, replay}
 use Rattle.loft_history.specs.History.{Choice, TakeBy, GiveBy, ClientBy, in_instant, is_open, jobs, left_of, unsent, replayed, has_turn, waiting, sent_last, entry_of_first, pick_of, entry_of, HasEnded, instant_step, left_step, unsent_step}
 use Rattle.loft_sense.proofs.AroundLemmas.{instant_number}
@@ -116,17 +117,17 @@ all_rest x o h s batch sent rest = record {
 }
 
 number_after : (x : Prog) (o : RunOptions) (h : List Entry) (s : SchedId) (batch : List Order) (sent : List Sent)
-    → (replayed x o.limits s (turned h s batch sent)).machine.number ≡ (replayed x o.limits s h).machine.number + 1
+    → (replayed x o.limits s (turned h s batch sent)).machine.tally.number ≡ (replayed x o.limits s h).machine.tally.number + 1
 number_after x o h s batch sent =
-    ap (λ (l : List (List Order)). (replay x o.limits s l).machine.number) (log_given s (h ++ Take s batch ∷ []) sent)
-    ∙ (ap (λ (r : Replayed). r.machine.number) (replayed_taken x o.limits s h batch)
+    ap (λ (l : List (List Order)). (replay x o.limits s l).machine.tally.number) (log_given s (h ++ Take s batch ∷ []) sent)
+    ∙ (ap (λ (r : Replayed). r.machine.tally.number) (replayed_taken x o.limits s h batch)
     ∙ instant_number x o.limits (replayed x o.limits s h).machine batch)
 
 others_left : (x : Prog) (o : RunOptions) (h : List Entry) (s : SchedId) (batch : List Order) (sent : List Sent) (j : ℕ) → j ≢ s.0 → instants_left x o (turned h s batch sent) j ≡ instants_left x o h j
 others_left x o h s batch sent j other =
     let early = other_stands x o h (Take s batch) s refl j other in
     let late = other_stands x o (h ++ Take s batch ∷ []) (Give s sent) s refl j other in
-    ap (λ (q : Stand). o.limits.instants - q.machine.number) (sym (early ∙ late))
+    ap (λ (q : Stand). o.limits.instants - q.machine.tally.number) (sym (early ∙ late))
 
 orders_same : (x : Prog) (h : List Entry) (s : SchedId) (batch : List Order) (sent : List Sent) (k : ℕ) → orders_unsent x (turned h s batch sent) k ≡ orders_unsent x h k
 orders_same x h s batch sent k =
@@ -142,9 +143,9 @@ unspent_turn true rest e = cc
 less_after : (x : Prog) (o : RunOptions) (h : List Entry) (s : SchedId) (batch : List Order) (sent : List Sent) → s.0 < length (heads x).schedulers
     → has_turn x o.limits (replayed x o.limits s h).machine (waiting (heads x) s h) ≡ true → left x o (turned h s batch sent) < left x o h
 less_after x o h s batch sent declared turn =
-    let below : (replayed x o.limits s h).machine.number < o.limits.instants = leb-false o.limits.instants (replayed x o.limits s h).machine.number (unspent_turn (is_spent x o.limits (replayed x o.limits s h).machine) _ turn) in
+    let below : (replayed x o.limits s h).machine.tally.number < o.limits.instants = unspent_number x o.limits (replayed x o.limits s h).machine (unspent_turn (is_spent x o.limits (replayed x o.limits s h).machine) _ turn) in
     let instants = sum_less (instants_left x o h) (instants_left x o (turned h s batch sent)) (length (heads x).schedulers) s.0 declared (others_left x o h s batch sent)
-    (less_by_one o.limits.instants (replayed x o.limits s h).machine.number _ below (number_after x o h s batch sent)) in
+    (less_by_one o.limits.instants (replayed x o.limits s h).machine.tally.number _ below (number_after x o h s batch sent)) in
     let orders = sum_same (orders_unsent x h) (orders_unsent x (turned h s batch sent)) 0 (length (heads x).clients) (λ k later. orders_same x h s batch sent k) in
     omega (arith, instants, orders)
 
@@ -195,7 +196,7 @@ fewer_orders x h c m rest all =
     omega (arith, now, before)
 
 same_number : (x : Prog) (o : RunOptions) (h : List Entry) (c : ℕ) (m : Sent) (j : ℕ) → instants_left x o (h ++ Client c m ∷ []) j ≡ instants_left x o h j
-same_number x o h c m j = ap (λ (q : Stand). o.limits.instants - q.machine.number) (sym (stands_still x o h c m j))
+same_number x o h c m j = ap (λ (q : Stand). o.limits.instants - q.machine.tally.number) (sym (stands_still x o h c m j))
 
 less_by_order : (x : Prog) (o : RunOptions) (h : List Entry) (c : ℕ) (m : Sent) (rest : List Sent) → unsent (heads x) c h ≡ m ∷ rest → left x o (h ++ Client c m ∷ []) < left x o h
 less_by_order x o h c m rest all =

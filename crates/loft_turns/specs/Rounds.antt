@@ -10,7 +10,7 @@ use Rattle.loft_sense.specs.Heads.{scheduler}
 
 -- the instants that the scheduler of this index may still make
 abbrev pub instants_left : Prog → RunOptions → List Entry → ℕ → ℕ
-instants_left x o h k = o.limits.instants - (replayed x o.limits (scheduler k) h).machine.number
+instants_left x o h k = o.limits.instants - (replayed x o.limits (scheduler k) h).machine.tally.number
 
 -- the orders that a client has still to give
 abbrev pub orders_unsent : Prog → List Entry → ℕ → ℕ
