@@ -4,7 +4,7 @@ ghost use Rattle.std.specs.Prelude.{◌++◌, ℕ, List, codes};
 ghost use Rattle.loft_text.specs.Appending.{Appends};
 ghost use Rattle.loft_tree.specs.declared.heads.Heads.{Heads};
 ghost use Rattle.loft_sense.specs.Text.{space, event_name, sent_value, id_text, order_text};
-ghost use Rattle.loft_sense.specs.Lines.{end_line, mark_word, to_text, act_line, at_line, shared_line};
+ghost use Rattle.loft_sense.specs.Lines.{end_line, mark_word, receiver_name, leave_place, act_line, at_line, shared_line};
 
 use crate::order_text::{push_order, push_sent_value};
 use crate::thread_text::push_thread;
@@ -46,13 +46,23 @@ pub fn push_order_line<W: TextWriter>(line: &mut W, heads: &Heads, mark: Mark, o
     push_order(line, heads, order);
 }
 
-/// Where an order goes.
-fn push_to<W: TextWriter>(line: &mut W, heads: &Heads, to: To)
-    ensures { Appends W.is_whole W.kept W.extended line.old line.new (to_text heads.now to) }
+/// The name of the scheduler to which an order goes, and nothing where it goes elsewhere.
+fn push_receiver_name<W: TextWriter>(line: &mut W, heads: &Heads, to: To)
+    ensures { Appends W.is_whole W.kept W.extended line.old line.new (receiver_name heads.now to) }
 {
     match to {
         To::Sched(s) => push_scheduler_name(line, heads, s),
-        To::Others(_) | To::All => line.text(""),
+        To::Others(_) | To::All | To::Workers => {}
+    }
+}
+
+/// Where a thread goes that leaves.
+fn push_leave_place<W: TextWriter>(line: &mut W, heads: &Heads, to: To)
+    ensures { Appends W.is_whole W.kept W.extended line.old line.new (leave_place heads.now to) }
+{
+    match to {
+        To::Sched(s) => push_scheduler_name(line, heads, s),
+        To::Others(_) | To::All => {}
         To::Workers => line.text("unlinked"),
     }
 }
@@ -90,13 +100,13 @@ fn push_event_line<W: TextWriter>(
 /// An order that a thread sent.
 fn push_sent_line<W: TextWriter>(line: &mut W, heads: &Heads, thread: ThreadId, sent: &Sent)
     ensures { Appends W.is_whole W.kept W.extended line.old line.new
-        (codes "out " ++ (id_text heads.now thread ++ (space ++ (to_text heads.now sent.now.to
+        (codes "out " ++ (id_text heads.now thread ++ (space ++ (receiver_name heads.now sent.now.to
         ++ (space ++ order_text heads.now sent.now.order))))) }
 {
     line.text("out ");
     push_id(line, heads, thread);
     line.byte(b' ');
-    push_to(line, heads, sent.to);
+    push_receiver_name(line, heads, sent.to);
     line.byte(b' ');
     push_order(line, heads, &sent.order);
 }
@@ -104,12 +114,12 @@ fn push_sent_line<W: TextWriter>(line: &mut W, heads: &Heads, thread: ThreadId, 
 /// A thread that leaves.
 pub fn push_leave_line<W: TextWriter>(line: &mut W, heads: &Heads, thread: ThreadId, to: To)
     ensures { Appends W.is_whole W.kept W.extended line.old line.new
-        (codes "leave " ++ (id_text heads.now thread ++ (space ++ to_text heads.now to))) }
+        (codes "leave " ++ (id_text heads.now thread ++ (space ++ leave_place heads.now to))) }
 {
     line.text("leave ");
     push_id(line, heads, thread);
     line.byte(b' ');
-    push_to(line, heads, to);
+    push_leave_place(line, heads, to);
 }
 
 /// What has a line of its own in an instant.

@@ -20,7 +20,7 @@ use Rattle.loft_sense.specs.declared.note.Ended.{Ended}
 use Rattle.loft_sense.specs.Heads.{scheduler, shared_from}
 use Rattle.loft_history.specs.History.{choice_of, log, waiting}
 use Rattle.loft_sense.specs.Text.{space, name_of_shared, id_text, order_text}
-use Rattle.loft_sense.specs.Lines.{text_of, end_line, mark_word, ends_at, batch_lines, leave_line, leave_lines, to_text, instant_lines}
+use Rattle.loft_sense.specs.Lines.{text_of, end_line, mark_word, ends_at, batch_lines, leave_line, leave_lines, leave_place, instant_lines}
 use Rattle.loft_history.specs.Report.{choice_line, instants_lines, shared_lines, left_line, schedulers_from}
 use Rattle.loft_sense.specs.declared.entry.Entry.{Entry}
 use Rattle.loft_sense.specs.declared.note.FinalState.{FinalState}
@@ -42,11 +42,11 @@ pub end-written : (h : Heads) (k : ℕ) (e : Ended) → e.index ≡ k → text_o
 end-written h k e is = ap (λ b. text_of (if b then end_line h e.thread e.end ∷ [] else [])) (eq-eqb e.index k is) ∙ text_of-one (end_line h e.thread e.end)
 
 -- the thread that an order moves
-pub leaver-written : (h : Heads) (to : To) (o : Order) (t read : Thread) → o ≡ Arrive t → read ≡ t → text_of (leave_line h to o) ≡ (codes "leave " ++ (id_text h read.id ++ (space ++ to_text h to))) ++ 10 ∷ []
+pub leaver-written : (h : Heads) (to : To) (o : Order) (t read : Thread) → o ≡ Arrive t → read ≡ t → text_of (leave_line h to o) ≡ (codes "leave " ++ (id_text h read.id ++ (space ++ leave_place h to))) ++ 10 ∷ []
 leaver-written h to o t read is same =
     ap (λ x. text_of (leave_line h to x)) is
-    ∙ (text_of-one (codes "leave " ++ (id_text h t.id ++ (space ++ to_text h to)))
-    ∙ ap (λ r. (codes "leave " ++ (id_text h r.id ++ (space ++ to_text h to))) ++ 10 ∷ []) (sym same))
+    ∙ (text_of-one (codes "leave " ++ (id_text h t.id ++ (space ++ leave_place h to)))
+    ∙ ap (λ r. (codes "leave " ++ (id_text h r.id ++ (space ++ leave_place h to))) ++ 10 ∷ []) (sym same))
 
 -- the element at an index is the same, whatever stands for one past the end
 same_at : {A : Type 0} (xs : List A) (i : ℕ) (d e : A) → i < length xs → get_or xs i d ≡ get_or xs i e
@@ -170,6 +170,12 @@ batch-from h stopped os ms k o d in_orders is_order in_marks =
     ap (λ xs. text_of (batch_lines h stopped k xs (drop k ms))) (drop-at os k o in_orders is_order)
     ∙ ap (λ ys. text_of (batch_lines h stopped k (o ∷ drop (k + 1) os) ys)) (drop-at ms k (get_or ms k d) in_marks (same_at ms k d (get_or ms k d) in_marks))
     ∙ text_of-append ((mark_word (get_or ms k d) ++ order_text h o) ∷ ends_at h k stopped) (batch_lines h stopped (k + 1) (drop (k + 1) os) (drop (k + 1) ms))
+
+-- the same, where the ends of this order stand in another list too
+pub batch-written : (h : Heads) (stopped here : List Ended) (os : List Order) (ms : List Mark) (k : ℕ) (o : Order) (d : Mark) → k < length os → o ≡ get_or os k o → k < length ms → ends_at h k here ≡ ends_at h k stopped → text_of (batch_lines h stopped k (drop k os) (drop k ms)) ≡ text_of ((mark_word (get_or ms k d) ++ order_text h o) ∷ ends_at h k here) ++ text_of (batch_lines h stopped (k + 1) (drop (k + 1) os) (drop (k + 1) ms))
+batch-written h stopped here os ms k o d in_orders is_order in_marks same =
+    batch-from h stopped os ms k o d in_orders is_order in_marks
+    ∙ ap (λ ends. text_of ((mark_word (get_or ms k d) ++ order_text h o) ∷ ends) ++ text_of (batch_lines h stopped (k + 1) (drop (k + 1) os) (drop (k + 1) ms))) (sym same)
 
 batch-none : (h : Heads) (stopped : List Ended) (k : ℕ) (os : List Order) (ms : List Mark) → min (length os) (length ms) ≡ 0 → batch_lines h stopped k os ms ≡ []
 batch-none h stopped k [] ms none = refl

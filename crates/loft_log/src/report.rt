@@ -4,8 +4,6 @@ mod history;
 mod instants;
 mod left;
 mod lines;
-mod order_text;
-mod thread_text;
 
 ghost use Rattle.std.specs.Prelude.{◌≡◌, ◌≤◌, ◌++◌, [], ◌∷◌, ℕ, List, map, OnOk, OnErr, IfOk, IsErrOf};
 ghost use Rattle.std.specs.Fmt.{decimal};
@@ -14,16 +12,18 @@ ghost use Rattle.loft_sense.specs.Heads.{scheduler, shared_of};
 ghost use Rattle.loft_history.specs.History.{choice_of};
 ghost use Rattle.loft_sense.specs.Text.{scheduler_name};
 ghost use Rattle.loft_sense.specs.Lines.{text_of};
-ghost use Rattle.loft_history.specs.Report.{head_lines, shared_lines, final_lines, schedulers_from};
+ghost use Rattle.loft_history.specs.Report.{head_lines, standing_line, shared_lines, final_lines, schedulers_from};
 ghost use Rattle.loft_text.specs.Buffer.{Holds};
 ghost use Rattle.loft_log.specs.WorldReport.{world_block, world_blocks, world_report};
 ghost use Rattle.loft_base.specs.Writing.{WritesTo};
 
 use self::lines::{
-    InOneLine, make_number_line, make_scheduler_line, make_text_line, make_value_line,
+    make_line, make_number_line, make_scheduler_line, make_standing_line, make_text_line,
+    make_value_line,
 };
 use loft_base::{NoMemory, SchedId, Sink, WriteError, write_piece};
-use loft_sense::{FinalState, InstantNote, RunOptions};
+use loft_instant_text::InOneLine;
+use loft_sense::{FinalState, InstantNote, RunOptions, Standing};
 use loft_text::LineBuffer;
 use loft_tree::Heads;
 use loft_world::{Finals, NoteList, Notes, World};
@@ -168,7 +168,7 @@ impl ReportWriter<'_> {
     {
         let linked = last.linked.as_slice();
         self.write_number("state ", linked.len() as u64, line, sink)?;
-        self.write_lines(linked, line, sink)?;
+        self.write_standings(linked, line, sink)?;
         self.write_shared(s, last.shared.as_slice(), line, sink)
     }
 
@@ -209,7 +209,24 @@ impl ReportWriter<'_> {
             (text_of (map (T.text self.now.heads.now) items.now)) }
     {
         for item in items {
-            item.make_line(line, self.heads);
+            make_line(line, self.heads, item);
+            write_line(line, sink)?;
+        }
+        Ok(())
+    }
+
+    /// Writes a line for each thread that is linked in the end.
+    fn write_standings<S: Sink>(
+        &self,
+        linked: &[Standing],
+        line: &mut LineBuffer,
+        sink: &mut S,
+    ) -> Result<(), WriteError>
+        ensures { WritesTo S.written S.faults sink.old sink.new result
+            (text_of (map (standing_line self.now.heads.now) linked.now)) }
+    {
+        for standing in linked {
+            make_standing_line(line, self.heads, standing);
             write_line(line, sink)?;
         }
         Ok(())

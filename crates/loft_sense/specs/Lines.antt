@@ -44,22 +44,29 @@ batch_lines h stopped k [] marks = []
 batch_lines h stopped k (o ∷ os) [] = []
 batch_lines h stopped k (o ∷ os) (m ∷ marks) = (mark_word m ++ order_text h o) ∷ ends_at h k stopped ++ batch_lines h stopped (k + 1) os marks
 
--- where an order goes
-abbrev pub to_text : Heads → To → List ℕ
-to_text h (to.Sched s) = scheduler_name h s
-to_text h (to.Others s) = []
-to_text h to.All = []
-to_text h to.Workers = codes "unlinked"
+-- the name of the scheduler to which an order goes, and nothing where it goes elsewhere
+abbrev pub receiver_name : Heads → To → List ℕ
+receiver_name h (to.Sched s) = scheduler_name h s
+receiver_name h (to.Others s) = []
+receiver_name h to.All = []
+receiver_name h to.Workers = []
+
+-- where a thread goes that leaves: to a scheduler, or to the workers
+abbrev pub leave_place : Heads → To → List ℕ
+leave_place h (to.Sched s) = scheduler_name h s
+leave_place h (to.Others s) = []
+leave_place h to.All = []
+leave_place h to.Workers = codes "unlinked"
 
 abbrev pub act_line : Heads → Act → List ℕ
 act_line h (act.Print t line) = codes "print " ++ (id_text h t ++ (space ++ line))
 act_line h (act.Gen t event value) = codes "gen " ++ (id_text h t ++ (space ++ (event_name h event ++ sent_value value)))
-act_line h (act.Out t sent) = codes "out " ++ (id_text h t ++ (space ++ (to_text h sent.to ++ (space ++ order_text h sent.order))))
+act_line h (act.Out t sent) = codes "out " ++ (id_text h t ++ (space ++ (receiver_name h sent.to ++ (space ++ order_text h sent.order))))
 act_line h (act.End t end) = end_line h t end
 
 -- a thread that leaves
 abbrev pub leave_line : Heads → To → Order → List (List ℕ)
-leave_line h to (order.Arrive t) = (codes "leave " ++ (id_text h t.id ++ (space ++ to_text h to))) ∷ []
+leave_line h to (order.Arrive t) = (codes "leave " ++ (id_text h t.id ++ (space ++ leave_place h to))) ∷ []
 leave_line h to (order.Create t m args) = []
 leave_line h to (order.Stop t) = []
 leave_line h to (order.Suspend t) = []

@@ -11,6 +11,7 @@ use super::history::batch_of;
 use super::lines::{make_end_line, make_leaver_line, make_order_line};
 use super::{ReportWriter, write_line};
 use loft_base::{SchedId, Sink, WriteError};
+use loft_instant_text::{are_in_order, ends_from};
 use loft_sense::{Ended, InstantNote, Mark, Order, Sent};
 use loft_text::LineBuffer;
 use loft_world::World;
@@ -78,16 +79,20 @@ impl ReportWriter<'_> {
         ensures { WritesTo S.written S.faults sink.old sink.new result
             (text_of (batch_lines self.now.heads.now stopped.now 0 batch.now marks.now)) }
     {
+        let in_order = are_in_order(stopped);
+        let mut left = stopped;
         for index in 0..batch.len().min(marks.len()) {
-            self.write_order(stopped, index, &batch[index], marks[index], line, sink)?;
+            let (here, rest) = ends_from(index as u64, left, in_order);
+            self.write_order(here, index, &batch[index], marks[index], line, sink)?;
+            left = rest;
         }
         Ok(())
     }
 
-    /// Writes an order of a batch and the ends that it made.
+    /// Writes an order of a batch and the ends that it made, which are among these.
     fn write_order<S: Sink>(
         &self,
-        stopped: &[Ended],
+        ends: &[Ended],
         index: usize,
         order: &Order,
         mark: Mark,
@@ -95,25 +100,25 @@ impl ReportWriter<'_> {
         sink: &mut S,
     ) -> Result<(), WriteError>
         ensures { WritesTo S.written S.faults sink.old sink.new result
-            (text_of ((mark_word mark ++ order_text self.now.heads.now order.now) ∷ ends_at self.now.heads.now index stopped.now)) }
+            (text_of ((mark_word mark ++ order_text self.now.heads.now order.now) ∷ ends_at self.now.heads.now index ends.now)) }
     {
         make_order_line(line, self.heads, mark, order);
         write_line(line, sink)?;
-        self.write_ends(index as u64, stopped, line, sink)
+        self.write_ends(index as u64, ends, line, sink)
     }
 
-    /// Writes the ends that an order of a batch made.
+    /// Writes the ends among these that an order of a batch made.
     fn write_ends<S: Sink>(
         &self,
         index: u64,
-        stopped: &[Ended],
+        ends: &[Ended],
         line: &mut LineBuffer,
         sink: &mut S,
     ) -> Result<(), WriteError>
         ensures { WritesTo S.written S.faults sink.old sink.new result
-            (text_of (ends_at self.now.heads.now index stopped.now)) }
+            (text_of (ends_at self.now.heads.now index ends.now)) }
     {
-        for ended in stopped {
+        for ended in ends {
             self.write_end_at(index, *ended, line, sink)?;
         }
         Ok(())

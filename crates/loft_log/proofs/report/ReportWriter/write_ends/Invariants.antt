@@ -7,5 +7,5 @@ use Rattle.loft_log.proofs.report.ReportWriter.write_ends.Given as goal
 abbrev pub invariant-loop-ended : goal.invariant-loop-ended
 invariant-loop-ended g l =
     Going (g.S.Sink.written l.initial.sink) (g.S.Sink.written l.sink) (g.S.Sink.faults l.initial.sink) (g.S.Sink.faults l.sink)
-    (text_of (ends_at l.self.heads.now l.index (drop l.ended-index l.stopped)))
-    (text_of (ends_at l.self.heads.now l.index l.stopped))
+    (text_of (ends_at l.self.heads.now l.index (drop l.ended-index l.ends)))
+    (text_of (ends_at l.self.heads.now l.index l.ends))

@@ -10,11 +10,11 @@ returns-in_err-write_number g c =
     let is : c.from_residual.result ≡ Err c.in_err-write_number.field-0.0 = rw (p.1, p.2) refl in
     fails _ is (rw c.as_slice-linked.ensures at c.in_err-write_number.ensures) (begins _ _ _)
 
-pub returns-in_err-write_lines : goal.returns-in_err-write_lines
-returns-in_err-write_lines g c =
-    let p = err_from_is_err_and c.from_residual-in_err-write_lines.result c.from_residual-in_err-write_lines.ensures.1 in
-    let is : c.from_residual-in_err-write_lines.result ≡ Err c.in_err-write_lines.field-0.0 = rw (p.1, p.2) refl in
-    fails _ is (rw c.as_slice-linked.ensures at c.in_err-write_lines.ensures) (rest_is (text_of-append _ _) (goes_on _ (rw c.as_slice-linked.ensures at c.in_ok-write_number.ensures) (begins _ _ _)))
+pub returns-in_err-write_standings : goal.returns-in_err-write_standings
+returns-in_err-write_standings g c =
+    let p = err_from_is_err_and c.from_residual-in_err-write_standings.result c.from_residual-in_err-write_standings.ensures.1 in
+    let is : c.from_residual-in_err-write_standings.result ≡ Err c.in_err-write_standings.field-0.0 = rw (p.1, p.2) refl in
+    fails _ is (rw c.as_slice-linked.ensures at c.in_err-write_standings.ensures) (rest_is (text_of-append _ _) (goes_on _ (rw c.as_slice-linked.ensures at c.in_ok-write_number.ensures) (begins _ _ _)))
 
 pub returns : goal.returns
-returns g c = closes (rw c.as_slice.ensures at c.write_shared.ensures) (goes_on _ (rw c.as_slice-linked.ensures at c.in_ok-write_lines.ensures) (rest_is (text_of-append _ _) (goes_on _ (rw c.as_slice-linked.ensures at c.in_ok-write_number.ensures) (begins _ _ _))))
+returns g c = closes (rw c.as_slice.ensures at c.write_shared.ensures) (goes_on _ (rw c.as_slice-linked.ensures at c.in_ok-write_standings.ensures) (rest_is (text_of-append _ _) (goes_on _ (rw c.as_slice-linked.ensures at c.in_ok-write_number.ensures) (begins _ _ _))))
