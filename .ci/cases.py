@@ -27,7 +27,7 @@ import sys
 import tempfile
 
 TOP = pathlib.Path(__file__).resolve().parent.parent
-COMMANDS = ["run", "show", "check", "compile", "exec"]
+COMMANDS = ["run", "show", "check", "compile", "bound", "exec"]
 WORDS = TOP / "cases/words"
 TABLE = WORDS / "words.tsv"
 HISTORIES = TOP / "cases/history"

@@ -80,6 +80,7 @@ wants "a named pipe, compile" 0 answer_of_pipe compile
 wrote "a named pipe, compile" "$room/listing"
 wants "a named pipe, exec" 0 answer_of_pipe exec
 wrote "a named pipe, exec" "$report"
+wants "a named pipe, bound" 0 answer_of_pipe bound
 
 # A source of 4 MiB, one that has a byte more, and one of as many bytes that are no tokens.
 { cat "$source"; head -c 4194305 /dev/zero | tr '\0' ' '; } > "$room/blanks"
@@ -88,6 +89,22 @@ head -c 4194305 "$room/blanks" > "$room/longer"
 head -c 4194305 /dev/zero > "$room/zeros"
 wants "4 MiB" 0 answer check "$room/long"
 wrote "4 MiB" "$room/ok"
+# 256 modules in nearly 4 MiB, each of which runs the next one; in the second source the last runs the first.
+modules() {
+    awk -v last="$1" 'BEGIN {
+        print "scheduler A;"
+        for (i = 0; i < 256; i++) {
+            printf "module m%d() in A ", i
+            for (j = 0; j < 2040; j++) printf "print 1;"
+            print (i < 255 ? "run m" i + 1 "();" : last) " end"
+        }
+    }'
+}
+modules '' > "$room/chain"
+modules 'run m0();' > "$room/circle"
+for shape in chain circle; do
+    wants "bound, 256 modules in a $shape" 0 answer bound "$room/$shape"
+done
 for command in run show check; do
     for contents in longer zeros; do
         wants "$command, more than 4 MiB: $contents" 3 answer "$command" "$room/$contents"

@@ -7,7 +7,7 @@ use Rattle.loft_refusal.specs.declared.refusal.Refusal.TheVariants as refusal
 use Rattle.loft_refusal.specs.declared.refusal.Stopped.{Stopped}
 use Rattle.loft_refusal.specs.declared.refusal.Stopped.TheVariants as stopped
 use Rattle.loft_sense.specs.declared.limits.RunOptions.{RunOptions}
-use Rattle.loft_words.specs.Command.{Command, Run, Exec, Show, Check, Compile}
+use Rattle.loft_words.specs.Command.{Command, Run, Exec, Show, Check, Compile, Bound}
 use Rattle.loft_refusal.specs.Input.{Input, ASource, AListing}
 use Rattle.loft_commands.specs.Written.{Appends, IsPrefix}
 use Rattle.loft_commands.specs.declared.code_run.RunError.{RunError}
@@ -67,6 +67,7 @@ TakesSources (Exec file o) = ⊥
 TakesSources (Show file) = Unit {0}
 TakesSources (Check file) = Unit {0}
 TakesSources (Compile file) = Unit {0}
+TakesSources (Bound file) = Unit {0}
 
 asks_text : (c : Command) (contents : List ℕ) (r : Refusal) → TakesSources c → IsFault contents (stopped.Refused r) → Asks c r × IsCause contents r
 asks_text (Run file o) contents (refusal.Text e) is fault = (tt, fault)
@@ -74,6 +75,7 @@ asks_text (Exec file o) contents (refusal.Text e) is fault = absurd is
 asks_text (Show file) contents (refusal.Text e) is fault = (tt, fault)
 asks_text (Check file) contents (refusal.Text e) is fault = (tt, fault)
 asks_text (Compile file) contents (refusal.Text e) is fault = (tt, fault)
+asks_text (Bound file) contents (refusal.Text e) is fault = (tt, fault)
 asks_text c contents (refusal.Names e) is fault = absurd fault
 asks_text c contents (refusal.Links e schedulers) is fault = absurd fault
 asks_text c contents (refusal.Listing e) is fault = absurd fault

@@ -5,7 +5,7 @@ use Rattle.loft_refusal.specs.declared.refusal.Refusal.{Refusal}
 use Rattle.loft_refusal.specs.declared.refusal.Refusal.TheVariants as refusal
 use Rattle.loft_refusal.specs.Input.{Input, ASource, AListing}
 use Rattle.loft_refusal.specs.Refusals.{Well, IsCause, line_of}
-use Rattle.loft_words.specs.Command.{Command, Run, Exec, Show, Check, Compile}
+use Rattle.loft_words.specs.Command.{Command, Run, Exec, Show, Check, Compile, Bound}
 use Rattle.loft_commands.specs.Written.{IsLine}
 
 -- what is asked of a source, of one whose names and links have to be correct, and of a listing
@@ -37,6 +37,7 @@ Asks (Exec file o) r = asks_listing r
 Asks (Show file) r = asks_source r
 Asks (Check file) r = asks_well r
 Asks (Compile file) r = asks_well r
+Asks (Bound file) r = asks_well r
 
 -- a command refuses contents by this line
 abbrev pub Refuses : Command → List ℕ → List ℕ → Type 0
@@ -59,11 +60,12 @@ abbrev pub IsValidListing : Input → Type 0
 IsValidListing (ASource p) = ⊥
 IsValidListing (AListing c) = Valid c
 
--- the command can be done: each source can be shown, and well ones pass the check, are compiled and run; a listing of
--- valid code is run
+-- the command can be done: each source can be shown, and well ones pass the check, are compiled and run, and their step
+-- bounds are told; a listing of valid code is run
 abbrev pub Takes : Command → Input → Type 0
 Takes (Run file o) x = IsWellSource x
 Takes (Exec file o) x = IsValidListing x
 Takes (Show file) x = IsAnySource x
 Takes (Check file) x = IsWellSource x
 Takes (Compile file) x = IsWellSource x
+Takes (Bound file) x = IsWellSource x

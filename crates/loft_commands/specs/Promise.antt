@@ -15,7 +15,8 @@ use Rattle.loft_sense.specs.Lines.{text_of}
 use Rattle.loft_history.specs.Report.{head_lines, report}
 use Rattle.loft_translation.specs.Compiled.{compiled}
 use Rattle.loft_listing.specs.Listing.{listing_text}
-use Rattle.loft_words.specs.Command.{Command, Run, Exec, Show, Check, Compile}
+use Rattle.loft_bound.specs.BoundText.{IsBoundText}
+use Rattle.loft_words.specs.Command.{Command, Run, Exec, Show, Check, Compile, Bound}
 use Rattle.loft_refusal.specs.Input.{Input, ASource, AListing}
 use Rattle.loft_commands.specs.Written.{IsLine}
 use Rattle.loft_refusal.specs.Refusals.{IsTextOf}
@@ -36,14 +37,15 @@ pub record IsReport (x : Prog) (o : RunOptions) (text : List ℕ) : Type 0 where
   pub whole : text ≡ report x o history
   pub ended : HasEnded x o history
 
--- what a command answers of a source: the report of a run by its statements, the canonical text, `ok`, or the listing of
--- its code
+-- what a command answers of a source: the report of a run by its statements, the canonical text, `ok`, the listing of
+-- its code, or the lines of its step bounds
 abbrev pub IsSourceAnswer : Command → Source → List ℕ → Type 0
 IsSourceAnswer (Run file o) p text = IsReport (Tree (resolved_of (numbered p))) o text
 IsSourceAnswer (Exec file o) p text = ⊥
 IsSourceAnswer (Show file) p text = text ≡ Canon p
 IsSourceAnswer (Check file) p text = IsLine (codes "ok") text
 IsSourceAnswer (Compile file) p text = text ≡ listing_text (compiled (resolved_of (numbered p)))
+IsSourceAnswer (Bound file) p text = IsBoundText (numbered p) text
 
 -- and of code: the report of a run by its operations
 abbrev pub IsCodeAnswer : Command → Automata → List ℕ → Type 0
@@ -52,6 +54,7 @@ IsCodeAnswer (Exec file o) c text = IsReport (Code c) o text
 IsCodeAnswer (Show file) c text = ⊥
 IsCodeAnswer (Check file) c text = ⊥
 IsCodeAnswer (Compile file) c text = ⊥
+IsCodeAnswer (Bound file) c text = ⊥
 
 abbrev pub IsAnswerText : Command → Input → List ℕ → Type 0
 IsAnswerText k (ASource p) text = IsSourceAnswer k p text

@@ -7,7 +7,7 @@ ghost use Rattle.loft_words.specs.Ranges.{KeepsRanges};
 ghost use Rattle.loft_words.specs.CommandView.{command_of};
 ghost use Rattle.loft_commands.specs.Doing.{Attempts};
 
-use crate::command::{check, exec, list_code, run, show_text};
+use crate::command::{check, exec, list_code, run, show_text, tell_bounds};
 use loft_base::{Files, Gate, Sink};
 use loft_refusal::{Stopped, read_code, read_program};
 use loft_words::Command;
@@ -53,6 +53,10 @@ pub fn attempt<R: Threads + Wait + Sync, F: Files, S: Sink, G: Gate>(
         Command::Compile(file) => {
             let program = read_program(alloc, files, file)?;
             list_code(alloc, program, sink)
+        }
+        Command::Bound(file) => {
+            let program = read_program(alloc, files, file)?;
+            tell_bounds(alloc, program, sink)
         }
     }
 }

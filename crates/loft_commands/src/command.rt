@@ -9,7 +9,7 @@ ghost use Rattle.loft_code.specs.View.{automata_of};
 ghost use Rattle.loft_sense.specs.Machine.{Tree};
 ghost use Rattle.loft_translation.specs.Compiled.{compiled};
 ghost use Rattle.loft_listing.specs.Listing.{listing_text};
-ghost use Rattle.loft_words.specs.Command.{Run, Exec, Show, Check, Compile};
+ghost use Rattle.loft_words.specs.Command.{Run, Exec, Show, Check, Compile, Bound};
 ghost use Rattle.loft_words.specs.Ranges.{AreInRange};
 ghost use Rattle.loft_commands.specs.Written.{Appends, IsPrefix};
 ghost use Rattle.loft_refusal.specs.Input.{ASource, AListing};
@@ -18,6 +18,7 @@ ghost use Rattle.loft_commands.specs.Doing.{Does};
 
 use crate::code_run::{RunError, run_code};
 use loft_base::{Gate, NoMemory, Sink, write_lines};
+use loft_bound::bound_text;
 use loft_code::Code;
 use loft_compile::compile;
 use loft_listing::write as write_listing;
@@ -132,6 +133,19 @@ pub fn list_code<S: Sink>(alloc: Global, program: Program, sink: &mut S) -> Resu
 {
     let placed = place_program(alloc, program)?;
     let text = listing_of(alloc, &placed)?;
+    write_lines(text.as_slice(), sink)?;
+    Ok(())
+}
+
+/// `bound`: the step bounds of the modules, where names and links are correct.
+pub fn tell_bounds<S: Sink>(alloc: Global, program: Program, sink: &mut S) -> Result<(), Stopped>
+    ensures does { (file : List ℕ) → Does (Bound file) (ASource (source_of program)) result
+        (S.written sink.old) (S.written sink.new) }
+    ensures sink_fault { IsErrOf result Stopped.SinkFault → Rose (S.faults sink.old) (S.faults sink.new) }
+    ensures never_falls { S.faults sink.old ≤ S.faults sink.new }
+{
+    let placed = place_program(alloc, program)?;
+    let text = bound_text(alloc, &placed)?;
     write_lines(text.as_slice(), sink)?;
     Ok(())
 }

@@ -17,7 +17,7 @@ use Rattle.loft_reading.specs.declared.error.ListError.{ListError}
 use Rattle.loft_reading.specs.Lists.{Lists, LineFault}
 use Rattle.loft_refusal.specs.declared.refusal.Refusal.{Refusal}
 use Rattle.loft_refusal.specs.declared.refusal.Refusal.TheVariants as refusal
-use Rattle.loft_words.specs.Command.{Command, Run, Exec, Show, Check, Compile}
+use Rattle.loft_words.specs.Command.{Command, Run, Exec, Show, Check, Compile, Bound}
 use Rattle.loft_refusal.specs.Input.{Input, ASource, AListing}
 use Rattle.loft_refusal.specs.Refusals.{IsTextOf, IsSourceOf, IsListingOf, Well, IsCause}
 use Rattle.loft_commands.specs.Asks.{Asks, Takes, asks_source, asks_well, asks_listing}
@@ -100,3 +100,5 @@ taken_not_refused d (Check file) contents (ASource p) r text takes asks cause = 
 taken_not_refused d (Check file) contents (AListing a) r text takes asks cause = absurd takes
 taken_not_refused d (Compile file) contents (ASource p) r text takes asks cause = well_taken d contents p r text takes asks cause
 taken_not_refused d (Compile file) contents (AListing a) r text takes asks cause = absurd takes
+taken_not_refused d (Bound file) contents (ASource p) r text takes asks cause = well_taken d contents p r text takes asks cause
+taken_not_refused d (Bound file) contents (AListing a) r text takes asks cause = absurd takes

@@ -7,7 +7,7 @@ use Rattle.loft_sense.specs.declared.limits.RunOptions.{RunOptions}
 use Rattle.loft_sense.specs.declared.limits.TheConstants.{MAX_INSTANTS, MAX_BUDGET, MAX_BLOCK, MAX_WORKERS}
 use Rattle.loft_words.specs.declared.defaults.TheConstants.{DEFAULT_INSTANTS, DEFAULT_BUDGET, DEFAULT_BLOCK, DEFAULT_WORKERS}
 use Rattle.loft_words.specs.Arguments.{Argument, Plain, Given, plain_words, values, has_only}
-use Rattle.loft_words.specs.Command.{Command, Run, Exec, Show, Check, Compile, only_file, number_of, options_from, run_names, run_options, run_of, file_alone, command_named}
+use Rattle.loft_words.specs.Command.{Command, Run, Exec, Show, Check, Compile, Bound, only_file, number_of, options_from, run_names, run_options, run_of, file_alone, command_named}
 use Rattle.loft_words.specs.Parts.{Parts, no_parts, with_arguments}
 use Rattle.loft_words.specs.FromParts.{run_from, file_from, command_from}
 use Rattle.loft_words.proofs.Telling.{Tells, IsRefused, Files, Instants, Budget, Block, Workers, Other, TellsAll, told}
@@ -96,15 +96,16 @@ file_told given p t = rw (t.alone, t.file) refl
 
 command_told : (word : List ℕ) (given : List Argument) (o : Option Parts) → TellsAll given o → command_named word given ≡ option_and_then (command_from word) o
 command_told word given (Some p) t = rw (run_told Run given p t, run_told Exec given p t, file_told given p t) refl
-command_told word given None refused = go (bytes_eq word (codes "run")) (bytes_eq word (codes "exec")) (bytes_eq word (codes "show")) (bytes_eq word (codes "check")) (bytes_eq word (codes "compile"))
+command_told word given None refused = go (bytes_eq word (codes "run")) (bytes_eq word (codes "exec")) (bytes_eq word (codes "show")) (bytes_eq word (codes "check")) (bytes_eq word (codes "compile")) (bytes_eq word (codes "bound"))
   where
-    go : (a e b c d : Bool) → (if a then run_of Run given else (if e then run_of Exec given else (if b then option_map Show (file_alone given) else (if c then option_map Check (file_alone given) else (if d then option_map Compile (file_alone given) else None))))) ≡ None
-    go true e b c d = run_refused Run given refused
-    go false true b c d = run_refused Exec given refused
-    go false false true c d = ap (λ (o : Option (List ℕ)). option_map Show o) (file_refused given refused)
-    go false false false true d = ap (λ (o : Option (List ℕ)). option_map Check o) (file_refused given refused)
-    go false false false false true = ap (λ (o : Option (List ℕ)). option_map Compile o) (file_refused given refused)
-    go false false false false false = refl
+    go : (a e b c d f : Bool) → (if a then run_of Run given else (if e then run_of Exec given else (if b then option_map Show (file_alone given) else (if c then option_map Check (file_alone given) else (if d then option_map Compile (file_alone given) else (if f then option_map Bound (file_alone given) else None)))))) ≡ None
+    go true e b c d f = run_refused Run given refused
+    go false true b c d f = run_refused Exec given refused
+    go false false true c d f = ap (λ (o : Option (List ℕ)). option_map Show o) (file_refused given refused)
+    go false false false true d f = ap (λ (o : Option (List ℕ)). option_map Check o) (file_refused given refused)
+    go false false false false true f = ap (λ (o : Option (List ℕ)). option_map Compile o) (file_refused given refused)
+    go false false false false false true = ap (λ (o : Option (List ℕ)). option_map Bound o) (file_refused given refused)
+    go false false false false false false = refl
 
 pub command_from_parts : (word : List ℕ) (o : Option (List Argument)) → option_and_then (command_named word) o ≡ option_and_then (command_from word) (option_and_then (with_arguments no_parts) o)
 command_from_parts word None = refl

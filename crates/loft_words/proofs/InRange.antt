@@ -10,7 +10,7 @@ use Rattle.loft_sense.specs.declared.limits.TheConstants.{MAX_INSTANTS, MAX_BUDG
 use Rattle.loft_words.specs.declared.defaults.TheConstants.{DEFAULT_INSTANTS, DEFAULT_BUDGET, DEFAULT_BLOCK, DEFAULT_WORKERS}
 use Rattle.loft_words.specs.Words.{is_number, number_in}
 use Rattle.loft_words.specs.Arguments.{Argument, arguments, plain_words, values, has_only}
-use Rattle.loft_words.specs.Command.{Command, Run, Exec, Show, Check, Compile, only_file, number_of, options_from, run_names, run_options, run_of, file_alone, command_named, command}
+use Rattle.loft_words.specs.Command.{Command, Run, Exec, Show, Check, Compile, Bound, only_file, number_of, options_from, run_names, run_options, run_of, file_alone, command_named, command}
 use Rattle.loft_words.specs.Ranges.{AreInRange, KeepsRanges}
 
 number_in_range : (most n : ℕ) (word : List ℕ) → number_in most word ≡ Some n → (1 ≤ n) × (n ≤ most)
@@ -71,15 +71,16 @@ file_keeps make made None = tt
 file_keeps make made (Some file) = made file
 
 named_keeps : (word : List ℕ) (given : List Argument) → Keeps (command_named word given)
-named_keeps word given = go (bytes_eq word (codes "run")) (bytes_eq word (codes "exec")) (bytes_eq word (codes "show")) (bytes_eq word (codes "check")) (bytes_eq word (codes "compile"))
+named_keeps word given = go (bytes_eq word (codes "run")) (bytes_eq word (codes "exec")) (bytes_eq word (codes "show")) (bytes_eq word (codes "check")) (bytes_eq word (codes "compile")) (bytes_eq word (codes "bound"))
   where
-    go : (a e b c d : Bool) → Keeps (if a then run_of Run given else (if e then run_of Exec given else (if b then option_map Show (file_alone given) else (if c then option_map Check (file_alone given) else (if d then option_map Compile (file_alone given) else None)))))
-    go true e b c d = run_keeps Run (λ file o range. range) given
-    go false true b c d = run_keeps Exec (λ file o range. range) given
-    go false false true c d = file_keeps Show (λ file. tt) (file_alone given)
-    go false false false true d = file_keeps Check (λ file. tt) (file_alone given)
-    go false false false false true = file_keeps Compile (λ file. tt) (file_alone given)
-    go false false false false false = tt
+    go : (a e b c d f : Bool) → Keeps (if a then run_of Run given else (if e then run_of Exec given else (if b then option_map Show (file_alone given) else (if c then option_map Check (file_alone given) else (if d then option_map Compile (file_alone given) else (if f then option_map Bound (file_alone given) else None))))))
+    go true e b c d f = run_keeps Run (λ file o range. range) given
+    go false true b c d f = run_keeps Exec (λ file o range. range) given
+    go false false true c d f = file_keeps Show (λ file. tt) (file_alone given)
+    go false false false true d f = file_keeps Check (λ file. tt) (file_alone given)
+    go false false false false true f = file_keeps Compile (λ file. tt) (file_alone given)
+    go false false false false false true = file_keeps Bound (λ file. tt) (file_alone given)
+    go false false false false false false = tt
 
 words_keep : (words : List (List ℕ)) → Keeps (command words)
 words_keep [] = tt

@@ -9,7 +9,7 @@ use Rattle.std.proofs.lemmas.List.Folds.{list_all-append}
 use Rattle.loft_sense.specs.declared.limits.TheConstants.{MAX_INSTANTS, MAX_BUDGET, MAX_BLOCK, MAX_WORKERS}
 use Rattle.loft_words.specs.declared.defaults.TheConstants.{DEFAULT_INSTANTS, DEFAULT_BUDGET, DEFAULT_BLOCK, DEFAULT_WORKERS}
 use Rattle.loft_words.specs.Arguments.{Argument, plain_word, value_for, is_among, has_only}
-use Rattle.loft_words.specs.Command.{Command, Run, Exec, Show, Check, Compile, only_file, number_of, options_from, run_names, command_named}
+use Rattle.loft_words.specs.Command.{Command, Run, Exec, Show, Check, Compile, Bound, only_file, number_of, options_from, run_names, command_named}
 use Rattle.loft_words.proofs.Commands.{not_one, no_number}
 
 -- the same words, or more than one on both sides
@@ -66,7 +66,8 @@ command_with word known alone file instants budget block workers =
     else (if bytes_eq word (codes "exec") then (if known then option_and_then (λ f. option_map (Exec f) (options_from instants budget block workers)) file else None)
     else (if bytes_eq word (codes "show") then option_map Show (if alone then file else None)
     else (if bytes_eq word (codes "check") then option_map Check (if alone then file else None)
-    else (if bytes_eq word (codes "compile") then option_map Compile (if alone then file else None) else None))))
+    else (if bytes_eq word (codes "compile") then option_map Compile (if alone then file else None)
+    else (if bytes_eq word (codes "bound") then option_map Bound (if alone then file else None) else None)))))
 
 pub neighbours : (word : List ℕ) (before after : List Argument) (a b : Argument)
     → command_named word (before ++ (a ∷ b ∷ after)) ≡ command_named word (before ++ (b ∷ a ∷ after))

@@ -19,6 +19,8 @@ pub data Command : Type 0 where
   Check : (file : List ℕ) → Command
   -- compile the source in this file, and list its code
   Compile : (file : List ℕ) → Command
+  -- tell the step bounds of the modules of the source in this file
+  Bound : (file : List ℕ) → Command
 
 -- the file that it reads
 abbrev pub file_of : Command → List ℕ
@@ -27,6 +29,7 @@ file_of (Exec file options) = file
 file_of (Show file) = file
 file_of (Check file) = file
 file_of (Compile file) = file
+file_of (Bound file) = file
 
 -- the file, where there is exactly one
 abbrev pub only_file : List (List ℕ) → Option (List ℕ)
@@ -74,7 +77,8 @@ command_named word given =
     else (if bytes_eq word (codes "exec") then run_of Exec given
     else (if bytes_eq word (codes "show") then option_map Show (file_alone given)
     else (if bytes_eq word (codes "check") then option_map Check (file_alone given)
-    else (if bytes_eq word (codes "compile") then option_map Compile (file_alone given) else None))))
+    else (if bytes_eq word (codes "compile") then option_map Compile (file_alone given)
+    else (if bytes_eq word (codes "bound") then option_map Bound (file_alone given) else None)))))
 
 -- the command of some words; all other words are refused
 abbrev pub command : List (List ℕ) → Option Command

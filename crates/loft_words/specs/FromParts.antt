@@ -5,7 +5,7 @@ use Rattle.std.specs.Str.{bytes_eq}
 use Rattle.loft_sense.specs.declared.limits.RunOptions.{RunOptions}
 use Rattle.loft_sense.specs.declared.limits.TheConstants.{MAX_INSTANTS, MAX_BUDGET, MAX_BLOCK, MAX_WORKERS}
 use Rattle.loft_words.specs.declared.defaults.TheConstants.{DEFAULT_INSTANTS, DEFAULT_BUDGET, DEFAULT_BLOCK, DEFAULT_WORKERS}
-use Rattle.loft_words.specs.Command.{Command, Run, Exec, Show, Check, Compile, only_file, number_of, options_from}
+use Rattle.loft_words.specs.Command.{Command, Run, Exec, Show, Check, Compile, Bound, only_file, number_of, options_from}
 use Rattle.loft_words.specs.Parts.{Parts, has_no_options}
 
 abbrev pub option_list : {A : Type 0} → Option A → List A
@@ -31,4 +31,5 @@ command_from word p =
     else (if bytes_eq word (codes "exec") then run_from Exec p
     else (if bytes_eq word (codes "show") then option_map Show (file_from p)
     else (if bytes_eq word (codes "check") then option_map Check (file_from p)
-    else (if bytes_eq word (codes "compile") then option_map Compile (file_from p) else None))))
+    else (if bytes_eq word (codes "compile") then option_map Compile (file_from p)
+    else (if bytes_eq word (codes "bound") then option_map Bound (file_from p) else None)))))

@@ -3,7 +3,7 @@ use Rattle.std.specs.Prelude.{◌≤◌}
 use Rattle.loft_sense.specs.declared.limits.RunOptions.{RunOptions}
 use Rattle.loft_sense.specs.declared.limits.TheConstants.{MAX_WORKERS}
 use Rattle.loft_sense.specs.Rest.{IsInRange}
-use Rattle.loft_words.specs.Command.{Command, Run, Exec, Show, Check, Compile}
+use Rattle.loft_words.specs.Command.{Command, Run, Exec, Show, Check, Compile, Bound}
 
 -- the bounds of a run and its workers have their ranges
 pub record AreInRange (options : RunOptions) : Type 0 where
@@ -17,3 +17,4 @@ KeepsRanges (Exec file options) = AreInRange options
 KeepsRanges (Show file) = Unit {0}
 KeepsRanges (Check file) = Unit {0}
 KeepsRanges (Compile file) = Unit {0}
+KeepsRanges (Bound file) = Unit {0}

@@ -5,7 +5,7 @@ ghost use Rattle.std.specs.Option.{option_copied, option_map};
 ghost use Rattle.loft_sense.specs.declared.limits.RunOptions.{RunOptions};
 ghost use Rattle.loft_words.specs.Words.{words_of, is_file_name};
 ghost use Rattle.loft_words.specs.Ranges.{KeepsRanges};
-ghost use Rattle.loft_words.specs.Command.{Command as PlainCommand, Exec, Run, Show, Check, Compile, command, file_of, only_file, number_of};
+ghost use Rattle.loft_words.specs.Command.{Command as PlainCommand, Exec, Run, Show, Check, Compile, Bound, command, file_of, only_file, number_of};
 ghost use Rattle.loft_words.specs.CommandView.{meant, command_of};
 ghost use Rattle.loft_words.specs.Parts.{parts_of};
 ghost use Rattle.loft_words.specs.FromParts.{option_list, run_from, run_options_from, file_from, command_from};
@@ -30,6 +30,8 @@ pub enum Command<'a> {
     Check(&'a str),
     /// To compile the source in this file, and to list its code.
     Compile(&'a str),
+    /// To tell the step bounds of the modules of the source in this file.
+    Bound(&'a str),
 }
 
 impl<'a> Command<'a> {
@@ -42,7 +44,8 @@ impl<'a> Command<'a> {
             | Command::Exec { file, .. }
             | Command::Show(file)
             | Command::Check(file)
-            | Command::Compile(file) => file,
+            | Command::Compile(file)
+            | Command::Bound(file) => file,
         }
     }
 }
@@ -147,6 +150,13 @@ fn compile<'a>(parts: Parts<'a>) -> Option<Command<'a>>
     Some(Command::Compile(file_alone(parts)?))
 }
 
+/// To tell step bounds.
+fn bound<'a>(parts: Parts<'a>) -> Option<Command<'a>>
+    ensures { meant result ≡ option_map Bound (file_from (parts_of parts.entry)) }
+{
+    Some(Command::Bound(file_alone(parts)?))
+}
+
 /// The command with this name.
 fn command_named<'a>(word: &str, parts: Parts<'a>) -> Option<Command<'a>>
     ensures { meant result ≡ command_from word.now (parts_of parts.entry) }
@@ -161,15 +171,18 @@ fn command_named<'a>(word: &str, parts: Parts<'a>) -> Option<Command<'a>>
         check(parts)
     } else if word == "compile" {
         compile(parts)
+    } else if word == "bound" {
+        bound(parts)
     } else {
         None
     }
 }
 
-/// What the words after the program's name ask for (docs/COMMANDS.md, "Words"). The first is the command: `run`, `exec`,
-/// `show`, `check` or `compile`. After it stand one file and, for `run` and `exec`, options in any order: `--instants N`, `--budget B`, `--block U` and
-/// `--workers W`, each once at most, as two words or as one with `=`. After `--` no word is an option. All other words
-/// are no command: None. It takes no memory.
+/// What the words after the program's name ask for (docs/COMMANDS.md, "Words"). The first is the
+/// command: `run`, `exec`, `show`, `check`, `compile` or `bound`. After it stand one file and, for
+/// `run` and `exec`, options in any order: `--instants N`, `--budget B`, `--block U` and
+/// `--workers W`, each once at most, as two words or as one with `=`. After `--` no word is an
+/// option. All other words are no command: None. It takes no memory.
 #[tactic(auto, using(crate::proofs::Commands::command_from_parts))]
 pub fn read_words(words: &[String]) -> Option<Command<'_>>
     ensures meant { meant result ≡ command (words_of words.now) }

@@ -1,6 +1,6 @@
 use Rattle.std.proofs.Common.{◌∙◌, sym, ap, subst, [], Result, Err}
 use Rattle.std.proofs.lemmas.Result.{err_from_is_err_and}
-use Rattle.loft_words.specs.Command.{Command, Run, Exec, Show, Check, Compile, file_of}
+use Rattle.loft_words.specs.Command.{Command, Run, Exec, Show, Check, Compile, Bound, file_of}
 use Rattle.loft_words.specs.CommandView.{command_of}
 use Rattle.loft_refusal.specs.declared.refusal.Stopped.{Stopped}
 use Rattle.loft_commands.specs.Doing.{Attempts}
@@ -74,6 +74,23 @@ returns-in_err-program-in-Compile-clause-attempts g c =
     subst (λ (k : Command). Attempts k (g.F.Files.contents c.args.files.now (file_of k)) c.from_residual-in_err-program-in-Compile.result written written) (sym (ap command_of c.in-Compile.is))
     (subst (λ (r : Result (Unit {0}) Stopped). Attempts (Compile c.in-Compile.file.now) (g.F.Files.contents c.args.files.now c.in-Compile.file.now) r written written) (sym is)
     (unread_attempts (Compile c.in-Compile.file.now) (g.F.Files.contents c.args.files.now c.in-Compile.file.now) c.in_err-program-in-Compile.field-0.0 written tt (λ contents t. c.in_err-program-in-Compile.ensures.refused contents t)))
+
+pub returns-in_ok-program-in-Bound-clause-attempts : goal.returns-in_ok-program-in-Bound-clause-attempts
+returns-in_ok-program-in-Bound-clause-attempts g c =
+    subst (λ (k : Command). Attempts k (g.F.Files.contents c.args.files.now (file_of k)) c.tell_bounds.result (g.S.Sink.written c.args.sink.now) (g.S.Sink.written c.tell_bounds.new.sink)) (sym (ap command_of c.in-Bound.is))
+    (does_attempts {c = Bound c.in-Bound.file.now} (λ contents t. c.in_ok-program-in-Bound.ensures.program contents t) (c.tell_bounds.ensures.does c.in-Bound.file.now))
+
+pub returns-in_ok-program-in-Bound-clause-file_fault : goal.returns-in_ok-program-in-Bound-clause-file_fault
+returns-in_ok-program-in-Bound-clause-file_fault g c = λ is. absurd ((c.tell_bounds.ensures.does []).no_file is)
+
+pub returns-in_err-program-in-Bound-clause-attempts : goal.returns-in_err-program-in-Bound-clause-attempts
+returns-in_err-program-in-Bound-clause-attempts g c =
+    let p = err_from_is_err_and c.from_residual-in_err-program-in-Bound.result c.from_residual-in_err-program-in-Bound.ensures.1 in
+    let is = p.1 ∙ ap (λ (s : Stopped). Err s) p.2 in
+    let written = g.S.Sink.written c.args.sink.now in
+    subst (λ (k : Command). Attempts k (g.F.Files.contents c.args.files.now (file_of k)) c.from_residual-in_err-program-in-Bound.result written written) (sym (ap command_of c.in-Bound.is))
+    (subst (λ (r : Result (Unit {0}) Stopped). Attempts (Bound c.in-Bound.file.now) (g.F.Files.contents c.args.files.now c.in-Bound.file.now) r written written) (sym is)
+    (unread_attempts (Bound c.in-Bound.file.now) (g.F.Files.contents c.args.files.now c.in-Bound.file.now) c.in_err-program-in-Bound.field-0.0 written tt (λ contents t. c.in_err-program-in-Bound.ensures.refused contents t)))
 
 pub returns-in_ok-code-in-Exec-clause-attempts : goal.returns-in_ok-code-in-Exec-clause-attempts
 returns-in_ok-code-in-Exec-clause-attempts g c =
