@@ -1,6 +1,5 @@
 -- A scheduler in memory stays ready for its next instant.
 use Rattle.std.proofs.Common.{◌≡◌, ℕ, false, List, sym, ap, ◌∙◌, subst, arith, length, Option, Some, None}
-use Rattle.std.proofs.lemmas.Bool.{leb-false}
 use Rattle.loft_base.specs.declared.ids.SchedId.{SchedId}
 use Rattle.loft_board.specs.Board.{Board, no_events}
 use Rattle.loft_sense.specs.declared.limits.Limits.{Limits}
@@ -12,6 +11,7 @@ use Rattle.loft_sense.specs.Passes.{Runner, Walk, passes}
 use Rattle.loft_sense.specs.Rest.{is_spent}
 use Rattle.loft_sense.specs.Instant.{instant}
 use Rattle.loft_sense.proofs.AroundLemmas.{applied_events, instant_creates, instant_number, passes_follow}
+use Rattle.loft_sense.proofs.TallyLemmas.{unspent_number}
 use Rattle.loft_instant.specs.declared.instant.State.{State}
 use Rattle.loft_instant.specs.States.{machine_with, machine_of, IsReady}
 
@@ -38,10 +38,10 @@ pub stays_ready : (x : Prog) (limits : Limits) (events : ℕ) (s : SchedId) (old
     → machine_with s new ≡ (instant x limits (machine_with s old) orders).machine → new.board ≡ no_events events → IsReady events limits.instants new
 stays_ready x limits events s old new orders ready unspent machine board =
     let made = ap (λ (m : Mach). m.made) machine in
-    let number = ap (λ (m : Mach). m.number) machine ∙ instant_number x limits (machine_with s old) orders in
+    let number = ap (λ (m : Mach). m.tally.number) machine ∙ instant_number x limits (machine_with s old) orders in
     let creates = instant_creates x limits (machine_with s old) orders in
     let few = ready.few_made in
-    let below = leb-false limits.instants old.number unspent in
+    let below = unspent_number x limits (machine_with s old) unspent in
     record {
       no_event = board;
       few_made = omega (arith, made, number, creates, few);

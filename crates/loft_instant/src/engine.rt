@@ -50,7 +50,7 @@ impl<I: Interpreter> InstantEngine<I> {
         let heads = interpreter.heads();
         let events = heads.events.len() as u32;
         let own = own_of(alloc, scheduler, heads.shared.as_slice())?;
-        let state = State::first(alloc, scheduler, heads.shared.as_slice(), events)?;
+        let state = State::first(alloc, scheduler, heads, events)?;
         let setting = Setting {
             interpreter,
             scheduler,
@@ -82,7 +82,7 @@ impl<I: Interpreter> Engine for InstantEngine<I> {
         let Some(state) = self.state.take() else {
             return Err(NoMemory);
         };
-        let (state, note) = self.setting.instant(alloc, state, batch.as_slice())?;
+        let (state, note) = self.setting.instant(alloc, state, batch)?;
         self.state = Some(state);
         Ok(note)
     }
@@ -96,14 +96,17 @@ impl<I: Interpreter> Engine for InstantEngine<I> {
 
     fn spent(&self) -> bool {
         match &self.state {
-            Some(state) => state.number >= self.setting.limits.instants,
+            Some(state) => {
+                let heads = self.setting.interpreter.heads();
+                state.tally.reaches_bound(heads, &self.setting.limits)
+            }
             None => true,
         }
     }
 
     fn instant(&self) -> u64 {
         match &self.state {
-            Some(state) => state.number,
+            Some(state) => state.tally.number,
             None => 0,
         }
     }

@@ -8,18 +8,19 @@ ghost use Rattle.loft_sense.specs.Apply.{apply_orders};
 ghost use Rattle.loft_sense.specs.Passes.{passes as passes_over};
 ghost use Rattle.loft_tree.specs.declared.heads.Place.TheVariants.{Sched as SchedPlace};
 ghost use Rattle.loft_sense.specs.Instant.{runner_of as begin_of, instant as instant_of};
-ghost use Rattle.loft_sense.specs.Instant.{closed, closed_thread, stays, has_run, machine_after, note_of};
+ghost use Rattle.loft_sense.specs.Instant.{closed, closed_thread, stays, has_run, machine_closed, note_of};
 ghost use Rattle.loft_sense.specs.Instant.{sent_by, leavers, changes as changes_in};
 
 use crate::batch::Batch;
 use crate::shared::{changes, keep_values, shared_values};
+use crate::tally::{first_tally, tally_after};
 use crate::told::tell_all;
 use loft_base::{NoMemory, SchedId, Sequence, SharedId, ThreadId};
 use loft_board::Board;
 use loft_effect::Around;
 use loft_passes::{Interpreter, Runner, begin_all, close_all, passes};
-use loft_sense::{Changes, InstantNote, Limits, Numbers, Order, Sents, Threads};
-use loft_tree::{Place, SharedHead};
+use loft_sense::{Changes, InstantNote, Limits, Numbers, Order, Orders, Sents, Tally, Threads};
+use loft_tree::{Heads, Place};
 use std::alloc::Global;
 
 /// What stays as it is while a scheduler's instants are made.
@@ -50,27 +51,26 @@ pub struct State {
     pub board: Board,
     /// The creates that it has sent.
     pub made: u64,
-    /// The instants that it has made.
-    pub number: u64,
+    /// What it has used of its bounds.
+    pub tally: Tally,
 }
 
 impl State {
-    ghost use Rattle.loft_sense.specs.Heads.{is_at};
-    ghost use Rattle.loft_instant.specs.States.{machine_with, machine_before};
+    ghost use Rattle.loft_instant.specs.States.{machine_with, first_machine};
 
-    /// A scheduler before its first instant, where the program has these shared variables and so
-    /// many events.
+    /// A scheduler before its first instant, where the program has these declarations and so many
+    /// events.
     pub fn first(
         alloc: Global,
         scheduler: SchedId,
-        shared: &[SharedHead],
+        heads: &Heads,
         events: u32,
     ) -> Result<State, NoMemory>
-        ensures machine { IfOk result (λ s. machine_with scheduler s ≡ machine_before scheduler
-            (map (λ v. v.value) (filter (is_at scheduler) shared.now)) 0 0) }
+        ensures machine { IfOk result (λ s. machine_with scheduler s
+            ≡ first_machine heads.now scheduler) }
         ensures board { IfOk result (λ s. s.board ≡ no_events events) }
     {
-        let shared = shared_values(alloc, scheduler, shared)?;
+        let shared = shared_values(alloc, scheduler, heads.shared.as_slice())?;
         let board = Board::new(alloc, events)?;
         Ok(State {
             linked: Vec::new(alloc),
@@ -79,7 +79,7 @@ impl State {
             known: Sequence::new(alloc),
             board,
             made: 0,
-            number: 0,
+            tally: first_tally(heads, scheduler),
         })
     }
 }
@@ -203,11 +203,11 @@ impl<I: Interpreter> Setting<I> {
         &self,
         alloc: Global,
         state: State,
-        orders: &[Order],
+        orders: &Orders,
     ) -> Result<(State, InstantNote), NoMemory>
         requires board { state.board ≡ no_events self.now.events }
         requires made { state.made ≤ 2 ^ 63 }
-        requires number { state.number < 2 ^ 63 }
+        requires number { state.tally.number < 2 ^ 63 }
         ensures machine { IfOk result (λ did. machine_with self.now.scheduler did.0
             ≡ (instant_of (I.program self.now.interpreter) self.now.limits
             (machine_with self.now.scheduler state) orders.now).machine) }
@@ -223,15 +223,19 @@ impl<I: Interpreter> Setting<I> {
             known,
             board,
             made,
-            number,
+            tally,
         } = state;
         keep_values(&mut before, shared.as_slice())?;
-        let batch = self.apply(alloc, linked, known, board, orders)?;
-        self.after_batch(alloc, batch, shared, before, made, number)
+        let batch = self.apply(alloc, linked, known, board, orders.as_slice())?;
+        let (mut state, note) = self.after_batch(alloc, batch, shared, before, made, tally)?;
+        let heads = self.interpreter.heads();
+        state.tally = tally_after(heads, self.scheduler, tally, orders, &note);
+        Ok((state, note))
     }
 
     /// What is left of an instant once its batch is applied: the passes, and the close. The shared
-    /// values stand twice, as the instant finds them and as it changes them.
+    /// values stand twice, as the instant finds them and as it changes them. The instant isn't told
+    /// yet.
     fn after_batch(
         &self,
         alloc: Global,
@@ -239,18 +243,18 @@ impl<I: Interpreter> Setting<I> {
         shared: Numbers,
         before: Numbers,
         made: u64,
-        number: u64,
+        tally: Tally,
     ) -> Result<(State, InstantNote), NoMemory>
         requires board { length batch.board ≡ self.now.events }
         requires before { before ≡ shared }
         requires made { made ≤ 2 ^ 63 }
-        requires number { number < 2 ^ 63 }
+        requires number { tally.number < 2 ^ 63 }
         ensures machine { IfOk result (λ did.
-            let m = machine_before self.now.scheduler shared made number in
-            machine_with self.now.scheduler did.0 ≡ machine_after m
+            let m = machine_before self.now.scheduler shared made tally in
+            machine_with self.now.scheduler did.0 ≡ machine_closed m
             (walk_from (I.program self.now.interpreter) self.now.limits.budget m (applied_of batch))) }
         ensures note { IfOk result (λ did.
-            let m = machine_before self.now.scheduler shared made number in
+            let m = machine_before self.now.scheduler shared made tally in
             did.1 ≡ note_of (I.program self.now.interpreter) m (applied_of batch)
             (walk_from (I.program self.now.interpreter) self.now.limits.budget m (applied_of batch))) }
         ensures board { IfOk result (λ did. did.0.board ≡ no_events self.now.events) }
@@ -281,9 +285,8 @@ impl<I: Interpreter> Setting<I> {
             ..
         } = around;
         board.reset();
-        let number = number + 1;
         let note = InstantNote {
-            number,
+            number: tally.number + 1,
             marks,
             stopped,
             acts,
@@ -298,7 +301,7 @@ impl<I: Interpreter> Setting<I> {
             known,
             board,
             made,
-            number,
+            tally,
         };
         Ok((state, note))
     }

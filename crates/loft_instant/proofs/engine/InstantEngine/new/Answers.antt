@@ -1,10 +1,8 @@
-use Rattle.std.proofs.Common.{◌∙◌, arith, ap, List, map, length}
-use Rattle.std.specs.Prelude.{filter}
+use Rattle.std.proofs.Common.{◌∙◌, arith, ap, length}
 use Rattle.loft_tree.specs.declared.heads.Heads.{Heads}
-use Rattle.loft_tree.specs.declared.heads.SharedHead.{SharedHead}
-use Rattle.loft_sense.specs.Heads.{is_at, shared_from}
+use Rattle.loft_sense.specs.Heads.{shared_from}
 use Rattle.loft_sense.specs.Machine.{Mach}
-use Rattle.loft_instant.specs.States.{IsReady, machine_before}
+use Rattle.loft_instant.specs.States.{IsReady, first_machine}
 use Rattle.loft_instant.proofs.EngineLemmas.{some_same}
 use Rattle.loft_instant.proofs.engine.InstantEngine.new.Goals as goal
 
@@ -19,7 +17,7 @@ invariant_of-setting g c =
 pub invariant_of-result : goal.invariant_of-result
 invariant_of-result g c =
     let made = ap (λ (m : Mach). m.made) c.in_ok-state.ensures.machine in
-    let number = ap (λ (m : Mach). m.number) c.in_ok-state.ensures.machine in
+    let number = ap (λ (m : Mach). m.tally.number) c.in_ok-state.ensures.machine in
     record {
       few_instants = c.requires.range.instants.1;
       ready = λ new same.
@@ -29,5 +27,4 @@ invariant_of-result g c =
 
 pub returns-clause-machine : goal.returns-clause-machine
 returns-clause-machine g c =
-    let shared = c.as_slice-2.ensures ∙ ap (λ (h : Heads). h.shared) c.heads-heads.ensures.heads in
-    c.in_ok-state.ensures.machine ∙ ap (λ (l : List SharedHead). machine_before c.args.scheduler (map (λ (v : SharedHead). v.value) (filter (is_at c.args.scheduler) l)) 0 0) shared
+    c.in_ok-state.ensures.machine ∙ ap (λ (h : Heads). first_machine h c.args.scheduler) c.heads-heads.ensures.heads

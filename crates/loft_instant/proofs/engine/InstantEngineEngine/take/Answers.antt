@@ -15,6 +15,6 @@ invariant_of-self-2 g c =
       few_instants = e.few_instants;
       ready = λ new same.
           some_same (IsReady e.setting.events e.setting.limits.instants) c.in_ok-state.state new same
-          (stays_ready x e.setting.limits e.setting.events e.setting.scheduler c.in-Some.state c.in_ok-state.state c.as_slice.result.now (e.ready c.in-Some.state there)
+          (stays_ready x e.setting.limits e.setting.events e.setting.scheduler c.in-Some.state c.in_ok-state.state c.args.batch.now (e.ready c.in-Some.state there)
           (unspent_there x e.setting.limits e.setting.scheduler e.state c.in-Some.state there unspent) c.in_ok-state.ensures.machine c.in_ok-state.ensures.board);
     }

@@ -13,7 +13,7 @@ use Rattle.loft_instant.proofs.instant.Setting.after_batch.Goals as goal
 pub returns-clause-machine : goal.returns-clause-machine
 returns-clause-machine g c =
     let x = g.I.Interpreter.program c.args.self.now.interpreter in
-    let m = machine_before c.args.self.now.scheduler c.args.shared c.args.made c.args.number in
+    let m = machine_before c.args.self.now.scheduler c.args.shared c.args.made c.args.tally in
     let a = applied_of c.args.batch in
     machine_so x m a (walk_of c.run.new.linked.items c.in_ok-around.around false) (walk_from x c.args.self.now.limits.budget m a) c.in_ok-around.ensures
     (standings_of c.close.new.linked.items) c.in_ok-stands.ensures.linked
@@ -22,7 +22,7 @@ pub returns-clause-note : goal.returns-clause-note
 returns-clause-note g c =
     let x = g.I.Interpreter.program c.args.self.now.interpreter in
     let s = c.args.self.now.scheduler in
-    let m = machine_before s c.args.shared c.args.made c.args.number in
+    let m = machine_before s c.args.shared c.args.made c.args.tally in
     let a = applied_of c.args.batch in
     note_so x m a (walk_of c.run.new.linked.items c.in_ok-around.around false) (walk_from x c.args.self.now.limits.budget m a) c.in_ok-around.ensures
     c.close.new.sent (a.sent ++ sent_by (Sched s) c.in_ok-around.around.acts) c.in_ok-stands.stands c.in_ok-stands.changed
@@ -34,7 +34,7 @@ returns-clause-note g c =
 pub returns-clause-board : goal.returns-clause-board
 returns-clause-board g c =
     let x = g.I.Interpreter.program c.args.self.now.interpreter in
-    let m = machine_before c.args.self.now.scheduler c.args.shared c.args.made c.args.number in
+    let m = machine_before c.args.self.now.scheduler c.args.shared c.args.made c.args.tally in
     let a = applied_of c.args.batch in
     board_stays x (map (runner_of c.args.self.now.limits.budget) a.linked) (around_of m a) (walk_of c.run.new.linked.items c.in_ok-around.around false) c.args.self.now.events c.reset.new.self
     c.in_ok-around.ensures c.requires.board c.reset.ensures
