@@ -23,8 +23,7 @@ StartFits h t = HeadsFit h t.scheduler t.module t.arguments
 
 abbrev pub OrderFits : Heads → ClientOrder → Type 0
 OrderFits h (order.Create scheduler m arguments) = HeadsFit h scheduler m arguments
-OrderFits h (order.Control control thread scheduler) = Unit {0}
-OrderFits h (order.Broadcast event value) = Unit {0}
+OrderFits h o = Unit {0}
 
 abbrev pub ClientFits : Heads → Client → Type 0
 ClientFits h c = Each (OrderFits h) c.orders
@@ -63,11 +62,9 @@ shape_of (Binary operator left right) = Joined operator (shape_of left) (shape_o
 -- the numbers of an expression can be written
 abbrev pub NumbersFit : Exp → Type 0
 NumbersFit (Number value) = NumberFits value
-NumbersFit (Slot slot) = Unit {0}
-NumbersFit (Shared shared) = Unit {0}
-NumbersFit (Special builtin) = Unit {0}
 NumbersFit (Unary operator operand) = NumbersFit operand
 NumbersFit (Binary operator left right) = NumbersFit left × NumbersFit right
+NumbersFit e = Unit {0}
 
 -- the nesting is counted in each expression alone
 pub record ExpFits (e : Exp) : Type 0 where

@@ -40,71 +40,36 @@ way at depth = record { at = at; depth = depth }
 
 -- The operations at which operation p goes on where d counts are active: `count` adds one, and `turn` drops the last one where it goes to its target.
 abbrev pub goes_on_at : Operation → ℕ → ℕ → List Way
-goes_on_at (Do action) p d = way (p + 1) d ∷ []
-goes_on_at (Hold k pause) p d = way (p + 1) d ∷ []
-goes_on_at (Call k m arguments) p d = way (p + 1) d ∷ []
 goes_on_at (Branch t test) p d = way (p + 1) d ∷ way t d ∷ []
-goes_on_at Enter p d = way (p + 1) d ∷ []
 goes_on_at (Count e) p d = way (p + 1) (d + 1) ∷ []
 goes_on_at (Turn t) p d = way (p + 1) d ∷ way t (d - 1) ∷ []
 goes_on_at (Jump t) p d = way t d ∷ []
 goes_on_at End p d = []
+goes_on_at operation p d = way (p + 1) d ∷ []
 
 -- ---- kinds of operations
 
 abbrev pub is_test : Operation → Bool
-is_test (Do action) = false
-is_test (Hold k pause) = false
-is_test (Call k m arguments) = false
 is_test (Branch t test) = true
-is_test Enter = false
-is_test (Count e) = false
 is_test (Turn t) = true
-is_test (Jump t) = false
-is_test End = false
+is_test operation = false
 
 abbrev pub is_end : Operation → Bool
-is_end (Do action) = false
-is_end (Hold k pause) = false
-is_end (Call k m arguments) = false
-is_end (Branch t test) = false
-is_end Enter = false
-is_end (Count e) = false
-is_end (Turn t) = false
-is_end (Jump t) = false
 is_end End = true
+is_end operation = false
 
 abbrev pub is_turn : Operation → Bool
-is_turn (Do action) = false
-is_turn (Hold k pause) = false
-is_turn (Call k m arguments) = false
-is_turn (Branch t test) = false
-is_turn Enter = false
-is_turn (Count e) = false
 is_turn (Turn t) = true
-is_turn (Jump t) = false
-is_turn End = false
+is_turn operation = false
 
 -- it may be the last of a module: it doesn't go on at the next one
 abbrev pub is_last : Operation → Bool
-is_last (Do action) = false
-is_last (Hold k pause) = false
-is_last (Call k m arguments) = false
-is_last (Branch t test) = false
-is_last Enter = false
-is_last (Count e) = false
-is_last (Turn t) = false
 is_last (Jump t) = true
 is_last End = true
+is_last operation = false
 
 -- the number of a stop
 abbrev pub stop_of : Operation → Option ℕ
-stop_of (Do action) = None
 stop_of (Hold k pause) = Some k
 stop_of (Call k m arguments) = Some k
-stop_of (Branch t test) = None
-stop_of Enter = None
-stop_of (Count e) = None
-stop_of (Turn t) = None
-stop_of (Jump t) = None
-stop_of End = None
+stop_of operation = None

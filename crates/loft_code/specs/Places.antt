@@ -31,32 +31,18 @@ same_place Nowhere here = not (is_linked here)
 -- only a linked thread makes threads, prints, generates events, and stops but by `link` and `run`
 abbrev pub linked_action : Action → Bool
 linked_action (Assign target value) = false
-linked_action (Make target scheduler m arguments) = true
-linked_action (PrintText line value) = true
-linked_action (PrintValue value) = true
-linked_action (Generate event value) = true
 linked_action (ControlThread control thread scheduler) = false
 linked_action (Broadcast event value) = false
+linked_action action = true
 
 abbrev pub linked_pause : Pause → Bool
-linked_pause (Cooperate instants) = true
-linked_pause (Await events limit) = true
-linked_pause (Get event index target) = true
-linked_pause (Join thread limit) = true
 linked_pause (Link scheduler) = false
-linked_pause Unlink = true
-linked_pause Halt = true
+linked_pause pause = true
 
 abbrev pub linked_only : Operation → Bool
 linked_only (Do action) = linked_action action
 linked_only (Hold k pause) = linked_pause pause
-linked_only (Call k m arguments) = false
-linked_only (Branch t test) = false
-linked_only Enter = false
-linked_only (Count count) = false
-linked_only (Turn t) = false
-linked_only (Jump t) = false
-linked_only End = false
+linked_only operation = false
 
 -- ---- what is where the thread is
 
@@ -151,13 +137,9 @@ end_of None = Nowhere
 end_of (Some m) = m.end
 
 abbrev pub left_by_pause : Place → Pause → Place
-left_by_pause here (Cooperate instants) = here
-left_by_pause here (Await events limit) = here
-left_by_pause here (Get event index target) = here
-left_by_pause here (Join thread limit) = here
 left_by_pause here (Link scheduler) = Sched scheduler
 left_by_pause here Unlink = Nowhere
-left_by_pause here Halt = here
+left_by_pause here pause = here
 
 abbrev pub place_left : Heads → Place → Operation → Place
 place_left h here (Do action) = here

@@ -10,7 +10,7 @@ use Rattle.loft_code.specs.declared.error.OpAt.{OpAt}
 use Rattle.loft_code.specs.declared.error.CodeError.{CodeError}
 use Rattle.loft_code.specs.declared.error.CodeError.TheVariants.{JumpOut, BadName, BadStop, BadPlace, BadCount, KindMismatch}
 use Rattle.loft_code.specs.declared.ways.Way.{Way}
-use Rattle.loft_code.specs.Operations.{Operation, Do, Hold, Call, Branch, Enter, Count, Turn, Jump, End, Line, Automata, goes_on_at, is_test, is_end, is_turn, is_last, stop_of}
+use Rattle.loft_code.specs.Operations.{Operation, Branch, Turn, Jump, Line, Automata, goes_on_at, is_test, is_end, is_turn, is_last, stop_of}
 use Rattle.loft_code.specs.Names.{has_bad_name}
 use Rattle.loft_code.specs.Places.{has_bad_place}
 use Rattle.loft_code.specs.Kinds.{has_bad_kind}
@@ -23,15 +23,10 @@ test_in (Some l) = is_test l.operation
 
 -- A target isn't an operation of the module; or operation p goes to its own number or a smaller one, but for a `jump` to a `branch` or `turn`.
 abbrev pub leads_out : List Line → ℕ → Operation → Bool
-leads_out lines p (Do action) = false
-leads_out lines p (Hold k pause) = false
-leads_out lines p (Call k m arguments) = false
 leads_out lines p (Branch t test) = not (nat_lt t (length lines)) || nat_le t p
-leads_out lines p Enter = false
-leads_out lines p (Count count) = false
 leads_out lines p (Turn t) = not (nat_lt t (length lines)) || nat_le t p
 leads_out lines p (Jump t) = not (nat_lt t (length lines)) || (nat_le t p && not (test_in (slice_get lines t)))
-leads_out lines p End = false
+leads_out lines p operation = false
 
 -- the same, or it is the last operation and neither `jump` nor `end`
 abbrev pub jumps_out : List Line → ℕ → Operation → Bool

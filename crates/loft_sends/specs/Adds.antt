@@ -22,20 +22,15 @@ use Rattle.loft_sends.specs.Counts.{made_in, among_made}
 
 -- an order that carries and ends no thread
 abbrev pub IsPlain : Order → Type 0
-IsPlain (order.Create t m args) = Unit {0}
 IsPlain (order.Arrive t) = ⊥
-IsPlain (order.Stop t) = Unit {0}
-IsPlain (order.Suspend t) = Unit {0}
-IsPlain (order.Resume t) = Unit {0}
-IsPlain (order.Broadcast event value) = Unit {0}
 IsPlain (order.Ended t end) = ⊥
+IsPlain order = Unit {0}
 
 -- what a statement does: it sends such an order or none, and ends no thread
 abbrev pub IsPlainAct : Act → Type 0
-IsPlainAct (act.Print t line) = Unit {0}
-IsPlainAct (act.Gen t event value) = Unit {0}
 IsPlainAct (act.Out t sent) = IsPlain sent.order
 IsPlainAct (act.End t end) = ⊥
+IsPlainAct act = Unit {0}
 
 -- What some statements add: acts of statements, whose creates make each the thread that its place makes next.
 pub record Adds (a b : Around) : Type 0 where

@@ -18,29 +18,16 @@ EndsAtLast (m ∷ n ∷ ms) = (ends_block m.order ≡ false) × EndsAtLast (n �
 
 -- the thread arrives at one declared scheduler, or each scheduler is told of its end
 abbrev pub IsExit : Heads → ThreadId → Order → To → Type 0
-IsExit h t (order.Create u m args) there = ⊥
 IsExit h t (order.Arrive u) (to.Sched s) = IsScheduler h s × (u.id ≡ t)
-IsExit h t (order.Arrive u) (to.Others s) = ⊥
-IsExit h t (order.Arrive u) to.All = ⊥
-IsExit h t (order.Arrive u) to.Workers = ⊥
-IsExit h t (order.Stop u) there = ⊥
-IsExit h t (order.Suspend u) there = ⊥
-IsExit h t (order.Resume u) there = ⊥
-IsExit h t (order.Broadcast event value) there = ⊥
-IsExit h t (order.Ended u end) (to.Sched s) = ⊥
-IsExit h t (order.Ended u end) (to.Others s) = ⊥
 IsExit h t (order.Ended u end) to.All = u ≡ t
-IsExit h t (order.Ended u end) to.Workers = ⊥
+IsExit h t order there = ⊥
 
 -- the order makes, carries and ends nobody
 abbrev pub IsQuiet : Order → Type 0
 IsQuiet (order.Create t m args) = ⊥
 IsQuiet (order.Arrive t) = ⊥
-IsQuiet (order.Stop t) = Unit {0}
-IsQuiet (order.Suspend t) = Unit {0}
-IsQuiet (order.Resume t) = Unit {0}
-IsQuiet (order.Broadcast event value) = Unit {0}
 IsQuiet (order.Ended t end) = ⊥
+IsQuiet order = Unit {0}
 
 -- the orders of a thread that isn't linked: with the last it is linked again or ends, and every other one makes, carries and ends nobody
 abbrev pub IsBlock : Heads → ThreadId → List Sent → Type 0

@@ -3,7 +3,7 @@ use Rattle.std.specs.Prelude.{ℕ, ◌+◌, nat_le, nat_lt, Bool, true, false, �
 use Rattle.loft_base.specs.declared.ids.Maker.{Maker}
 use Rattle.loft_base.specs.declared.ids.ThreadId.{ThreadId}
 use Rattle.loft_sense.specs.declared.order.Order.{Order}
-use Rattle.loft_sense.specs.declared.order.Order.TheVariants.{Create, Arrive, Stop, Suspend, Resume, Broadcast, Ended}
+use Rattle.loft_sense.specs.declared.order.Order.TheVariants.{Create, Arrive, Ended}
 use Rattle.loft_sense.specs.declared.order.Sent.{Sent}
 use Rattle.loft_sense.specs.declared.note.Standing.{Standing}
 use Rattle.loft_sense.specs.declared.thread.Thread.{Thread}
@@ -16,32 +16,17 @@ one false = 0
 -- the order makes the thread
 abbrev pub makes : ThreadId → Order → ℕ
 makes t (Create u m args) = one (same_thread t u)
-makes t (Arrive u) = 0
-makes t (Stop u) = 0
-makes t (Suspend u) = 0
-makes t (Resume u) = 0
-makes t (Broadcast event value) = 0
-makes t (Ended u end) = 0
+makes t order = 0
 
 -- the order carries the thread to where it is linked next
 abbrev pub carries : ThreadId → Order → ℕ
-carries t (Create u m args) = 0
 carries t (Arrive u) = one (same_thread t u.id)
-carries t (Stop u) = 0
-carries t (Suspend u) = 0
-carries t (Resume u) = 0
-carries t (Broadcast event value) = 0
-carries t (Ended u end) = 0
+carries t order = 0
 
 -- the order tells that the thread has ended
 abbrev pub tells_end_of : ThreadId → Order → ℕ
-tells_end_of t (Create u m args) = 0
-tells_end_of t (Arrive u) = 0
-tells_end_of t (Stop u) = 0
-tells_end_of t (Suspend u) = 0
-tells_end_of t (Resume u) = 0
-tells_end_of t (Broadcast event value) = 0
 tells_end_of t (Ended u end) = one (same_thread t u)
+tells_end_of t order = 0
 
 -- how often what is sent makes the thread, carries it, and tells of its end
 abbrev pub made_in : ThreadId → List Sent → ℕ
@@ -60,11 +45,7 @@ ended_in t (m ∷ ms) = tells_end_of t m.order + ended_in t ms
 abbrev pub brings : ThreadId → Order → ℕ
 brings t (Create u m args) = one (same_thread t u)
 brings t (Arrive u) = one (same_thread t u.id)
-brings t (Stop u) = 0
-brings t (Suspend u) = 0
-brings t (Resume u) = 0
-brings t (Broadcast event value) = 0
-brings t (Ended u end) = 0
+brings t order = 0
 
 abbrev pub brought_in : ThreadId → List Order → ℕ
 brought_in t [] = 0

@@ -17,18 +17,11 @@ use Rattle.loft_sends.specs.Counts.{made_in, carried_in, ended_in, brought_in, l
 -- a create goes to one declared scheduler, an arrive to one or to the workers
 abbrev pub IsSentWell : Heads → Order → To → Type 0
 IsSentWell h (order.Create t m args) (to.Sched s) = IsScheduler h s
-IsSentWell h (order.Create t m args) (to.Others s) = ⊥
-IsSentWell h (order.Create t m args) to.All = ⊥
-IsSentWell h (order.Create t m args) to.Workers = ⊥
+IsSentWell h (order.Create t m args) there = ⊥
 IsSentWell h (order.Arrive t) (to.Sched s) = IsScheduler h s
-IsSentWell h (order.Arrive t) (to.Others s) = ⊥
-IsSentWell h (order.Arrive t) to.All = ⊥
 IsSentWell h (order.Arrive t) to.Workers = Unit {0}
-IsSentWell h (order.Stop t) there = Unit {0}
-IsSentWell h (order.Suspend t) there = Unit {0}
-IsSentWell h (order.Resume t) there = Unit {0}
-IsSentWell h (order.Broadcast event value) there = Unit {0}
-IsSentWell h (order.Ended t end) there = Unit {0}
+IsSentWell h (order.Arrive t) there = ⊥
+IsSentWell h order there = Unit {0}
 
 abbrev pub SentWell : Heads → Sent → Type 0
 SentWell h m = IsSentWell h m.order m.to

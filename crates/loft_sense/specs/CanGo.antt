@@ -10,14 +10,9 @@ use Rattle.loft_board.specs.Board.{Board, find}
 
 abbrev pub same_maker : Maker → Maker → Bool
 same_maker Source Source = true
-same_maker Source (Sched n) = false
-same_maker Source (Client n) = false
-same_maker (Sched m) Source = false
 same_maker (Sched m) (Sched n) = m == n
-same_maker (Sched m) (Client n) = false
-same_maker (Client m) Source = false
-same_maker (Client m) (Sched n) = false
 same_maker (Client m) (Client n) = m == n
+same_maker a b = false
 
 abbrev pub same_thread : ThreadId → ThreadId → Bool
 same_thread a b = same_maker a.maker b.maker && a.seq == b.seq

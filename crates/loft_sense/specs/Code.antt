@@ -22,15 +22,8 @@ lines_at c m = unwrap_or (slice_get c.modules m.0) []
 
 -- where a `jump` leads
 abbrev pub jump_of : Operation → Option ℕ
-jump_of (Do action) = None
-jump_of (Hold k pause) = None
-jump_of (Call k m arguments) = None
-jump_of (Branch t test) = None
-jump_of Enter = None
-jump_of (Count e) = None
-jump_of (Turn t) = None
 jump_of (Jump t) = Some t
-jump_of End = None
+jump_of operation = None
 
 abbrev pub jump_at : List Line → ℕ → Option ℕ
 jump_at lines p = option_and_then (λ l. jump_of l.operation) (slice_get lines p)
@@ -100,15 +93,8 @@ after_or_past (Some p) lines = p + 1
 
 -- what an operation waits for; nothing where it is no stop, or a `run`
 abbrev pub pause_of : Operation → Option Pause
-pause_of (Do action) = None
 pause_of (Hold k pause) = Some pause
-pause_of (Call k m arguments) = None
-pause_of (Branch t test) = None
-pause_of Enter = None
-pause_of (Count e) = None
-pause_of (Turn t) = None
-pause_of (Jump t) = None
-pause_of End = None
+pause_of operation = None
 
 abbrev pub pause_at : List Line → Option ℕ → Option Pause
 pause_at lines None = None

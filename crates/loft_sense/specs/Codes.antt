@@ -3,7 +3,7 @@ use Rattle.std.specs.Prelude.{◌≡◌, ◌≢◌, ℤ, pos, ◌<ℤ◌, Bool, 
 use Rattle.std.specs.Option.{option_and_then}
 use Rattle.loft_base.specs.declared.ids.Value.{Value}
 use Rattle.loft_tree.specs.declared.heads.Heads.{Heads}
-use Rattle.loft_tree.specs.Resolved.{Exp, Pause, Cooperate, Await, Get, Join, Link, Unlink, Halt}
+use Rattle.loft_tree.specs.Resolved.{Exp, Pause, Await, Get, Join}
 use Rattle.loft_sense.specs.declared.thread.Wait.{Wait}
 use Rattle.loft_sense.specs.declared.thread.Wait.TheVariants as wait
 use Rattle.loft_sense.specs.Around.{Beside}
@@ -11,23 +11,16 @@ use Rattle.loft_sense.specs.Eval.{eval_if, number_if}
 
 -- a stop that sets the code where it goes on
 abbrev pub stop_sets_code : Pause → Bool
-stop_sets_code (Cooperate instants) = false
 stop_sets_code (Await events limit) = true
 stop_sets_code (Get event index target) = true
 stop_sets_code (Join thread limit) = true
-stop_sets_code (Link s) = false
-stop_sets_code Unlink = false
-stop_sets_code Halt = false
+stop_sets_code pause = false
 
 -- the limit of a stop, where it has one
 abbrev pub limit_of : Pause → Option Exp
-limit_of (Cooperate instants) = None
 limit_of (Await events limit) = limit
-limit_of (Get event index target) = None
 limit_of (Join thread limit) = limit
-limit_of (Link s) = None
-limit_of Unlink = None
-limit_of Halt = None
+limit_of pause = None
 
 -- its number, where it has one
 abbrev pub limit_number : Heads → Pause → List Value → Beside → Option ℤ
@@ -37,21 +30,15 @@ limit_number h pause values b = option_and_then number_if (eval_if h values b (l
 abbrev pub wait_sets_code : Wait → Bool
 wait_sets_code wait.New = false
 wait_sets_code (wait.Coop left) = false
-wait_sets_code (wait.Events events left) = true
-wait_sets_code (wait.Index event at) = true
-wait_sets_code wait.Next = true
-wait_sets_code (wait.Join thread left) = true
 wait_sets_code wait.Halt = false
+wait_sets_code w = true
 
 -- the number left in a wait, where it has one
 abbrev pub left_of : Wait → Option ℤ
-left_of wait.New = None
 left_of (wait.Coop left) = Some left
 left_of (wait.Events events left) = left
-left_of (wait.Index event at) = None
-left_of wait.Next = None
 left_of (wait.Join thread left) = left
-left_of wait.Halt = None
+left_of w = None
 
 -- a wait that only what it waits for can end in this instant: it isn't marked, and where it has a number, an instant is left
 pub record IsPending (w : Wait) : Type 0 where

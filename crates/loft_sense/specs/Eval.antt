@@ -30,9 +30,8 @@ thread_or t (Thread u) = u
 
 abbrev pub same_value : Value → Value → Bool
 same_value (Int a) (Int b) = int_eq a b
-same_value (Int a) (Thread u) = false
-same_value (Thread t) (Int b) = false
 same_value (Thread t) (Thread u) = same_thread t u
+same_value a b = false
 
 -- a number that isn't 0 is true
 abbrev pub is_true : ℤ → Bool

@@ -26,9 +26,8 @@ use Rattle.loft_sense.specs.Stands.{Stands}
 
 -- the makers of threads that a program has: its source, its schedulers, and any client, a caller too
 abbrev pub IsMaker : Heads → Maker → Type 0
-IsMaker h maker.Source = Unit {0}
 IsMaker h (maker.Sched s) = s < length h.schedulers
-IsMaker h (maker.Client c) = Unit {0}
+IsMaker h m = Unit {0}
 
 -- a thread that a maker of the program may have made, whatever its number is
 abbrev pub IsThread : Heads → ThreadId → Type 0
@@ -41,13 +40,8 @@ IsValue h (value.Thread t) = IsThread h t
 
 -- the threads that are named in a wait are declared
 abbrev pub WaitNames : Heads → Wait → Type 0
-WaitNames h wait.New = Unit {0}
-WaitNames h (wait.Coop left) = Unit {0}
-WaitNames h (wait.Events events left) = Unit {0}
-WaitNames h (wait.Index event i) = Unit {0}
-WaitNames h wait.Next = Unit {0}
 WaitNames h (wait.Join t left) = IsThread h t
-WaitNames h wait.Halt = Unit {0}
+WaitNames h w = Unit {0}
 
 abbrev pub FrameNames : Heads → Frame → Type 0
 FrameNames h f = Each (IsValue h) f.values
@@ -63,13 +57,11 @@ IsPoint h at = at.module.0 < length h.modules
 
 -- the module that an end names is declared; the number of its stop isn't asked
 abbrev pub EndNames : Heads → End → Type 0
-EndNames h end.Done = Unit {0}
-EndNames h end.Stopped = Unit {0}
-EndNames h end.Full = Unit {0}
 EndNames h (end.Div at) = IsPoint h at
 EndNames h (end.Deep at) = IsPoint h at
 EndNames h (end.Over at) = IsPoint h at
 EndNames h (end.Flood at) = IsPoint h at
+EndNames h e = Unit {0}
 
 -- the event is declared, and stands on the scheduler's board
 pub record IsEventOf (h : Heads) (s : SchedId) (e : EventId) : Type 0 where

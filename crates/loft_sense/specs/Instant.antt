@@ -8,7 +8,7 @@ use Rattle.loft_tree.specs.declared.heads.Place.{Place}
 use Rattle.loft_tree.specs.declared.heads.Place.TheVariants.{Sched}
 use Rattle.loft_sense.specs.declared.thread.Thread.{Thread}
 use Rattle.loft_sense.specs.declared.thread.Wait.{Wait}
-use Rattle.loft_sense.specs.declared.thread.Wait.TheVariants.{New, Coop, Events, Index, Next, Join, Halt}
+use Rattle.loft_sense.specs.declared.thread.Wait.TheVariants.{Coop, Events, Index, Next, Join}
 use Rattle.loft_sense.specs.declared.order.Order.{Order}
 use Rattle.loft_sense.specs.declared.order.Order.TheVariants.{Arrive}
 use Rattle.loft_sense.specs.declared.order.To.{To}
@@ -42,13 +42,11 @@ lowered (negsuc n) = negsuc n
 
 -- a wait as the instant closes: its number is lowered, and a value has not come
 abbrev pub closed_wait : Wait → Wait
-closed_wait New = New
 closed_wait (Coop left) = Coop (lowered left)
 closed_wait (Events events left) = Events events (option_map lowered left)
 closed_wait (Index event at) = Next
-closed_wait Next = Next
 closed_wait (Join thread left) = Join thread (option_map lowered left)
-closed_wait Halt = Halt
+closed_wait w = w
 
 -- a suspended thread's wait stands still
 abbrev pub closed_thread : Runner → Thread
@@ -82,10 +80,9 @@ changes (x ∷ xs) (v ∷ old) (w ∷ new) = if int_eq v w then changes xs old n
 -- the orders among the acts, and one for each end
 abbrev pub sent_by : Place → List Act → List Sent
 sent_by at [] = []
-sent_by at (act.Print t line ∷ acts) = sent_by at acts
-sent_by at (act.Gen t event value ∷ acts) = sent_by at acts
 sent_by at (act.Out t sent ∷ acts) = sent ∷ sent_by at acts
 sent_by at (act.End t end ∷ acts) = tell_end at t end ∷ sent_by at acts
+sent_by at (a ∷ acts) = sent_by at acts
 
 -- an instant: the machine after it, and what it did
 pub record AfterInstant : Type 0 where

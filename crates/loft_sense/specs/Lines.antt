@@ -47,16 +47,13 @@ batch_lines h stopped k (o ∷ os) (m ∷ marks) = (mark_word m ++ order_text h 
 -- the name of the scheduler to which an order goes, and nothing where it goes elsewhere
 abbrev pub receiver_name : Heads → To → List ℕ
 receiver_name h (to.Sched s) = scheduler_name h s
-receiver_name h (to.Others s) = []
-receiver_name h to.All = []
-receiver_name h to.Workers = []
+receiver_name h there = []
 
 -- where a thread goes that leaves: to a scheduler, or to the workers
 abbrev pub leave_place : Heads → To → List ℕ
 leave_place h (to.Sched s) = scheduler_name h s
-leave_place h (to.Others s) = []
-leave_place h to.All = []
 leave_place h to.Workers = codes "unlinked"
+leave_place h there = []
 
 abbrev pub act_line : Heads → Act → List ℕ
 act_line h (act.Print t line) = codes "print " ++ (id_text h t ++ (space ++ line))
@@ -67,12 +64,7 @@ act_line h (act.End t end) = end_line h t end
 -- a thread that leaves
 abbrev pub leave_line : Heads → To → Order → List (List ℕ)
 leave_line h to (order.Arrive t) = (codes "leave " ++ (id_text h t.id ++ (space ++ leave_place h to))) ∷ []
-leave_line h to (order.Create t m args) = []
-leave_line h to (order.Stop t) = []
-leave_line h to (order.Suspend t) = []
-leave_line h to (order.Resume t) = []
-leave_line h to (order.Broadcast event value) = []
-leave_line h to (order.Ended t end) = []
+leave_line h to order = []
 
 abbrev pub leave_lines : Heads → List Sent → List (List ℕ)
 leave_lines h sents = flat_map (λ m. leave_line h m.to m.order) sents

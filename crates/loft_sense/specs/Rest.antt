@@ -2,7 +2,7 @@
 use Rattle.std.specs.Prelude.{◌≤◌, ℤ, Bool, true, false, ◌||◌, ◌&&◌, not, List, [], ◌∷◌, Option, Some, None}
 use Rattle.loft_base.specs.declared.ids.ThreadId.{ThreadId}
 use Rattle.loft_sense.specs.declared.thread.Wait.{Wait}
-use Rattle.loft_sense.specs.declared.thread.Wait.TheVariants.{New, Coop, Events, Index, Next, Join, Halt}
+use Rattle.loft_sense.specs.declared.thread.Wait.TheVariants.{Events, Join, Halt}
 use Rattle.loft_sense.specs.declared.note.Standing.{Standing}
 use Rattle.loft_sense.specs.declared.limits.Limits.{Limits}
 use Rattle.loft_sense.specs.declared.limits.TheConstants.{MAX_INSTANTS, MAX_BUDGET, MAX_BLOCK}
@@ -16,13 +16,10 @@ is_none_left (Some n) = false
 
 -- between two instants no event is present
 abbrev pub waits_for_ever : Wait → List ThreadId → Bool
-waits_for_ever New known = false
-waits_for_ever (Coop left) known = false
 waits_for_ever (Events events left) known = is_none_left left
-waits_for_ever (Index event at) known = false
-waits_for_ever Next known = false
 waits_for_ever (Join thread left) known = is_none_left left && not (is_known thread known)
 waits_for_ever Halt known = true
+waits_for_ever w known = false
 
 abbrev pub all_rest : List Standing → List ThreadId → Bool
 all_rest [] known = true

@@ -75,13 +75,7 @@ ends end b left = Ended end (done (act.End b.id end) (record b.around { known = 
 -- the first where the module has ended there, else the second
 abbrev pub if_finish : {A B : Type 0} → Next A → B → B → B
 if_finish Finish x y = x
-if_finish Stuck x y = y
-if_finish (Acts action p) x y = y
-if_finish (Passes p) x y = y
-if_finish (Tests test p q) x y = y
-if_finish (Counts count f) x y = y
-if_finish (Holds k pause p) x y = y
-if_finish (Runs k m arguments p) x y = y
+if_finish other x y = y
 
 -- the frames, innermost first, without those at the front whose module has ended
 abbrev pub live : {A : Type 0} → Control A → List (Active A) → List (Active A)

@@ -6,7 +6,7 @@ use Rattle.loft_board.specs.Board.{Board, has, values as event_values, generate_
 use Rattle.loft_sense.specs.declared.thread.Wait.{Wait}
 use Rattle.loft_sense.specs.declared.thread.Wait.TheVariants as wait
 use Rattle.loft_sense.specs.declared.note.Act.{Act}
-use Rattle.loft_sense.specs.declared.note.Act.TheVariants.{Print, Gen, Out, End}
+use Rattle.loft_sense.specs.declared.note.Act.TheVariants.{Gen, End}
 use Rattle.loft_sense.specs.declared.limits.Limits.{Limits}
 use Rattle.loft_sense.specs.declared.order.Order.{Order}
 use Rattle.loft_sense.specs.Machine.{Prog, Mach}
@@ -17,10 +17,8 @@ use Rattle.loft_sense.specs.Instant.{runner_of, around_of}
 
 -- an entry of the instant: every act but an end
 abbrev pub is_entry : Act → Bool
-is_entry (Print t line) = true
-is_entry (Gen t event value) = true
-is_entry (Out t sent) = true
 is_entry (End t end) = false
+is_entry act = true
 
 -- the events that acts generated, each with its value where there is one
 abbrev pub generated_in : List Act → List (EventId × Option ℤ)
@@ -49,13 +47,8 @@ pub record KeepsEvents (board later : Board) : Type 0 where
 
 -- the events that a wait names
 abbrev pub events_in : Wait → List EventId
-events_in wait.New = []
-events_in (wait.Coop left) = []
 events_in (wait.Events events left) = events
-events_in (wait.Index event at) = []
-events_in wait.Next = []
-events_in (wait.Join thread left) = []
-events_in wait.Halt = []
+events_in w = []
 
 -- what the passes of an instant leave
 abbrev pub instant_walk : Prog → Limits → Mach → List Order → Walk

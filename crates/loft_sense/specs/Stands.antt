@@ -53,23 +53,17 @@ end_of h m = end_or_unlinked (slice_get h.modules m.0)
 
 -- where a thread is linked after a stop that it begins at p
 abbrev pub place_after : Pause → Place → Place
-place_after (Cooperate instants) p = p
-place_after (Await events limit) p = p
-place_after (Get event index target) p = p
-place_after (Join thread limit) p = p
 place_after (Link s) p = Sched s
 place_after Unlink p = Unlinked
-place_after Halt p = p
+place_after pause p = p
 
 -- The same of a statement and of a body; both branches of an `if` end in one place, and a loop ends where it began.
 abbrev mutual
   pub leads_step : Heads → Step → Place → Place
-  leads_step h (Do action) p = p
   leads_step h (Hold k pause) p = place_after pause p
   leads_step h (Call k m arguments) p = end_of h m
   leads_step h (Choose test first second) p = leads h first p
-  leads_step h (Loop test body) p = p
-  leads_step h (Times count body) p = p
+  leads_step h s p = p
 
   pub leads : Heads → Body → Place → Place
   leads h Empty p = p
@@ -97,15 +91,9 @@ tree_stop p m (suc k) = stop_in p.heads (body_at p m) (suc k) 0 (begin_of p.head
 -- ---- the stops of code
 
 abbrev pub kind_of : Operation → Option StopKind
-kind_of (op.Do action) = None
 kind_of (op.Hold k pause) = Some (Pauses pause)
 kind_of (op.Call k m arguments) = Some (Calls m)
-kind_of (op.Branch t test) = None
-kind_of op.Enter = None
-kind_of (op.Count e) = None
-kind_of (op.Turn t) = None
-kind_of (op.Jump t) = None
-kind_of op.End = None
+kind_of operation = None
 
 -- a stop of this kind, after which a thread goes on at this operation
 abbrev pub stop_before : Option StopKind → Option Line → Option StopAt
@@ -134,9 +122,8 @@ stop_of (Code c) m k = code_stop c m k
 -- a number left, where there is one, isn't negative, and there is one exactly where the statement gives one
 abbrev pub LeftAgrees : Option Exp → Option ℤ → Type 0
 LeftAgrees None None = Unit {0}
-LeftAgrees None (Some n) = ⊥
-LeftAgrees (Some e) None = ⊥
 LeftAgrees (Some e) (Some n) = pos 0 ≤ℤ n
+LeftAgrees limit left = ⊥
 
 -- a thread that stands at the stop may wait so
 abbrev pub PauseAgrees : Pause → Wait → Type 0

@@ -220,14 +220,8 @@ code_after left = if ran_out left then timeout else ok
 
 -- the variable that a stop sets, where it is a `get`
 abbrev pub target_of : Option Pause → Option Target
-target_of None = None
-target_of (Some (Cooperate instants)) = None
-target_of (Some (Await events limit)) = None
 target_of (Some (Get event index target)) = Some target
-target_of (Some (Join thread limit)) = None
-target_of (Some (Link s)) = None
-target_of (Some Unlink) = None
-target_of (Some Halt) = None
+target_of pause = None
 
 -- a wait ends, as its thread goes on after this stop
 abbrev pub answered : Heads → Option Pause → Wait → List Value → Beside → Now

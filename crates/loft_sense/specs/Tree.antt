@@ -96,13 +96,8 @@ abbrev mutual
 
 -- what it waits for; nothing where it is a `run`
 abbrev pub pause_of : Option Step → Option Pause
-pause_of None = None
-pause_of (Some (Do action)) = None
 pause_of (Some (Hold k pause)) = Some pause
-pause_of (Some (Call k m arguments)) = None
-pause_of (Some (Choose test first second)) = None
-pause_of (Some (Loop test body)) = None
-pause_of (Some (Times count body)) = None
+pause_of s = None
 
 -- ---- the control of trees
 

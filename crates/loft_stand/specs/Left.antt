@@ -24,11 +24,6 @@ pub data IsLeft (p : Resolved) (m : ModuleId) : List Work → Type 0 where
 
 -- what comes next is no stop, or `after` says of it what is left
 abbrev pub LeavesAfter : Resolved → ModuleId → Next (List Work) → Type 0
-LeavesAfter p m Finish = Unit {0}
-LeavesAfter p m Stuck = Unit {0}
-LeavesAfter p m (Acts action rest) = Unit {0}
-LeavesAfter p m (Passes rest) = Unit {0}
-LeavesAfter p m (Tests test v u) = Unit {0}
-LeavesAfter p m (Counts count rest) = Unit {0}
 LeavesAfter p m (Holds k pause rest) = after p m k (reverse (counts_in rest)) ≡ rest
 LeavesAfter p m (Runs k called arguments rest) = after p m k (reverse (counts_in rest)) ≡ rest
+LeavesAfter p m next = Unit {0}

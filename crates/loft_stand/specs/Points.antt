@@ -64,9 +64,7 @@ OrderFits h s (order.Ended t end) = ⊥
 -- statements send to one scheduler each
 abbrev pub OutFits : Heads → To → Order → Type 0
 OutFits h (to.Sched s) o = OrderFits h s o
-OutFits h (to.Others s) o = ⊥
-OutFits h to.All o = ⊥
-OutFits h to.Workers o = ⊥
+OutFits h there o = ⊥
 
 -- what was done: an order that is sent fits where it goes, and an end names what is declared
 abbrev pub ActFits : Heads → Act → Type 0
