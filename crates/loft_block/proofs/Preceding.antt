@@ -27,11 +27,11 @@ use Rattle.loft_sense.specs.declared.thread.Thread.{Thread}
 use Rattle.loft_sense.specs.declared.thread.Wait.{Wait}
 use Rattle.loft_sense.specs.declared.thread.Wait.TheVariants as wait
 use Rattle.loft_sense.specs.Machine.{Prog, Tree, Code}
-use Rattle.loft_sense.specs.Around.{Around, Beside, done, entered}
+use Rattle.loft_sense.specs.Around.{Around, Beside, with_act, entered}
 use Rattle.loft_sense.specs.Eval.{eval, eval_all, eval_if, number_of, number_if, thread_or, special_value, unary_value, binary_value}
 use Rattle.loft_sense.specs.CanGo.{has_any, is_index, is_known}
-use Rattle.loft_sense.specs.Statements.{Effect, GoesOn, Waits, Leaves, Dies, Now, now, if_value, goes_on, most_entries, ok, timeout, enter, create, new_id, one_made, is_up, hold, set_if, mask_after, with_code, events_end, code_after, indexed, target_of, did, begun, answered}
-use Rattle.loft_sense.specs.Run.{Next, Finish, Stuck, Acts, Passes, Tests, Counts, Holds, Runs, Control, Active, Outcome, Held, Left, Ended, ends, live, effect_on, test_on, count_on, run_on, begun_frame, stopped, step, step_on, no_step, going, go_on, go, here, beside, actives_of}
+use Rattle.loft_sense.specs.Statements.{Effect, GoesOn, Waits, Leaves, Dies, Now, now, if_value, goes_on, most_entries, code_ok, code_timeout, enter, create, new_id, one_made, is_up, hold, set_if, mask_after, with_code, events_end, code_after, indexed, target_of, did, begun, answered}
+use Rattle.loft_sense.specs.Run.{Next, Finish, Stuck, Acts, Advances, Tests, Counts, Holds, Runs, Control, Active, Outcome, Held, Left, Ended, ends, live, effect_on, test_on, count_on, run_on, begun_frame, stopped, step, step_on, no_step, going, go_on, go, here, beside, actives_of}
 use Rattle.loft_sense.specs.Tree.{tree}
 use Rattle.loft_sense.specs.Code.{code}
 use Rattle.loft_sense.specs.Passes.{run_of}
@@ -85,7 +85,7 @@ module _ (before : List Act) where
   effect_preceded (Leaves whither) = Leaves whither
   effect_preceded (Dies end) = Dies end
 
-  done_after : (one : Act) (around : Around) → done one (around_preceded before around) ≡ around_preceded before (done one around)
+  done_after : (one : Act) (around : Around) → with_act one (around_preceded before around) ≡ around_preceded before (with_act one around)
   done_after one around = ap (λ (acts : List Act). record around { acts = acts }) (append_assoc before around.acts (one ∷ []))
 
   entered_after : (one : Act) (around : Around) → entered one (around_preceded before around) ≡ around_preceded before (entered one around)
@@ -150,11 +150,11 @@ module _ (before : List Act) where
       by_value (eval h values b e) _ at _ _ (eval_same before h values b e) (λ v. by_choice (is_up (Some (number_of v))) _ _ _ _ refl refl)
   begun_after h (Await events limit) at values b =
       by_value (eval_if h values b limit) _ at _ _ (eval_if_same before h values b limit) (λ v.
-      by_hold (has_any events b.around.board) (is_up (number_if v)) _ _ _ _ _ _ (ap (goes_on values) (events_end_after events ok b)) (ap (goes_on values) (events_end_after events timeout b)) refl)
+      by_hold (has_any events b.around.board) (is_up (number_if v)) _ _ _ _ _ _ (ap (goes_on values) (events_end_after events code_ok b)) (ap (goes_on values) (events_end_after events code_timeout b)) refl)
   begun_after h (Get event index target) at values b =
       by_value (eval h values b index) _ at _ _ (eval_same before h values b index) (λ i.
       by_choice (is_index (number_of i) (length (event_values event b.around.board))) _ _ _ _
-      (ap GoesOn (set_after h (Some target) (Int (indexed (event_values event b.around.board) (number_of i))) values (with_code ok b))) refl)
+      (ap GoesOn (set_after h (Some target) (Int (indexed (event_values event b.around.board) (number_of i))) values (with_code code_ok b))) refl)
   begun_after h (Join thread limit) at values b =
       by_value (eval h values b thread) _ at _ _ (eval_same before h values b thread) (λ t.
       by_value (eval_if h values b limit) _ at _ _ (eval_if_same before h values b limit) (λ v.
@@ -167,7 +167,7 @@ module _ (before : List Act) where
   answered_after h pause wait.New values b = refl
   answered_after h pause (wait.Coop left) values b = refl
   answered_after h pause (wait.Events events left) values b = ap (now values) (events_end_after events (code_after left) b)
-  answered_after h pause (wait.Index event i) values b = set_after h (target_of pause) (Int (indexed (event_values event b.around.board) i)) values (with_code ok b)
+  answered_after h pause (wait.Index event i) values b = set_after h (target_of pause) (Int (indexed (event_values event b.around.board) i)) values (with_code code_ok b)
   answered_after h pause wait.Next values b = refl
   answered_after h pause (wait.Join thread left) values b = refl
   answered_after h pause wait.Halt values b = refl
@@ -217,7 +217,7 @@ module _ (before : List Act) where
   step_alike c left on h (Acts action p) r rs b =
       ap (λ (e : Effect). effect_on c left on e p r rs (beside_preceded before b)) (did_after before c.heads action (here r) r.values b)
       ∙ effect_alike c left on h (did c.heads action (here r) r.values b) p r rs b
-  step_alike c left on h (Passes p) r rs b = h b (record r { at = p } ∷ rs)
+  step_alike c left on h (Advances p) r rs b = h b (record r { at = p } ∷ rs)
   step_alike c left on h (Tests test p q) r rs b = test_alike left on h (eval c.heads r.values b test) _ (eval_same before c.heads r.values b test) p q r rs b
   step_alike c left on h (Counts count f) r rs b = count_alike left on h (eval c.heads r.values b count) _ (eval_same before c.heads r.values b count) f r rs b
   step_alike c left on h (Holds k pause p) r rs b =

@@ -14,7 +14,7 @@ use Rattle.loft_sense.specs.Around.{Beside}
 use Rattle.loft_board.specs.Board.{values as event_values}
 use Rattle.loft_sense.specs.CanGo.{has_any, is_index, is_known}
 use Rattle.loft_sense.specs.Eval.{eval, eval_all, eval_if, number_of, number_if, thread_or}
-use Rattle.loft_sense.specs.Statements.{Now, Effect, GoesOn, Waits, Leaves, Dies, if_value, if_room, most_entries, ok, timeout, goes_on, did, begun, hold, is_up, events_end, with_code, gotten}
+use Rattle.loft_sense.specs.Statements.{Now, Effect, GoesOn, Waits, Leaves, Dies, if_value, if_room, most_entries, code_ok, code_timeout, goes_on, did, begun, hold, is_up, events_end, with_code, gotten}
 use Rattle.loft_budget.proofs.WorkSteps.{IsCount}
 
 abbrev pub IsNoOver : End → Type 0
@@ -90,13 +90,13 @@ ends_so h (Cooperate (Some e)) at values b =
     so_value (eval h values b e) at _ (λ v. so_either (is_up (Some (number_of v))) (goes_on values b) (Waits (wait.Coop (number_of v))) (so_goes _) (so_waits _))
 ends_so h (Await events limit) at values b =
     so_value (eval_if h values b limit) at _ (λ v.
-    so_held (has_any events b.around.board) (is_up (number_if v)) (goes_on values (events_end events ok b)) (goes_on values (events_end events timeout b)) (Waits (wait.Events events (number_if v))) (so_goes _) (so_goes _) (so_waits _))
+    so_held (has_any events b.around.board) (is_up (number_if v)) (goes_on values (events_end events code_ok b)) (goes_on values (events_end events code_timeout b)) (Waits (wait.Events events (number_if v))) (so_goes _) (so_goes _) (so_waits _))
 ends_so h (Get event index target) at values b =
     so_value (eval h values b index) at _ (λ i.
     so_either (is_index (number_of i) (length (event_values event b.around.board))) (GoesOn (gotten h (Some target) event (number_of i) values b)) (Waits (wait.Index event (number_of i))) (so_goes _) (so_waits _))
 ends_so h (Join thread limit) at values b =
     so_value (eval h values b thread) at _ (λ t. so_value (eval_if h values b limit) at _ (λ v.
-    so_held (is_known (thread_or b.id t) b.around.known) (is_up (number_if v)) (goes_on values (with_code ok b)) (goes_on values (with_code timeout b)) (Waits (wait.Join (thread_or b.id t) (number_if v))) (so_goes _) (so_goes _) (so_waits _)))
+    so_held (is_known (thread_or b.id t) b.around.known) (is_up (number_if v)) (goes_on values (with_code code_ok b)) (goes_on values (with_code code_timeout b)) (Waits (wait.Join (thread_or b.id t) (number_if v))) (so_goes _) (so_goes _) (so_waits _)))
 ends_so h (Link s) at values b = record { is = tt }
 ends_so h Unlink at values b = record { is = tt }
 ends_so h Halt at values b = so_waits _

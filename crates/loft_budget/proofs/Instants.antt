@@ -28,9 +28,9 @@ use Rattle.loft_sense.specs.Machine.{Tree, Mach}
 use Rattle.loft_sense.specs.Around.{Around}
 use Rattle.loft_sense.specs.CanGo.{same_thread, count_of, is_over, can_go}
 use Rattle.loft_sense.specs.Run.{Outcome, Held, Left, Ended}
-use Rattle.loft_sense.specs.Tree.{before, body_at}
+use Rattle.loft_sense.specs.Tree.{body_then, body_at}
 use Rattle.loft_sense.specs.Passes.{Runner, run_of, is_ready, runners_after, around_after, passes}
-use Rattle.loft_sense.specs.Apply.{Applied, new_thread, link, is_linked, unlink, suspend, tell_end, apply_order, apply_orders, unapplied, apply}
+use Rattle.loft_sense.specs.Apply.{Applied, new_thread, with_last, is_linked, without_first, suspend, tell_end, apply_order, apply_orders, unapplied, apply}
 use Rattle.loft_sense.specs.Instant.{runner_of, around_of, closed_wait, closed, stays, leaver, leavers, sent_by, instant}
 use Rattle.loft_stand.specs.Numbered.{IsNumbered}
 use Rattle.loft_stand.specs.Left.{begins}
@@ -287,7 +287,7 @@ module _ (p : Resolved) (limits : Limits) (E : ThreadId → Option ModuleId → 
     new_rests k h t m args v e =
         let of = steps_within p k in
         let table = is_table p numbered k in
-        let own = before (body_at p m) [] in
+        let own = body_then (body_at p m) [] in
         let body : Less (work_steps of own) v = subst (Less (work_steps of own)) (table.steps m v e) (less_trans _ _ _ (before_steps of (body_at p m) []) (nothing_last (body_steps of (body_at p m)))) in
         let all : Less (followed (work_steps of own) (only_through 0)) v = less_trans _ _ _ (nothing_last (work_steps of own)) body in
         let same : bound_of v ≤ bound_of v = omega arith in
@@ -307,9 +307,9 @@ module _ (p : Resolved) (limits : Limits) (E : ThreadId → Option ModuleId → 
     unlinked_one true q rest others f g h = g
     unlinked_one false q rest others f g h = (f, h)
 
-    unlink_keeps : (t : ThreadId) (ss : List Standing) → Each Linked ss → Each Linked (unlink t ss)
+    unlink_keeps : (t : ThreadId) (ss : List Standing) → Each Linked ss → Each Linked (without_first t ss)
     unlink_keeps t [] f = tt
-    unlink_keeps t (q ∷ ss) f = unlinked_one (same_thread t q.thread.id) q ss (unlink t ss) f.0 f.1 (unlink_keeps t ss f.1)
+    unlink_keeps t (q ∷ ss) f = unlinked_one (same_thread t q.thread.id) q ss (without_first t ss) f.0 f.1 (unlink_keeps t ss f.1)
 
     suspended_one : (b suspended : Bool) (q : Standing) (rest others : List Standing) → Linked q → Each Linked rest → Each Linked others
         → Each Linked (if b then record q { suspended = suspended } ∷ rest else q ∷ others)
@@ -324,7 +324,7 @@ module _ (p : Resolved) (limits : Limits) (E : ThreadId → Option ModuleId → 
     applied_one true v w f g = f
     applied_one false v w f g = g
 
-    link_is : (t : Thread) (a : Applied) → AppliedIs a → Safe t × Known t → Each Linked (link t a.linked)
+    link_is : (t : Thread) (a : Applied) → AppliedIs a → Safe t × Known t → Each Linked (with_last t a.linked)
     link_is t a f g = each_append Linked a.linked (record { thread = t; suspended = false } ∷ []) f.linked (g, tt)
 
     ended_is : (s : SchedId) (t : ThreadId) (end : End) (a : Applied) → AppliedIs a → EndIs t end → Each SentIs (a.sent ++ tell_end (Sched s) t end ∷ [])

@@ -13,7 +13,7 @@ use Rattle.loft_sense.specs.Machine.{Prog, Tree, Code}
 use Rattle.loft_sense.specs.Around.{Around, Beside}
 use Rattle.loft_sense.specs.Eval.{eval, eval_all, number_of, is_true}
 use Rattle.loft_sense.specs.Statements.{Effect, GoesOn, Waits, Leaves, Dies, did, begun, answered}
-use Rattle.loft_sense.specs.Run.{Next, Finish, Stuck, Acts, Passes, Tests, Counts, Holds, Runs, Control, Active, Outcome, Held, Left, Ended, if_finish, live, frame_of, thread_of, effect_on, test_on, count_on, run_on, begun_frame, stopped, step, step_on, no_step, going, go_on, go, here, beside, active_of, actives_of}
+use Rattle.loft_sense.specs.Run.{Next, Finish, Stuck, Acts, Advances, Tests, Counts, Holds, Runs, Control, Active, Outcome, Held, Left, Ended, if_finish, live, frame_of, thread_of, effect_on, test_on, count_on, run_on, begun_frame, stopped, step, step_on, no_step, going, go_on, go, here, beside, active_of, actives_of}
 use Rattle.loft_sense.specs.Tree.{tree}
 use Rattle.loft_sense.specs.Code.{code}
 use Rattle.loft_sense.specs.Passes.{run_of}
@@ -82,7 +82,7 @@ module _ (m : ModuleId) where
         by Finish h = h
         by Stuck h = e
         by (Acts action p) h = e
-        by (Passes p) h = e
+        by (Advances p) h = e
         by (Tests test p q) h = e
         by (Counts count f) h = e
         by (Holds k pause p) h = e
@@ -118,7 +118,7 @@ module _ (m : ModuleId) where
     step_is left on h Finish r rs b e = h b rs (outer r rs e)
     step_is left on h Stuck r rs b e = h b rs (outer r rs e)
     step_is left on h (Acts action p) r rs b e = effect_is left on h (did c.heads action (here r) r.values b) p r rs b e
-    step_is left on h (Passes p) r rs b e = h b (record r { at = p } ∷ rs) e
+    step_is left on h (Advances p) r rs b e = h b (record r { at = p } ∷ rs) e
     step_is left on h (Tests test p q) r rs b e = test_is left on h (eval c.heads r.values b test) p q r rs b e
     step_is left on h (Counts count f) r rs b e = count_is left on h (eval c.heads r.values b count) f r rs b e
     step_is left on h (Holds k pause p) r rs b e = effect_is left on h (begun c.heads pause (here (stopped r k p)) r.values b) p (stopped r k p) rs b e

@@ -14,8 +14,8 @@ use Rattle.loft_sense.specs.declared.limits.TheConstants.{MAX_FRAMES}
 use Rattle.loft_sense.specs.Around.{Around, Beside}
 use Rattle.loft_sense.specs.Eval.{eval, eval_all, number_of, is_true}
 use Rattle.loft_sense.specs.Statements.{Effect, GoesOn, Waits, Leaves, Dies, begun, answered}
-use Rattle.loft_sense.specs.Run.{Next, Finish, Stuck, Acts, Passes, Tests, Counts, Holds, Runs, Active, Outcome, Held, Left, Ended, ends, if_finish, live, frame_of, thread_of, effect_on, test_on, count_on, run_on, begun_frame, stopped, step, step_on, no_step, going, point_of, active_of, actives_of, go_on, go, here, beside}
-use Rattle.loft_sense.specs.Tree.{Work, Begin, Again, Turns, before, next_begin, next_work, counts_in, body_at, after, tree}
+use Rattle.loft_sense.specs.Run.{Next, Finish, Stuck, Acts, Advances, Tests, Counts, Holds, Runs, Active, Outcome, Held, Left, Ended, ends, if_finish, live, frame_of, thread_of, effect_on, test_on, count_on, run_on, begun_frame, stopped, step, step_on, no_step, going, point_of, active_of, actives_of, go_on, go, here, beside}
+use Rattle.loft_sense.specs.Tree.{Work, Begin, Again, Turns, body_then, next_begin, next_work, counts_in, body_at, after, tree}
 use Rattle.loft_stand.specs.Numbered.{IsNumbered}
 use Rattle.loft_stand.specs.Left.{LeadsTo, IsLeft, begins, goes_on as leads_on, LeavesAfter}
 use Rattle.loft_stand.proofs.LeftLemmas.{leaves_after}
@@ -245,9 +245,9 @@ module _ (p : Resolved) (of : ModuleId → Option Steps) where
           → PointWell left (begun_frame (tree p) m args b ∷ stopped r k w ∷ rs)
       called left k m args v w r rs b is less kept f =
           let rest = followed (work_steps of w) (stack_steps rs) in
-          let body : Less (work_steps of (before (body_at p m) [])) v =
-          subst (λ (x : Steps). Less (work_steps of (before (body_at p m) [])) x) (table.steps m v is) (less_trans _ _ _ (before_steps of (body_at p m) []) (nothing_last (body_steps of (body_at p m)))) in
-          let all : Less (followed (work_steps of (before (body_at p m) [])) rest) (followed (followed v (work_steps of w)) (stack_steps rs)) =
+          let body : Less (work_steps of (body_then (body_at p m) [])) v =
+          subst (λ (x : Steps). Less (work_steps of (body_then (body_at p m) [])) x) (table.steps m v is) (less_trans _ _ _ (before_steps of (body_at p m) []) (nothing_last (body_steps of (body_at p m)))) in
+          let all : Less (followed (work_steps of (body_then (body_at p m) [])) rest) (followed (followed v (work_steps of w)) (stack_steps rs)) =
           less_trans _ _ _ (followed_less _ _ _ _ body (less_refl rest)) (followed_twice v (work_steps of w) (stack_steps rs)) in
           stepped left (r ∷ rs) (begun_frame (tree p) m args b ∷ stopped r k w ∷ rs)
           (less_trans _ _ _ (one_more_less _ _ all) (push (followed v (work_steps of w)) (work_steps of r.at) (stack_steps rs) less))
@@ -259,7 +259,7 @@ module _ (p : Resolved) (of : ModuleId → Option Steps) where
       step_well left on h Finish r rs b less fine leads leaves f = absurd less
       step_well left on h Stuck r rs b less fine leads leaves f = absurd less
       step_well left on h (Acts action w) r rs b less fine leads leaves f = acts_well left on h _ w r rs b (does_well p.heads action (here r) r.values b) less fine (leads w refl) f
-      step_well left on h (Passes w) r rs b less fine leads leaves f = h b _ (moved left r rs r.values w less fine (leads w refl) f)
+      step_well left on h (Advances w) r rs b less fine leads leaves f = h b _ (moved left r rs r.values w less fine (leads w refl) f)
       step_well left on h (Tests test v u) r rs b less fine leads leaves f = test_well left on h (eval p.heads r.values b test) v u r rs b by
         where
           by : (w : List Work) → (w ≡ v) ⊎ (w ≡ u) → PointWell left (record r { at = w } ∷ rs)
@@ -307,7 +307,7 @@ module _ (p : Resolved) (of : ModuleId → Option Steps) where
       next_takes Finish s z way less f = less
       next_takes Stuck s z way less f = less
       next_takes (Acts action w) s z way less f = takes (work_steps of w) s z (way_work of table.way w) way less f
-      next_takes (Passes w) s z way less f = takes (work_steps of w) s z (way_work of table.way w) way less f
+      next_takes (Advances w) s z way less f = takes (work_steps of w) s z (way_work of table.way w) way less f
       next_takes (Tests test v u) s z way less f = takes (work_steps of v) s z (way_work of table.way v) way less.0 f
       next_takes (Counts count g) s z way less f = by count less
         where

@@ -3,8 +3,8 @@ use Rattle.std.proofs.Common.{◌≡◌, inl, inr, ℕ, zero, suc, ◌+◌, ◌*
 use Rattle.std.specs.Prelude.{ℤ, pos, negsuc, if◌then◌else◌}
 use Rattle.loft_base.specs.declared.ids.ModuleId.{ModuleId}
 use Rattle.loft_tree.specs.Resolved.{Exp, Number, Slot, Shared, Special, Unary, Binary, Pause, Cooperate, Await, Get, Join, Link, Unlink, Halt, Step, Do, Hold, Call, Choose, Loop, Times, Body, Empty, Then}
-use Rattle.loft_sense.specs.Run.{Next, Finish, Stuck, Acts, Passes, Tests, Counts, Holds, Runs}
-use Rattle.loft_sense.specs.Tree.{Work, Begin, Again, Turns, before, next_begin, next_turn, next_work, first_some, at_stop, first_count, rest_of, after_step, after_body}
+use Rattle.loft_sense.specs.Run.{Next, Finish, Stuck, Acts, Advances, Tests, Counts, Holds, Runs}
+use Rattle.loft_sense.specs.Tree.{Work, Begin, Again, Turns, body_then, next_begin, next_turn, next_work, first_some, at_stop, first_count, rest_of, after_step, after_body}
 use Rattle.loft_budget.specs.declared.steps.Steps.{Steps}
 use Rattle.loft_budget.specs.Steps.{only_through, followed, either, one_more, turning, turns_of, literal, times_steps, pause_steps, steps_or_none, step_steps, body_steps}
 use Rattle.loft_budget.proofs.Order.{Less, less_refl, less_trans, followed_less, one_more_less, followed_twice, nothing_first, one_first, push, either_first, either_second, last_test, begin_turns, sure_turn, turn, HasWay, way_followed, way_either, way_one_more}
@@ -101,13 +101,13 @@ module _ (of : ModuleId → Option Steps) where
   WorkFine (Again test x ∷ w) = BodyFine x × ((body_steps of x).through ≡ None) × WorkFine w
   WorkFine (Turns c x ∷ w) = BodyFine x × WorkFine w
 
-  pub before_steps : (b : Body) (w : List Work) → Less (work_steps (before b w)) (followed (body_steps of b) (work_steps w))
+  pub before_steps : (b : Body) (w : List Work) → Less (work_steps (body_then b w)) (followed (body_steps of b) (work_steps w))
   before_steps Empty w = nothing_first (work_steps w)
   before_steps (Then s b) w =
       less_trans _ _ _ (followed_less (step_steps of s) (step_steps of s) _ _ (less_refl (step_steps of s)) (before_steps b w))
       (followed_twice (step_steps of s) (body_steps of b) (work_steps w))
 
-  pub before_fine : (b : Body) (w : List Work) → BodyFine b → WorkFine w → WorkFine (before b w)
+  pub before_fine : (b : Body) (w : List Work) → BodyFine b → WorkFine w → WorkFine (body_then b w)
   before_fine Empty w f g = g
   before_fine (Then s b) w f g = (f.0, before_fine b w f.1 g)
 
@@ -117,7 +117,7 @@ module _ (of : ModuleId → Option Steps) where
   NextLess Finish s = ⊥
   NextLess Stuck s = ⊥
   NextLess (Acts action w) s = Less (one_more (work_steps w)) s
-  NextLess (Passes w) s = Less (one_more (work_steps w)) s
+  NextLess (Advances w) s = Less (one_more (work_steps w)) s
   NextLess (Tests test v u) s = Less (one_more (work_steps v)) s × Less (one_more (work_steps u)) s
   NextLess (Counts count f) s = (n : ℤ) → IsCount count n → Less (one_more (work_steps (f n))) s
   NextLess (Holds k pause w) s = Less (followed (pause_steps pause) (work_steps w)) s
@@ -127,22 +127,22 @@ module _ (of : ModuleId → Option Steps) where
   NextFine Finish = Unit {0}
   NextFine Stuck = Unit {0}
   NextFine (Acts action w) = WorkFine w
-  NextFine (Passes w) = WorkFine w
+  NextFine (Advances w) = WorkFine w
   NextFine (Tests test v u) = WorkFine v × WorkFine u
   NextFine (Counts count f) = (n : ℤ) → WorkFine (f n)
   NextFine (Holds k pause w) = (0 < k) × WorkFine w
   NextFine (Runs k m arguments w) = (0 < k) × WorkFine w
 
   -- a body first, of which a step is made
-  body_less : (b : Body) (x : Steps) (w : List Work) → Less (one_more (body_steps of b)) x → Less (one_more (work_steps (before b w))) (followed x (work_steps w))
+  body_less : (b : Body) (x : Steps) (w : List Work) → Less (one_more (body_steps of b)) x → Less (one_more (work_steps (body_then b w))) (followed x (work_steps w))
   body_less b x w f = less_trans _ _ _ (one_more_less _ _ (before_steps b w)) (push (body_steps of b) x (work_steps w) f)
 
   -- a body and then a piece of work of its loop
   turn_less : (b : Body) (y x : Steps) (w v : List Work) → work_steps v ≡ followed y (work_steps w) → Less (one_more (followed (body_steps of b) y)) x
-      → Less (one_more (work_steps (before b v))) (followed x (work_steps w))
+      → Less (one_more (work_steps (body_then b v))) (followed x (work_steps w))
   turn_less b y x w v e f =
       let all = followed (body_steps of b) (followed y (work_steps w)) in
-      let first : Less (work_steps (before b v)) all = subst (λ (s : Steps). Less (work_steps (before b v)) (followed (body_steps of b) s)) e (before_steps b v) in
+      let first : Less (work_steps (body_then b v)) all = subst (λ (s : Steps). Less (work_steps (body_then b v)) (followed (body_steps of b) s)) e (before_steps b v) in
       less_trans _ _ _ (one_more_less _ _ (less_trans _ _ _ first (followed_twice (body_steps of b) y (work_steps w)))) (push (followed (body_steps of b) y) x (work_steps w) f)
 
   call_less : (o : Option Steps) (v : Steps) (w : Steps) → o ≡ Some v → Less (one_more (followed v w)) (followed (one_more (steps_or_none o)) w)
@@ -222,7 +222,7 @@ module _ (of : ModuleId → Option Steps) where
     after_fine_body : (b : Body) (k : ℕ) (cs : List ℤ) (w : List Work) → BodyFine b → WorkFine w → IfFine (after_body b k cs w)
     after_fine_body Empty k cs w f g = tt
     after_fine_body (Then s b) k cs w f g =
-        first_fine (after_step s k cs (before b w)) (after_body b k cs w) (after_fine_step s k cs (before b w) f.0 (before_fine b w f.1 g)) (after_fine_body b k cs w f.1 g)
+        first_fine (after_step s k cs (body_then b w)) (after_body b k cs w) (after_fine_step s k cs (body_then b w) f.0 (before_fine b w f.1 g)) (after_fine_body b k cs w f.1 g)
 
   -- ---- each work has a way
 

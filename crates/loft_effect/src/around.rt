@@ -2,7 +2,7 @@
 
 ghost use Rattle.std.specs.Prelude.{◌≡◌, ◌≤◌, ◌<◌, ◌+◌, ◌^◌, length, nat_lt, slice_set, OnOk, is_some, unwrap_or, pos};
 ghost use Rattle.loft_board.specs.Board.{has, values as event_values, generate};
-ghost use Rattle.loft_sense.specs.Around.{done, entered};
+ghost use Rattle.loft_sense.specs.Around.{with_act, entered};
 ghost use Rattle.loft_sense.specs.CanGo.{is_index, is_known as is_known_in, same_thread as same_thread_as};
 ghost use Rattle.loft_sense.specs.Statements.{indexed, most_entries as most_entries_at, new_id, one_made};
 
@@ -142,7 +142,7 @@ impl Around {
 
     /// This was done.
     pub fn push(&mut self, act: Act) -> Result<(), NoMemory>
-        ensures done { OnOk result (around_of self.new ≡ done act (around_of self.old)) }
+        ensures done { OnOk result (around_of self.new ≡ with_act act (around_of self.old)) }
         ensures pace { OnOk result (pace_of self.new ≡ pace_of self.old) }
     {
         self.acts.push(act)

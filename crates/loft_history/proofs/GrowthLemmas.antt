@@ -18,7 +18,7 @@ use Rattle.loft_sense.specs.Machine.{Prog, heads}
 use Rattle.loft_sense.specs.Instant.{Replayed}
 use Rattle.loft_sense.specs.Async.{async}
 use Rattle.loft_history.specs.Clients.{made_by, outside_of}
-use Rattle.loft_history.specs.History.{in_instant, is_open, left_after, left_of, unsent_after, unsent, has_turn, sent_last}
+use Rattle.loft_history.specs.History.{in_instant, is_open, unposted_after, unposted, unsent_after, unsent, has_turn, sent_last}
 use Rattle.loft_history.specs.Legal.{actor_of, same_actor, of, AtEach, IsFirst, TakeTurns, IsDue, Works, Gives, IsCallersOrder, FitsOne, IsCall, Calls, IsFaithful, IsNextOf}
 use Rattle.loft_history.proofs.OwnLemmas.{replayed_own, creates_own}
 
@@ -162,15 +162,15 @@ works_posted x o v sent l k after true [] on works next = absurd works
 works_posted x o v sent l k after true (m ∷ left) on works next = (works.0, on left works.1 next)
 works_posted x o v sent l k after false left on works next = on left works next
 
-works-append : (x : Prog) (o : RunOptions) (w : ℕ) (h k : List Entry) (left : List Sent) → Works x o left (of (actor.Worker w) h) → Works x o (left_after x o w left h) k → Works x o left (of (actor.Worker w) h ++ k)
+works-append : (x : Prog) (o : RunOptions) (w : ℕ) (h k : List Entry) (left : List Sent) → Works x o left (of (actor.Worker w) h) → Works x o (unposted_after x o w left h) k → Works x o left (of (actor.Worker w) h ++ k)
 works-append x o w [] k left works next = next
 works-append x o w (Take q batch ∷ es) k left works next = works-append x o w es k left works next
 works-append x o w (Give q sent ∷ es) k left works next = works-append x o w es k left works next
 works-append x o w (Client c sent ∷ es) k left works next = works-append x o w es k left works next
 works-append x o w (Pick v job ∷ es) k left works next =
-    works_picked x o v job (of (actor.Worker w) es) k (λ now. Works x o (left_after x o w now es) k) (w == v) left (works-append x o w es k) works next
+    works_picked x o v job (of (actor.Worker w) es) k (λ now. Works x o (unposted_after x o w now es) k) (w == v) left (works-append x o w es k) works next
 works-append x o w (Post v sent ∷ es) k left works next =
-    works_posted x o v sent (of (actor.Worker w) es) k (λ now. Works x o (left_after x o w now es) k) (w == v) left (works-append x o w es k) works next
+    works_posted x o v sent (of (actor.Worker w) es) k (λ now. Works x o (unposted_after x o w now es) k) (w == v) left (works-append x o w es k) works next
 
 -- what comes next in a worker's own list goes on with what is left
 works_left_picked : (x : Prog) (o : RunOptions) (v : ℕ) (job : Thread) (l k : List Entry) (after : List Sent → Type 0) (own : Bool) (left : List Sent)
@@ -187,15 +187,15 @@ works_left_posted x o v sent l k after true [] on works = absurd works
 works_left_posted x o v sent l k after true (m ∷ left) on works = on left works.1
 works_left_posted x o v sent l k after false left on works = on left works
 
-pub works_left : (x : Prog) (o : RunOptions) (w : ℕ) (h k : List Entry) (left : List Sent) → Works x o left (of (actor.Worker w) h ++ k) → Works x o (left_after x o w left h) k
+pub works_left : (x : Prog) (o : RunOptions) (w : ℕ) (h k : List Entry) (left : List Sent) → Works x o left (of (actor.Worker w) h ++ k) → Works x o (unposted_after x o w left h) k
 works_left x o w [] k left works = works
 works_left x o w (Take q batch ∷ es) k left works = works_left x o w es k left works
 works_left x o w (Give q sent ∷ es) k left works = works_left x o w es k left works
 works_left x o w (Client c sent ∷ es) k left works = works_left x o w es k left works
 works_left x o w (Pick v job ∷ es) k left works =
-    works_left_picked x o v job (of (actor.Worker w) es) k (λ now. Works x o (left_after x o w now es) k) (w == v) left (works_left x o w es k) works
+    works_left_picked x o v job (of (actor.Worker w) es) k (λ now. Works x o (unposted_after x o w now es) k) (w == v) left (works_left x o w es k) works
 works_left x o w (Post v sent ∷ es) k left works =
-    works_left_posted x o v sent (of (actor.Worker w) es) k (λ now. Works x o (left_after x o w now es) k) (w == v) left (works_left x o w es k) works
+    works_left_posted x o v sent (of (actor.Worker w) es) k (λ now. Works x o (unposted_after x o w now es) k) (w == v) left (works_left x o w es k) works
 
 works_before : (x : Prog) (o : RunOptions) (l k : List Entry) (left : List Sent) → Works x o left (l ++ k) → Works x o left l
 works_before x o [] k left works = tt
@@ -237,14 +237,14 @@ on_works x o [] (Post w sent) next = next
 on_works x o (m ∷ left) (Post w sent) next = (next, tt)
 on_works x o left (Client c sent) next = absurd next
 
-next_works : (x : Prog) (o : RunOptions) (w : ℕ) (h : List Entry) (e : Entry) → IsNextOf x o (actor.Worker w) h e → WorksOn (left_of x o w h) e
+next_works : (x : Prog) (o : RunOptions) (w : ℕ) (h : List Entry) (e : Entry) → IsNextOf x o (actor.Worker w) h e → WorksOn (unposted x o w h) e
 next_works x o w h (Take s batch) next = next
 next_works x o w h (Give s sent) next = next
 next_works x o w h (Pick v job) next = next
 next_works x o w h (Post v sent) next = next
 next_works x o w h (Client c sent) next = next
 
-works_next : (x : Prog) (o : RunOptions) (w : ℕ) (h : List Entry) (e : Entry) → WorksOn (left_of x o w h) e → IsNextOf x o (actor.Worker w) h e
+works_next : (x : Prog) (o : RunOptions) (w : ℕ) (h : List Entry) (e : Entry) → WorksOn (unposted x o w h) e → IsNextOf x o (actor.Worker w) h e
 works_next x o w h (Take s batch) next = next
 works_next x o w h (Give s sent) next = next
 works_next x o w h (Pick v job) next = next
@@ -362,7 +362,7 @@ grows x o (actor.Sched s) h e own next =
       turns = turns-append s h (e ∷ []) false own.turns f.turn;
       due = at_each-append (IsDue x o s) (of (actor.Sched s) h) e own.due f.due;
     }
-grows x o (actor.Worker w) h e own next = works-append x o w h (e ∷ []) [] own (on_works x o (left_of x o w h) e (next_works x o w h e next))
+grows x o (actor.Worker w) h e own next = works-append x o w h (e ∷ []) [] own (on_works x o (unposted x o w h) e (next_works x o w h e next))
 grows x o (actor.Client c) h e own next = record {
   source = λ declared. gives-append c h (e ∷ []) (outside_of (heads x) c) (own.source declared) (next_gives x o c h e next declared);
   caller = λ beyond. at_each-append (Calls x c) (of (actor.Client c) h) e (own.caller beyond) (next_calls x o c h e next beyond);
@@ -378,7 +378,7 @@ own_before x o (actor.Client c) l k f = record {
 
 pub next_own : (x : Prog) (o : RunOptions) (a : Actor) (h : List Entry) (e : Entry) → IsFaithful x o a (of a h ++ e ∷ []) → IsNextOf x o a h e
 next_own x o (actor.Sched s) h e f = follows_next x o s h e (record { turn = turns_left s h (e ∷ []) false f.turns; due = f.due (of (actor.Sched s) h) e [] refl })
-next_own x o (actor.Worker w) h e f = works_next x o w h e (works_on x o (left_of x o w h) e (works_left x o w h (e ∷ []) [] f))
+next_own x o (actor.Worker w) h e f = works_next x o w h e (works_on x o (unposted x o w h) e (works_left x o w h (e ∷ []) [] f))
 next_own x o (actor.Client c) h e f =
     client_next x o c h e (λ declared. gives_on (unsent (heads x) c h) e (gives_left c h (e ∷ []) (outside_of (heads x) c) (f.source declared)))
     (λ beyond. f.caller beyond (of (actor.Client c) h) e [] refl)

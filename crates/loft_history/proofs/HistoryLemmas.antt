@@ -17,7 +17,7 @@ use Rattle.loft_sense.specs.declared.limits.RunOptions.{RunOptions}
 use Rattle.loft_sense.specs.Heads.{same_scheduler}
 use Rattle.loft_sense.specs.Machine.{Prog, heads}
 use Rattle.loft_history.specs.Clients.{orders_from, orders_or_none, outside_of}
-use Rattle.loft_history.specs.History.{Choice, TakeBy, GiveBy, PickBy, PostBy, ClientBy, choice_of, log, is_open, jobs, left_of, unsent_step, unsent_after, unsent, has_turn, entry_of_first, pick_of, entry_of, with_entry, waiting, replayed, sent_last, hist_on, hist, HasEnded}
+use Rattle.loft_history.specs.History.{Choice, TakeBy, GiveBy, PickBy, PostBy, ClientBy, choice_of, log, is_open, jobs, unposted, unsent_step, unsent_after, unsent, has_turn, entry_of_first, pick_of, entry_of, with_entry, waiting, replayed, sent_last, hist_on, hist, HasEnded}
 
 -- a scheduler is itself
 pub same_self : (s : SchedId) → same_scheduler s s ≡ true
@@ -72,12 +72,12 @@ pub choice_kept : (x : Prog) (o : RunOptions) (h : List Entry) (c : Choice) (e :
 choice_kept x o h (TakeBy s) e is = sym (ap choice_of (chosen _ (Take s (waiting (heads x) s h)) e is))
 choice_kept x o h (GiveBy s) e is = sym (ap choice_of (chosen _ (Give s (sent_last (replayed x o.limits s h).notes)) e is))
 choice_kept x o h (PickBy w) e is =
-    on_if (nat_lt w o.workers) (pick_of w (left_of x o w h) (jobs h)) e is (λ declared picks.
-    on_pick w (left_of x o w h) (jobs h) e picks (λ free first.
+    on_if (nat_lt w o.workers) (pick_of w (unposted x o w h) (jobs h)) e is (λ declared picks.
+    on_pick w (unposted x o w h) (jobs h) e picks (λ free first.
     first_kept (Pick w) (PickBy w) (λ job. refl) (jobs h) e first))
 choice_kept x o h (PostBy w) e is =
-    on_if (nat_lt w o.workers) (entry_of_first (Post w) (left_of x o w h)) e is (λ declared first.
-    first_kept (Post w) (PostBy w) (λ sent. refl) (left_of x o w h) e first)
+    on_if (nat_lt w o.workers) (entry_of_first (Post w) (unposted x o w h)) e is (λ declared first.
+    first_kept (Post w) (PostBy w) (λ sent. refl) (unposted x o w h) e first)
 choice_kept x o h (ClientBy c) e is = first_kept (Client c) (ClientBy c) (λ sent. refl) (unsent (heads x) c h) e is
 
 choices_on : (x : Prog) (o : RunOptions) (cs : List Choice) (h g : List Entry) → hist_on x o cs h ≡ Ok g → map choice_of g ≡ map choice_of h ++ cs
@@ -162,17 +162,17 @@ ended_choice x o h ended (TakeBy s) =
     no_take (nat_lt s.0 (length (heads x).schedulers)) (is_open s h) (has_turn x o.limits (replayed x o.limits s h).machine (waiting (heads x) s h)) _ (λ d. ended.schedulers s (ltb-true s.0 _ d))
 ended_choice x o h ended (GiveBy s) =
     no_give (nat_lt s.0 (length (heads x).schedulers)) (is_open s h) (has_turn x o.limits (replayed x o.limits s h).machine (waiting (heads x) s h)) _ (λ d. ended.schedulers s (ltb-true s.0 _ d))
-ended_choice x o h ended (PickBy w) = no_choice (nat_lt w o.workers) _ (λ d. no_pick w (left_of x o w h) (jobs h) ended.no_jobs)
-ended_choice x o h ended (PostBy w) = no_choice (nat_lt w o.workers) _ (λ d. no_first (Post w) (left_of x o w h) (ended.workers w (ltb-true w _ d)))
+ended_choice x o h ended (PickBy w) = no_choice (nat_lt w o.workers) _ (λ d. no_pick w (unposted x o w h) (jobs h) ended.no_jobs)
+ended_choice x o h ended (PostBy w) = no_choice (nat_lt w o.workers) _ (λ d. no_first (Post w) (unposted x o w h) (ended.workers w (ltb-true w _ d)))
 ended_choice x o h ended (ClientBy c) = no_first (Client c) (unsent (heads x) c h) (all_unsent (heads x) c h (nat_lt c (length (heads x).clients)) refl (ended.clients c))
 
 without_choice : (x : Prog) (o : RunOptions) (h : List Entry) → 0 < o.workers → ((c : Choice) → entry_of x o h c ≡ None) → HasEnded x o h
 without_choice x o h some none =
-    let free : (w : ℕ) → w < o.workers → left_of x o w h ≡ [] =
-    λ w declared. none_left (Post w) (left_of x o w h) (allowed_none (nat_lt w o.workers) _ (lt-ltb w _ declared) (none (PostBy w))) in
+    let free : (w : ℕ) → w < o.workers → unposted x o w h ≡ [] =
+    λ w declared. none_left (Post w) (unposted x o w h) (allowed_none (nat_lt w o.workers) _ (lt-ltb w _ declared) (none (PostBy w))) in
     record {
       clients = λ c declared. none_left (Client c) (unsent (heads x) c h) (none (ClientBy c));
-      no_jobs = none_waits 0 (left_of x o 0 h) (jobs h) (free 0 some) (allowed_none (nat_lt 0 o.workers) _ (lt-ltb 0 _ some) (none (PickBy 0)));
+      no_jobs = none_waits 0 (unposted x o 0 h) (jobs h) (free 0 some) (allowed_none (nat_lt 0 o.workers) _ (lt-ltb 0 _ some) (none (PickBy 0)));
       workers = free;
       schedulers =
           λ s declared. neither (nat_lt s.0 (length (heads x).schedulers)) (is_open s h) (has_turn x o.limits (replayed x o.limits s h).machine (waiting (heads x) s h))

@@ -11,7 +11,7 @@ use Rattle.loft_sense.specs.declared.entry.Entry.{Entry}
 use Rattle.loft_sense.specs.declared.entry.Entry.TheVariants.{Take, Give, Pick, Post, Client}
 use Rattle.loft_sense.specs.declared.limits.RunOptions.{RunOptions}
 use Rattle.loft_sense.specs.Machine.{Prog, heads}
-use Rattle.loft_history.specs.History.{choice_of, waiting, jobs, left_of, unsent, replayed, has_turn, sent_last, entry_of_first, pick_of, entry_of, with_entry, hist_on, hist}
+use Rattle.loft_history.specs.History.{choice_of, waiting, jobs, unposted, unsent, replayed, has_turn, sent_last, entry_of_first, pick_of, entry_of, with_entry, hist_on, hist}
 use Rattle.loft_history.specs.Legal.{actor_of, same_actor, of, AtEach, IsFirst, TakesDue, IsFaithful, IsNextOrder, IsNextOf, IsDeclared, IsLegal, IsNoCaller, HasNoCallers, ComesNext}
 use Rattle.loft_history.proofs.HistoryLemmas.{take_allowed, give_allowed}
 use Rattle.loft_history.proofs.GrowthLemmas.{own_before, next_own}
@@ -57,9 +57,9 @@ comes x o h (Take s batch) declared takes next =
 comes x o h (Give s sent) declared takes next =
     inl (give_allowed _ _ (Give s (sent_last (replayed x o.limits s h).notes)) (lt-ltb s.0 _ declared) next.0 ∙ ap (λ (ms : List Sent). Some (Give s ms)) (sym next.1))
 comes x o h (Pick w job) declared takes next =
-    inl (if_allowed (nat_lt w o.workers) (pick_of w (left_of x o w h) (jobs h)) (lt-ltb w o.workers declared) ∙ picks_first w (left_of x o w h) (jobs h) job next takes)
+    inl (if_allowed (nat_lt w o.workers) (pick_of w (unposted x o w h) (jobs h)) (lt-ltb w o.workers declared) ∙ picks_first w (unposted x o w h) (jobs h) job next takes)
 comes x o h (Post w sent) declared takes next =
-    inl (if_allowed (nat_lt w o.workers) (entry_of_first (Post w) (left_of x o w h)) (lt-ltb w o.workers declared) ∙ first_made (Post w) sent (left_of x o w h) next)
+    inl (if_allowed (nat_lt w o.workers) (entry_of_first (Post w) (unposted x o w h)) (lt-ltb w o.workers declared) ∙ first_made (Post w) sent (unposted x o w h) next)
 comes x o h (Client c sent) declared takes next = client_comes x o h c sent (nat_lt c (length (heads x).clients)) refl next
 
 legal_entry : (x : Prog) (o : RunOptions) (before : List Entry) (e : Entry) (after : List Entry) → IsLegal x o (before ++ e ∷ after) → ComesNext x o before e

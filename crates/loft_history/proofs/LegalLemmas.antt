@@ -11,7 +11,7 @@ use Rattle.loft_sense.specs.declared.entry.Entry.{Entry}
 use Rattle.loft_sense.specs.declared.entry.Entry.TheVariants.{Take, Give, Pick, Post, Client}
 use Rattle.loft_sense.specs.declared.limits.RunOptions.{RunOptions}
 use Rattle.loft_sense.specs.Machine.{Prog, heads}
-use Rattle.loft_history.specs.History.{Choice, TakeBy, GiveBy, PickBy, PostBy, ClientBy, choice_of, is_open, waiting, jobs, left_of, unsent, replayed, has_turn, sent_last, entry_of_first, pick_of, entry_of, hist_on, hist}
+use Rattle.loft_history.specs.History.{Choice, TakeBy, GiveBy, PickBy, PostBy, ClientBy, choice_of, is_open, waiting, jobs, unposted, unsent, replayed, has_turn, sent_last, entry_of_first, pick_of, entry_of, hist_on, hist}
 use Rattle.loft_history.specs.Legal.{actor_of, same_actor, of, IsFirst, TakesDue, IsFaithful, IsDeclared, IsLegal, IsNoCaller, HasNoCallers, IsCallersEntry, ComesNext, IsNextOf}
 use Rattle.loft_history.proofs.GrowthLemmas.{at_each-append, at_each_none, grows}
 use Rattle.loft_history.proofs.HistoryLemmas.{is_same, same_self, from_first, same_history, on_if, on_first, on_pick, choice_kept, unsent_none}
@@ -85,13 +85,13 @@ chosen_allowed x o h (GiveBy s) e is =
     on_give (nat_lt s.0 (length (heads x).schedulers)) (is_open s h) (Give s (sent_last (replayed x o.limits s h).notes)) e is
     (λ declared opened same. subst (IsAllowed x o h) same (record { declared = ltb-true s.0 _ declared; takes = tt; next = (opened, refl) }))
 chosen_allowed x o h (PickBy w) e is =
-    on_if (nat_lt w o.workers) (pick_of w (left_of x o w h) (jobs h)) e is (λ declared picks.
-    on_pick w (left_of x o w h) (jobs h) e picks (λ free first.
+    on_if (nat_lt w o.workers) (pick_of w (unposted x o w h) (jobs h)) e is (λ declared picks.
+    on_pick w (unposted x o w h) (jobs h) e picks (λ free first.
     on_first (Pick w) (jobs h) e first (λ job rest all same.
     subst (IsAllowed x o h) same (record { declared = ltb-true w o.workers declared; takes = subst (IsFirst job) (sym all) refl; next = free }))))
 chosen_allowed x o h (PostBy w) e is =
-    on_if (nat_lt w o.workers) (entry_of_first (Post w) (left_of x o w h)) e is (λ declared first.
-    on_first (Post w) (left_of x o w h) e first (λ sent rest all same.
+    on_if (nat_lt w o.workers) (entry_of_first (Post w) (unposted x o w h)) e is (λ declared first.
+    on_first (Post w) (unposted x o w h) e first (λ sent rest all same.
     subst (IsAllowed x o h) same (record { declared = ltb-true w o.workers declared; takes = tt; next = subst (IsFirst sent) (sym all) refl })))
 chosen_allowed x o h (ClientBy c) e is =
     on_first (Client c) (unsent (heads x) c h) e is (λ sent rest all same.

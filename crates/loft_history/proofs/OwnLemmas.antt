@@ -18,7 +18,7 @@ use Rattle.loft_sense.specs.Machine.{Prog}
 use Rattle.loft_sense.specs.Instant.{replay}
 use Rattle.loft_sense.specs.Async.{async}
 use Rattle.loft_history.specs.Clients.{outside_of}
-use Rattle.loft_history.specs.History.{log, instant_step, is_open, left_step, left_of, ends_block, busy_step, is_busy, is_create, creates_step, creates, unsent_step, unsent_after, unsent, replayed}
+use Rattle.loft_history.specs.History.{log, instant_step, is_open, unposted_step, unposted, ends_block, busy_step, is_busy, is_create, creates_step, creates, unsent_step, unsent_after, unsent, replayed}
 use Rattle.loft_history.specs.Legal.{actor_of, same_actor, of}
 
 -- a scheduler's log is that of its own entries
@@ -60,7 +60,7 @@ instant_passes s was (Pick w job) other = refl
 instant_passes s was (Post w sent) other = refl
 instant_passes s was (Client c sent) other = refl
 
-left_passes : (x : Prog) (o : RunOptions) (w : ℕ) (was : List Sent) (e : Entry) → same_actor (actor.Worker w) (actor_of e) ≡ false → left_step x o w was e ≡ was
+left_passes : (x : Prog) (o : RunOptions) (w : ℕ) (was : List Sent) (e : Entry) → same_actor (actor.Worker w) (actor_of e) ≡ false → unposted_step x o w was e ≡ was
 left_passes x o w was (Take q batch) other = refl
 left_passes x o w was (Give q sent) other = refl
 left_passes x o w was (Pick v job) other = ap (λ (b : Bool). if b then async x job o.limits.block else was) other
@@ -93,8 +93,8 @@ creates_passes c was (Client d sent) other = ap (λ (b : Bool). if b && is_creat
 pub open_own : (s : SchedId) (es : List Entry) → is_open s (of (actor.Sched s) es) ≡ is_open s es
 open_own s es = fold_own (instant_step s) (actor.Sched s) (instant_passes s) false es
 
-pub left_own : (x : Prog) (o : RunOptions) (w : ℕ) (es : List Entry) → left_of x o w (of (actor.Worker w) es) ≡ left_of x o w es
-left_own x o w es = fold_own (left_step x o w) (actor.Worker w) (left_passes x o w) [] es
+pub left_own : (x : Prog) (o : RunOptions) (w : ℕ) (es : List Entry) → unposted x o w (of (actor.Worker w) es) ≡ unposted x o w es
+left_own x o w es = fold_own (unposted_step x o w) (actor.Worker w) (left_passes x o w) [] es
 
 pub creates_own : (c : ℕ) (es : List Entry) → creates c (of (actor.Client c) es) ≡ creates c es
 creates_own c es = fold_own (creates_step c) (actor.Client c) (creates_passes c) 0 es
@@ -107,7 +107,7 @@ unsent_own h c es = fold_own (unsent_step c) (actor.Client c) (unsent_passes c) 
 pub scheduler_own : (s : SchedId) (es : List Entry) → (log s (of (actor.Sched s) es) ≡ log s es) × (is_open s (of (actor.Sched s) es) ≡ is_open s es)
 scheduler_own s es = (log_own s es, open_own s es)
 
-pub worker_own : (x : Prog) (o : RunOptions) (w : ℕ) (es : List Entry) → (left_of x o w (of (actor.Worker w) es) ≡ left_of x o w es) × (is_busy w (of (actor.Worker w) es) ≡ is_busy w es)
+pub worker_own : (x : Prog) (o : RunOptions) (w : ℕ) (es : List Entry) → (unposted x o w (of (actor.Worker w) es) ≡ unposted x o w es) × (is_busy w (of (actor.Worker w) es) ≡ is_busy w es)
 worker_own x o w es = (left_own x o w es, fold_own (busy_step w) (actor.Worker w) (hand_passes w) false es)
 
 pub client_own : (h : Heads) (c : ℕ) (es : List Entry) → (creates c (of (actor.Client c) es) ≡ creates c es) × (unsent h c (of (actor.Client c) es) ≡ unsent h c es)

@@ -2,12 +2,11 @@
 use Rattle.std.specs.Prelude.{ℕ, ◌+◌, List, [], ◌∷◌, Option, Some, None, slice_get}
 use Rattle.loft_base.specs.declared.ids.Maker.TheVariants as maker
 use Rattle.loft_base.specs.declared.ids.ThreadId.{ThreadId}
-use Rattle.loft_tree.specs.declared.kinds.Control.{Control}
-use Rattle.loft_tree.specs.declared.kinds.Control.TheVariants as control
 use Rattle.loft_tree.specs.declared.heads.ClientOrder.{ClientOrder}
 use Rattle.loft_tree.specs.declared.heads.ClientOrder.TheVariants as client
 use Rattle.loft_tree.specs.declared.heads.Client.{Client}
 use Rattle.loft_tree.specs.declared.heads.Heads.{Heads}
+use Rattle.loft_sense.specs.Statements.{order_of}
 use Rattle.loft_sense.specs.declared.order.Order.{Order}
 use Rattle.loft_sense.specs.declared.order.Order.TheVariants as order
 use Rattle.loft_sense.specs.declared.order.To.TheVariants.{Sched}
@@ -18,16 +17,11 @@ use Rattle.loft_sense.specs.Heads.{home}
 abbrev pub made_by : ℕ → ℕ → ThreadId
 made_by c k = record { maker = maker.Client c; seq = k }
 
-abbrev pub control_of : Control → ThreadId → Order
-control_of control.Stop t = order.Stop t
-control_of control.Suspend t = order.Suspend t
-control_of control.Resume t = order.Resume t
-
 -- a client's orders as they are sent, where its next create is number k: each goes to the scheduler that it names, a broadcast to its event's
 abbrev pub orders_from : Heads → ℕ → ℕ → List ClientOrder → List Sent
 orders_from h c k [] = []
 orders_from h c k (client.Create s m arguments ∷ os) = record { to = Sched s; order = order.Create (made_by c k) m arguments } ∷ orders_from h c (k + 1) os
-orders_from h c k (client.Control control t s ∷ os) = record { to = Sched s; order = control_of control t } ∷ orders_from h c k os
+orders_from h c k (client.Control control t s ∷ os) = record { to = Sched s; order = order_of control t } ∷ orders_from h c k os
 orders_from h c k (client.Broadcast e value ∷ os) = record { to = Sched (home h e); order = order.Broadcast e value } ∷ orders_from h c k os
 
 abbrev pub orders_or_none : Option Client → List ClientOrder

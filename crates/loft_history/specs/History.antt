@@ -156,18 +156,18 @@ abbrev pub is_busy : ℕ → List Entry → Bool
 is_busy w h = in_hand w false h
 
 -- a worker's Pick leaves all that the job sends, its Post all but the first
-abbrev pub left_step : Prog → RunOptions → ℕ → List Sent → Entry → List Sent
-left_step x o w left (Pick v job) = if w == v then async x job o.limits.block else left
-left_step x o w left (Post v sent) = if w == v then drop 1 left else left
-left_step x o w left e = left
+abbrev pub unposted_step : Prog → RunOptions → ℕ → List Sent → Entry → List Sent
+unposted_step x o w left (Pick v job) = if w == v then async x job o.limits.block else left
+unposted_step x o w left (Post v sent) = if w == v then drop 1 left else left
+unposted_step x o w left e = left
 
 -- what a worker has still to post after these entries, where this was left before them
-abbrev pub left_after : Prog → RunOptions → ℕ → List Sent → List Entry → List Sent
-left_after x o w left es = fold (left_step x o w) left es
+abbrev pub unposted_after : Prog → RunOptions → ℕ → List Sent → List Entry → List Sent
+unposted_after x o w left es = fold (unposted_step x o w) left es
 
 -- what a worker's job in hand has still to post
-abbrev pub left_of : Prog → RunOptions → ℕ → List Entry → List Sent
-left_of x o w h = left_after x o w [] h
+abbrev pub unposted : Prog → RunOptions → ℕ → List Entry → List Sent
+unposted x o w h = unposted_after x o w [] h
 
 -- a client's order is the first of what it has still to give
 abbrev pub unsent_step : ℕ → List Sent → Entry → List Sent
@@ -236,8 +236,8 @@ entry_of x o h (GiveBy s) =
     if nat_lt s.0 (length (heads x).schedulers) && is_open s h
     then Some (Give s (sent_last (replayed x o.limits s h).notes))
     else None
-entry_of x o h (PickBy w) = if nat_lt w o.workers then pick_of w (left_of x o w h) (jobs h) else None
-entry_of x o h (PostBy w) = if nat_lt w o.workers then entry_of_first (Post w) (left_of x o w h) else None
+entry_of x o h (PickBy w) = if nat_lt w o.workers then pick_of w (unposted x o w h) (jobs h) else None
+entry_of x o h (PostBy w) = if nat_lt w o.workers then entry_of_first (Post w) (unposted x o w h) else None
 entry_of x o h (ClientBy c) = entry_of_first (Client c) (unsent (heads x) c h)
 
 -- the history goes on by this entry, or the next choice isn't allowed: the answer is its number, from 1
@@ -263,5 +263,5 @@ has_finished x o h s = not (is_open s h) && not (has_turn x o.limits (replayed x
 pub record HasEnded (x : Prog) (o : RunOptions) (h : List Entry) : Type 0 where
   pub clients : (c : ℕ) → c < length (heads x).clients → unsent (heads x) c h ≡ []
   pub no_jobs : jobs h ≡ []
-  pub workers : (w : ℕ) → w < o.workers → left_of x o w h ≡ []
+  pub workers : (w : ℕ) → w < o.workers → unposted x o w h ≡ []
   pub schedulers : (s : SchedId) → s.0 < length (heads x).schedulers → IsTrue (has_finished x o h s)

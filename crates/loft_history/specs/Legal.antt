@@ -19,7 +19,7 @@ use Rattle.loft_sense.specs.Machine.{Prog, heads}
 use Rattle.loft_sense.specs.Fits.{Fits}
 use Rattle.loft_sense.specs.Async.{async}
 use Rattle.loft_history.specs.Clients.{made_by, outside_of}
-use Rattle.loft_history.specs.History.{choice_of, is_open, waiting, jobs, left_of, unsent, creates, replayed, has_turn, sent_last, entry_of}
+use Rattle.loft_history.specs.History.{choice_of, is_open, waiting, jobs, unposted, unsent, creates, replayed, has_turn, sent_last, entry_of}
 
 abbrev pub actor_of : Entry → Actor
 actor_of (Take s batch) = actor.Sched s
@@ -131,8 +131,8 @@ pub record IsNextOrder (x : Prog) (c : ℕ) (own : List Entry) (sent : Sent) : T
 abbrev pub IsNextOf : Prog → RunOptions → Actor → List Entry → Entry → Type 0
 IsNextOf x o (actor.Sched s) own (Take q batch) = (is_open s own ≡ false) × IsTrue (has_turn x o.limits (replayed x o.limits s own).machine batch)
 IsNextOf x o (actor.Sched s) own (Give q sent) = (is_open s own ≡ true) × (sent ≡ sent_last (replayed x o.limits s own).notes)
-IsNextOf x o (actor.Worker w) own (Pick v job) = left_of x o w own ≡ []
-IsNextOf x o (actor.Worker w) own (Post v sent) = IsFirst sent (left_of x o w own)
+IsNextOf x o (actor.Worker w) own (Pick v job) = unposted x o w own ≡ []
+IsNextOf x o (actor.Worker w) own (Post v sent) = IsFirst sent (unposted x o w own)
 IsNextOf x o (actor.Client c) own (Client d sent) = IsNextOrder x c own sent
 IsNextOf x o a own e = ⊥
 

@@ -16,7 +16,7 @@ ghost use Rattle.loft_sense.specs.Tally.{capped};
 ghost use Rattle.loft_sense.specs.Instant.{replay};
 ghost use Rattle.loft_sense.specs.Lines.{text_of};
 ghost use Rattle.loft_history.specs.Report.{begun_lines};
-ghost use Rattle.loft_history.specs.History.{log, is_open, left_of, is_busy, creates, unsent};
+ghost use Rattle.loft_history.specs.History.{log, is_open, unposted, is_busy, creates, unsent};
 ghost use Rattle.loft_history.specs.History.{Choice, choice_of, entry_of, hist, HasEnded, jobs_sent};
 ghost use Rattle.loft_history.specs.Clients.{outside_of};
 ghost use Rattle.loft_history.specs.Legal.{actor_of, same_actor, of, AtEach, IsFaithful, IsNextOf};
@@ -53,7 +53,7 @@ pub fn own_entries_tell()
     ensures scheduler { (s : SchedId) (es : List Entry) → let own = of (Sched s) es in
         (log s own ≡ log s es) × (is_open s own ≡ is_open s es) }
     ensures worker { (x : Prog) (o : RunOptions) (w : ℕ) (es : List Entry) → let own = of (Worker w) es in
-        (left_of x o w own ≡ left_of x o w es) × (is_busy w own ≡ is_busy w es) }
+        (unposted x o w own ≡ unposted x o w es) × (is_busy w own ≡ is_busy w es) }
     ensures client { (h : Heads) (c : ℕ) (es : List Entry) → let own = of (Client c) es in
         (creates c own ≡ creates c es) × (unsent h c own ≡ unsent h c es) }
     ensures given { (h : Heads) (c : ℕ) (es : List Entry)

@@ -3,7 +3,7 @@
 ghost use Rattle.std.specs.Prelude.{◌≡◌, [], length, IfOk, OnOk};
 ghost use Rattle.loft_board.specs.Board.{no_events, generate as generate_on};
 ghost use Rattle.loft_sense.specs.declared.order.Mark.TheVariants as mark;
-ghost use Rattle.loft_sense.specs.Apply.{marked, link, ended_by, apply_order, apply_orders, new_thread as new_thread_of};
+ghost use Rattle.loft_sense.specs.Apply.{marked, with_last, ended_by, apply_order, apply_orders, new_thread as new_thread_of};
 ghost use Rattle.loft_instant.specs.Positions.{IsPosition};
 
 use crate::told::tell_end;
@@ -115,7 +115,7 @@ impl Batch {
     fn link(&mut self, thread: Thread) -> Result<(), NoMemory>
         ensures { OnOk result (applied_of self.new
             ≡ record (applied_of self.old) {
-              linked = link thread (standings_of self.old.linked.items);
+              linked = with_last thread (standings_of self.old.linked.items);
             }) }
     {
         self.linked.push(Runner::new(thread))?;

@@ -19,7 +19,7 @@ use Rattle.loft_sense.specs.declared.order.Sent.{Sent}
 use Rattle.loft_sense.specs.declared.note.Ended.{Ended}
 use Rattle.loft_sense.specs.Heads.{scheduler, shared_from}
 use Rattle.loft_history.specs.History.{choice_of, log, waiting}
-use Rattle.loft_sense.specs.Text.{space, name_of_shared, id_text, order_text}
+use Rattle.loft_sense.specs.Text.{space, name_or_none, id_text, order_text}
 use Rattle.loft_sense.specs.Lines.{text_of, end_line, mark_word, ends_at, batch_lines, leave_line, leave_lines, leave_place, instant_lines}
 use Rattle.loft_history.specs.Report.{choice_line, instants_lines, shared_lines, left_line, schedulers_from}
 use Rattle.loft_sense.specs.declared.entry.Entry.{Entry}
@@ -211,7 +211,7 @@ shared-written h s k x v left rest below is here first =
     ap (λ values. text_of (shared_after h s k values)) first
     ∙ ap (λ xs. text_of (shared_lines h (shared_from k s xs) (v ∷ rest))) (drop-at h.shared k x below is)
     ∙ ap (λ b. text_of (shared_lines h (if b then record { 0 = k } ∷ shared_from (k + 1) s (drop (k + 1) h.shared) else shared_from (k + 1) s (drop (k + 1) h.shared)) (v ∷ rest))) (eq-eqb s.0 x.scheduler.0 here)
-    ∙ ap (λ o. (value_text (name_of_shared o) v ++ 10 ∷ []) ++ text_of (shared_after h s (k + 1) rest)) (slice_get_read h.shared (length h.shared) k x refl below is)
+    ∙ ap (λ o. (value_text (name_or_none (λ (d : SharedHead). d.name) o) v ++ 10 ∷ []) ++ text_of (shared_after h s (k + 1) rest)) (slice_get_read h.shared (length h.shared) k x refl below is)
 
 no-values : (h : Heads) (xs : List SharedId) → shared_lines h xs [] ≡ []
 no-values h [] = refl

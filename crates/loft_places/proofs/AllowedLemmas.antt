@@ -25,8 +25,9 @@ use Rattle.loft_sense.specs.Machine.{Prog, heads, empty}
 use Rattle.loft_sense.specs.Fits.{Fits}
 use Rattle.loft_sense.specs.Instant.{instant, Replayed, one_more, replay_on, replay}
 use Rattle.loft_sense.specs.Async.{async}
-use Rattle.loft_history.specs.Clients.{made_by, control_of, orders_from, orders_or_none, outside_of}
-use Rattle.loft_history.specs.History.{log, is_open, waiting, jobs, ends_block, left_after, left_of, unsent_after, unsent, is_create, creates_after, creates, replayed, has_turn, sent_last, entry_of_first, pick_of, creates_step, left_step, unsent_step}
+use Rattle.loft_sense.specs.Statements.{order_of}
+use Rattle.loft_history.specs.Clients.{made_by, orders_from, orders_or_none, outside_of}
+use Rattle.loft_history.specs.History.{log, is_open, waiting, jobs, ends_block, unposted_after, unposted, unsent_after, unsent, is_create, creates_after, creates, replayed, has_turn, sent_last, entry_of_first, pick_of, creates_step, unposted_step, unsent_step}
 use Rattle.loft_history.specs.Legal.{of, IsCallersOrder, FitsOne, IsLegal, ComesNext}
 use Rattle.loft_sense.proofs.ReplayLemmas.{replay_on-append}
 use Rattle.loft_history.proofs.HistoryLemmas.{is_same, on_if, on_first, on_pick, sent_last-append, unsent_none}
@@ -74,7 +75,7 @@ further h c k m first rest others create os e is same =
     let one : m ≡ first = cc in let two : rest ≡ others = cc in
     (os, two ∙ same ∙ ap (λ (b : Bool). orders_from h c (if b then k + 1 else k) os) (sym (ap (λ (y : Sent). is_create y.order) one ∙ is)))
 
-control_creates : (kind : Control) (t : ThreadId) → is_create (control_of kind t) ≡ false
+control_creates : (kind : Control) (t : ThreadId) → is_create (order_of kind t) ≡ false
 control_creates control.Stop t = refl
 control_creates control.Suspend t = refl
 control_creates control.Resume t = refl
@@ -85,7 +86,7 @@ goes_further h c k m rest (client.Create s n arguments ∷ os) e = further h c k
 goes_further h c k m rest (client.Control kind t s ∷ os) e = further h c k m _ rest _ false os e (control_creates kind t) refl
 goes_further h c k m rest (client.Broadcast event value ∷ os) e = further h c k m _ rest _ false os e refl refl
 
-control_called : (next : ThreadId) (kind : Control) (t : ThreadId) → IsCallersOrder next (control_of kind t)
+control_called : (next : ThreadId) (kind : Control) (t : ThreadId) → IsCallersOrder next (order_of kind t)
 control_called next control.Stop t = tt
 control_called next control.Suspend t = tt
 control_called next control.Resume t = tt
@@ -114,7 +115,7 @@ module _ (x : Prog) (well : IsWellFormed x) (o : RunOptions) where
   pub record Known (es : List Entry) : Type 0 where
     pub fits : HistoryFits x well o es
     pub logs : (s : SchedId) → log s es ≡ (desk s es).given ++ (desk s es).hand
-    pub benches : (w : ℕ) → IsBench (left_of x o w es) (hand_of w es)
+    pub benches : (w : ℕ) → IsBench (unposted x o w es) (hand_of w es)
     pub numbers : (c : ℕ) → IsNumbered c es
 
   -- ---- what is known of an entry
@@ -136,13 +137,13 @@ module _ (x : Prog) (well : IsWellFormed x) (o : RunOptions) where
     pub declared : w < o.workers
     pub rest : List Thread
     pub first : jobs es ≡ job ∷ rest
-    pub free : left_of x o w es ≡ []
+    pub free : unposted x o w es ≡ []
     pub block : IsBlock (heads x) job.id (async x job o.limits.block)
 
   pub record Posted (es : List Entry) (w : ℕ) (m : Sent) : Type 0 where
     pub declared : w < o.workers
     pub rest : List Sent
-    pub left : left_of x o w es ≡ m ∷ rest
+    pub left : unposted x o w es ≡ m ∷ rest
 
   pub record Told (es : List Entry) (c : ℕ) (m : Sent) : Type 0 where
     pub for_one : FitsOne x m.to m.order
@@ -231,13 +232,13 @@ module _ (x : Prog) (well : IsWellFormed x) (o : RunOptions) where
       subst (Given es s) (sym (same_sent s (sent_last (replayed x o.limits s es).notes) sent same)) (given_one es s k (ltb-true s.0 (length (heads x).schedulers) parts.0) one.0 one.1))
   allowed es (Pick w job) k (inl is) =
       let fits = picked_fits x well o es w job k.fits (inl is) in
-      on_if (nat_lt w o.workers) (pick_of w (left_of x o w es) (jobs es)) (Pick w job) is (λ declared picks.
-      on_pick w (left_of x o w es) (jobs es) (Pick w job) picks (λ free first.
+      on_if (nat_lt w o.workers) (pick_of w (unposted x o w es) (jobs es)) (Pick w job) is (λ declared picks.
+      on_pick w (unposted x o w es) (jobs es) (Pick w job) picks (λ free first.
       on_first (Pick w) (jobs es) (Pick w job) first (λ t rest all same.
       record { declared = ltb-true w o.workers declared; rest = rest; first = all ∙ ap (λ (u : Thread). u ∷ rest) (same_job w t job same); free = free; block = is_block x well job o.limits.block fits })))
   allowed es (Post w sent) k (inl is) =
-      on_if (nat_lt w o.workers) (entry_of_first (Post w) (left_of x o w es)) (Post w sent) is (λ declared first.
-      on_first (Post w) (left_of x o w es) (Post w sent) first (λ m rest all same.
+      on_if (nat_lt w o.workers) (entry_of_first (Post w) (unposted x o w es)) (Post w sent) is (λ declared first.
+      on_first (Post w) (unposted x o w es) (Post w sent) first (λ m rest all same.
       record { declared = ltb-true w o.workers declared; rest = rest; left = all ∙ ap (λ (y : Sent). y ∷ rest) (same_post w m sent same) }))
   allowed es (Client c sent) k (inl is) =
       on_first (Client c) (unsent (heads x) c es) (Client c sent) is (λ m rest all same.
@@ -309,23 +310,23 @@ module _ (x : Prog) (well : IsWellFormed x) (o : RunOptions) where
   posted hand job m (n ∷ rest) is block = inr (job, ap (λ (b : Bool). if b then [] else hand) (quiet_goes_on m.order block.0) ∙ is, block.1)
 
   -- a worker's own post, or another's
-  post_bench : (w v : ℕ) (es : List Entry) (m : Sent) (rest : List Sent) (b : Bool) → (b ≡ true → left_of x o w es ≡ m ∷ rest) → IsBench (left_of x o w es) (hand_of w es)
-      → IsBench (if b then drop 1 (left_of x o w es) else left_of x o w es) (if b then (if ends_block m.order then [] else hand_of w es) else hand_of w es)
+  post_bench : (w v : ℕ) (es : List Entry) (m : Sent) (rest : List Sent) (b : Bool) → (b ≡ true → unposted x o w es ≡ m ∷ rest) → IsBench (unposted x o w es) (hand_of w es)
+      → IsBench (if b then drop 1 (unposted x o w es) else unposted x o w es) (if b then (if ends_block m.order then [] else hand_of w es) else hand_of w es)
   post_bench w v es m rest true left f =
-      let is = busy (left_of x o w es) (hand_of w es) m rest f (left refl) in
+      let is = busy (unposted x o w es) (hand_of w es) m rest f (left refl) in
       subst (λ (l : List Sent). IsBench (drop 1 l) (if ends_block m.order then [] else hand_of w es)) (sym (left refl)) (posted (hand_of w es) is.job m rest is.in_hand is.block)
   post_bench w v es m rest false left f = f
 
-  pick_bench : (w : ℕ) (es : List Entry) (job : Thread) (b : Bool) → IsBlock (heads x) job.id (async x job o.limits.block) → IsBench (left_of x o w es) (hand_of w es)
-      → IsBench (if b then async x job o.limits.block else left_of x o w es) (if b then job ∷ [] else hand_of w es)
+  pick_bench : (w : ℕ) (es : List Entry) (job : Thread) (b : Bool) → IsBlock (heads x) job.id (async x job o.limits.block) → IsBench (unposted x o w es) (hand_of w es)
+      → IsBench (if b then async x job o.limits.block else unposted x o w es) (if b then job ∷ [] else hand_of w es)
   pick_bench w es job true block f = inr (job, refl, block)
   pick_bench w es job false block f = f
 
-  bench_one : (w : ℕ) (es : List Entry) (e : Entry) → Known es → Allowed es e → IsBench (left_after x o w (left_of x o w es) (e ∷ [])) (hand_after w (hand_of w es) (e ∷ []))
+  bench_one : (w : ℕ) (es : List Entry) (e : Entry) → Known es → Allowed es e → IsBench (unposted_after x o w (unposted x o w es) (e ∷ [])) (hand_after w (hand_of w es) (e ∷ []))
   bench_one w es (Take q batch) k a = k.benches w
   bench_one w es (Give q sent) k a = k.benches w
   bench_one w es (Pick v job) k a = pick_bench w es job (w == v) a.block (k.benches w)
-  bench_one w es (Post v m) k a = post_bench w v es m a.rest (w == v) (λ same. ap (λ (u : ℕ). left_of x o u es) (eqb-true w v same) ∙ a.left) (k.benches w)
+  bench_one w es (Post v m) k a = post_bench w v es m a.rest (w == v) (λ same. ap (λ (u : ℕ). unposted x o u es) (eqb-true w v same) ∙ a.left) (k.benches w)
   bench_one w es (Client c sent) k a = k.benches w
 
   abbrev NumbersAre : ℕ → List Entry → Entry → Type 0
@@ -358,8 +359,8 @@ module _ (x : Prog) (well : IsWellFormed x) (o : RunOptions) where
         fits = entry_fits x well o es e k.fits comes;
         logs = λ s. log_more s es e ∙ logs_one s es e k a ∙ ap (λ (d : Desk). d.given ++ d.hand) (sym (desk_more s es e));
         benches = λ w.
-            subst (λ (l : List Sent). IsBench l (hand_of w (es ++ e ∷ []))) (sym (fold-append (left_step x o w) [] es (e ∷ [])))
-            (subst (IsBench (left_after x o w (left_of x o w es) (e ∷ []))) (sym (hand_more w es e)) (bench_one w es e k a));
+            subst (λ (l : List Sent). IsBench l (hand_of w (es ++ e ∷ []))) (sym (fold-append (unposted_step x o w) [] es (e ∷ [])))
+            (subst (IsBench (unposted_after x o w (unposted x o w es) (e ∷ []))) (sym (hand_more w es e)) (bench_one w es e k a));
         numbers = λ c.
             let one = numbers_one c es e k a in
             (one.0, fold-append (unsent_step c) (outside_of (heads x) c) es (e ∷ []) ∙ one.1 ∙ ap (λ (n : ℕ). orders_from (heads x) c n one.0) (sym (creates_more c es e)));

@@ -18,7 +18,7 @@ use Rattle.loft_sense.specs.Machine.{Prog, heads, Mach}
 use Rattle.loft_sense.specs.CanGo.{same_maker, same_thread}
 use Rattle.loft_history.specs.Clients.{made_by}
 use Rattle.loft_sense.specs.Instant.{instant}
-use Rattle.loft_history.specs.History.{sends, sent_in, is_create, creates, left_of}
+use Rattle.loft_history.specs.History.{sends, sent_in, is_create, creates, unposted}
 use Rattle.loft_history.specs.Legal.{IsCallersOrder, IsLegal}
 use Rattle.loft_stand.specs.WellFormed.{IsWellFormed}
 use Rattle.loft_sends.specs.Counts.{one, makes, made_in, among_made}
@@ -175,7 +175,7 @@ module _ (x : Prog) (well : IsWellFormed x) (o : RunOptions) where
   step es (Give s sent) k a f = give_fresh es s sent a f
   step es (Pick w job) k a f = quiet es (Pick w job) f (λ q. settled_same x well o es (Pick w job) (scheduler q) refl) (λ c. creates_more c es (Pick w job)) (λ t. refl)
   step es (Post w m) k a f =
-      let b = busy x well o (left_of x o w es) (hand_of w es) m a.rest (k.benches w) a.left in
+      let b = busy x well o (unposted x o w es) (hand_of w es) m a.rest (k.benches w) a.left in
       quiet es (Post w m) f (λ q. settled_same x well o es (Post w m) (scheduler q) refl) (λ c. creates_more c es (Post w m)) (λ t. let p = (post_kept (heads x) t b.job m a.rest b.block).1 in omega (arith, p))
   step es (Client c m) k a f = client_fresh es c m a f
 

@@ -20,7 +20,7 @@ use Rattle.loft_sense.specs.Heads.{scheduler, same_scheduler}
 use Rattle.loft_sense.specs.Machine.{Prog, heads, Mach, empty}
 use Rattle.loft_sense.specs.CanGo.{same_thread}
 use Rattle.loft_sense.specs.Instant.{instant, Replayed, replay}
-use Rattle.loft_history.specs.History.{sends, sent_in, orders_to, starts_from, waiting_after, waiting, jobs_sent, jobs_after, jobs, ends_block, left_of}
+use Rattle.loft_history.specs.History.{sends, sent_in, orders_to, starts_from, waiting_after, waiting, jobs_sent, jobs_after, jobs, ends_block, unposted}
 use Rattle.loft_history.specs.Legal.{IsCallersOrder, FitsOne, IsLegal}
 use Rattle.loft_sense.proofs.ReplayLemmas.{replay_on-append}
 use Rattle.loft_history.proofs.HistoryLemmas.{same_self, is_same}
@@ -234,7 +234,7 @@ module _ (x : Prog) (well : IsWellFormed x) (o : RunOptions) where
     pick_adds es w job a k =
         let e = Pick w job in
         let hands = total_at o.workers w (in_hand_of (es ++ e ∷ []) t) (in_hand_of es t) a.declared (λ v _ off. in_hand_more v es e ∙ ap (threads_in t) (pick_on w v job (hand_of v es) off)) in
-        let was : in_hand_of es t w ≡ 0 = ap (threads_in t) (idle x well o (left_of x o w es) (hand_of w es) (k.benches w) a.free) in
+        let was : in_hand_of es t w ≡ 0 = ap (threads_in t) (idle x well o (unposted x o w es) (hand_of w es) (k.benches w) a.free) in
         let now : in_hand_of (es ++ e ∷ []) t w ≡ one (same_thread t job.id) + 0 = in_hand_more w es e ∙ ap (λ (b : Bool). threads_in t (if b then job ∷ [] else hand_of w es)) (eq-eqb w w refl) in
         let first : threads_in t (jobs es) ≡ one (same_thread t job.id) + threads_in t a.rest = ap (threads_in t) a.first in
         let rest : threads_in t (jobs (es ++ e ∷ [])) ≡ threads_in t a.rest = jobs_of_more es e ∙ ap (λ (l : List Thread). threads_in t (drop 1 l)) a.first in
@@ -263,7 +263,7 @@ module _ (x : Prog) (well : IsWellFormed x) (o : RunOptions) where
     post_adds : (es : List Entry) (w : ℕ) (m : Sent) → Posted x well o es w m → Known x well o es → Adds es (Post w m)
     post_adds es w m a k =
         let e = Post w m in
-        let b = busy x well o (left_of x o w es) (hand_of w es) m a.rest (k.benches w) a.left in
+        let b = busy x well o (unposted x o w es) (hand_of w es) m a.rest (k.benches w) a.left in
         let p = post_kept (heads x) t b.job m a.rest b.block in
         one_sum (total schedulers (linked_at x o es t)) (total schedulers (linked_at x o (es ++ e ∷ []) t)) (total schedulers (arriving_at x es t)) (total schedulers (arriving_at x (es ++ e ∷ []) t))
         (threads_in t (jobs es)) (threads_in t (jobs (es ++ e ∷ []))) (total o.workers (in_hand_of es t)) (total o.workers (in_hand_of (es ++ e ∷ []) t)) (ended_in t (sent_in es)) (ended_in t (sent_in (es ++ e ∷ [])))

@@ -10,7 +10,7 @@ use Rattle.loft_sense.specs.declared.entry.Entry.TheVariants.{Take, Give, Pick, 
 use Rattle.loft_sense.specs.declared.limits.RunOptions.{RunOptions}
 use Rattle.loft_sense.specs.declared.thread.Thread.{Thread}
 use Rattle.loft_sense.specs.Machine.{Prog, heads}
-use Rattle.loft_history.specs.History.{sent_in, jobs, ends_block, in_hand, is_busy, left_of, busy_step}
+use Rattle.loft_history.specs.History.{sent_in, jobs, ends_block, in_hand, is_busy, unposted, busy_step}
 use Rattle.loft_history.specs.Legal.{IsLegal}
 use Rattle.loft_stand.specs.WellFormed.{IsWellFormed}
 use Rattle.loft_sends.specs.Counts.{threads_in, ended_in}
@@ -165,7 +165,7 @@ module _ (x : Prog) (well : IsWellFormed x) (o : RunOptions) where
   agree_one es (Post v m) k a f w =
       post_agrees (w == v) (ends_block m.order) (is_busy w es) (hand_of w es)
       (λ same.
-      let b = busy x well o (left_of x o v es) (hand_of v es) m a.rest (k.benches v) a.left in
+      let b = busy x well o (unposted x o v es) (hand_of v es) m a.rest (k.benches v) a.left in
       (b.job, ap (λ (u : ℕ). hand_of u es) (eqb-true w v same) ∙ b.in_hand)) (f w)
   agree_one es (Client c sent) k a f w = f w
 

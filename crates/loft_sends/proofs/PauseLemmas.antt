@@ -24,7 +24,7 @@ use Rattle.loft_code.proofs.Leading.{valid_passes, leads_on}
 use Rattle.loft_sense.specs.Machine.{Prog, Tree, Code, heads}
 use Rattle.loft_sense.specs.Code.{lines_at, stop_from}
 use Rattle.loft_sense.specs.Tree.{body_or_empty, body_at, first_some}
-use Rattle.loft_sense.specs.Stands.{StopKind, Begins, Pauses, Calls, StopAt, begin_of, begin_or_unlinked, end_or_unlinked, leads_step, leads, stop_in_step, stop_in, tree_stop, kind_of, stop_before, stop_at_line, code_stop, stop_of}
+use Rattle.loft_sense.specs.Stands.{StopKind, Begins, Pauses, Calls, StopAt, begin_of, begin_or_unlinked, end_or_unlinked, leads_step, leads, stop_in_step, stop_in, tree_stop, kind_of, stop_before, stop_at_line, code_stop, program_stop}
 use Rattle.loft_stand.specs.WellFormed.{IsWellFormed, IsValidCode}
 use Rattle.loft_stand.proofs.ListLemmas.{within_some}
 use Rattle.loft_stand.proofs.OperationFits.{tested}
@@ -221,7 +221,7 @@ module _ (c : Automata) (is : IsValidCode c) (m : ModuleId) (head : Signature) (
 
 -- ---- well-formed programs
 
-pub stops_linked : (x : Prog) → IsWellFormed x → (m : ModuleId) (head : Signature) → slice_get (heads x).modules m.0 ≡ Some head → (k : ℕ) (at : StopAt) → stop_of x m k ≡ Some at → StopLinked at
+pub stops_linked : (x : Prog) → IsWellFormed x → (m : ModuleId) (head : Signature) → slice_get (heads x).modules m.0 ≡ Some head → (k : ℕ) (at : StopAt) → program_stop x m k ≡ Some at → StopLinked at
 stops_linked (Tree p) is m head there k at e =
     let n = is.source in
     named_linked n is.names is.links m head (subst (λ (q : Resolved). slice_get q.heads.modules m.0 ≡ Some head) (sym is.same) there) k at

@@ -32,7 +32,7 @@ use Rattle.loft_sense.specs.Around.{Around, Beside, entered}
 use Rattle.loft_sense.specs.Eval.{eval, eval_all, eval_if, number_of, number_if, thread_or}
 use Rattle.loft_sense.specs.CanGo.{has_any, is_index, is_known, same_maker}
 use Rattle.loft_sense.specs.Statements.{Effect, GoesOn, Waits, Leaves, Dies, Now, if_value, goes_on, most_entries, one_made, maker_at, new_id, create, order_of, is_up, hold, set_if, with_code, target_of, did, begun, answered}
-use Rattle.loft_sense.specs.Run.{Next, Finish, Stuck, Acts, Passes, Tests, Counts, Holds, Runs, Control, Active, Outcome, Held, Left, Ended, ends, live, effect_on, test_on, count_on, run_on, begun_frame, stopped, step, step_on, no_step, going, go_on, go, here, beside, actives_of}
+use Rattle.loft_sense.specs.Run.{Next, Finish, Stuck, Acts, Advances, Tests, Counts, Holds, Runs, Control, Active, Outcome, Held, Left, Ended, ends, live, effect_on, test_on, count_on, run_on, begun_frame, stopped, step, step_on, no_step, going, go_on, go, here, beside, actives_of}
 use Rattle.loft_sense.specs.Tree.{tree}
 use Rattle.loft_sense.specs.Code.{code}
 use Rattle.loft_sense.specs.Passes.{run_of}
@@ -258,7 +258,7 @@ step_so : {A : Type 0} (c : Control A) (left : ℕ) (on : Beside → List (Activ
 step_so c left on h Finish r rs b = h b rs
 step_so c left on h Stuck r rs b = h b rs
 step_so c left on h (Acts action p) r rs b = effect_so c left on h (did c.heads action (here r) r.values b) p r rs b (did_adds c.heads action (here r) r.values b)
-step_so c left on h (Passes p) r rs b = h b (record r { at = p } ∷ rs)
+step_so c left on h (Advances p) r rs b = h b (record r { at = p } ∷ rs)
 step_so c left on h (Tests test p q) r rs b = test_so left on h (eval c.heads r.values b test) p q r rs b
 step_so c left on h (Counts count f) r rs b = count_so left on h (eval c.heads r.values b count) f r rs b
 step_so c left on h (Holds k pause p) r rs b = effect_so c left on h (begun c.heads pause (here (stopped r k p)) r.values b) p (stopped r k p) rs b (begun_adds c.heads pause (here (stopped r k p)) r.values b)

@@ -8,7 +8,7 @@ use Rattle.loft_base.specs.declared.ids.ThreadId.{ThreadId}
 use Rattle.loft_sense.specs.declared.note.Standing.{Standing}
 use Rattle.loft_sense.specs.declared.order.Order.{Order}
 use Rattle.loft_sense.specs.declared.thread.Thread.{Thread}
-use Rattle.loft_sense.specs.Apply.{is_linked, link, unlink, suspend}
+use Rattle.loft_sense.specs.Apply.{is_linked, with_last, without_first, suspend}
 use Rattle.loft_sense.specs.CanGo.{same_maker, same_thread}
 use Rattle.loft_sends.specs.Counts.{one, brought_in, threads_in, linked_in}
 
@@ -55,15 +55,15 @@ linked_in-append t (s ∷ xs) ys = let e = linked_in-append t xs ys in omega (ar
 
 -- ---- linked threads
 
-pub one_linked : (t : ThreadId) (u : Thread) (ss : List Standing) → linked_in t (link u ss) ≡ linked_in t ss + one (same_thread t u.id)
+pub one_linked : (t : ThreadId) (u : Thread) (ss : List Standing) → linked_in t (with_last u ss) ≡ linked_in t ss + one (same_thread t u.id)
 one_linked t u ss = let e = linked_in-append t ss (record { thread = u; suspended = false } ∷ []) in omega (arith, e)
 
-pub unlinked : (t u : ThreadId) (ss : List Standing) → is_linked u ss ≡ true → linked_in t ss ≡ linked_in t (unlink u ss) + one (same_thread t u)
+pub unlinked : (t u : ThreadId) (ss : List Standing) → is_linked u ss ≡ true → linked_in t ss ≡ linked_in t (without_first u ss) + one (same_thread t u)
 unlinked t u [] e = absurd cc
 unlinked t u (s ∷ ss) e = by (same_thread u s.thread.id) refl e (unlinked t u ss)
   where
-    by : (b : Bool) → same_thread u s.thread.id ≡ b → (b || is_linked u ss) ≡ true → (is_linked u ss ≡ true → linked_in t ss ≡ linked_in t (unlink u ss) + one (same_thread t u))
-        → one (same_thread t s.thread.id) + linked_in t ss ≡ linked_in t (if b then ss else s ∷ unlink u ss) + one (same_thread t u)
+    by : (b : Bool) → same_thread u s.thread.id ≡ b → (b || is_linked u ss) ≡ true → (is_linked u ss ≡ true → linked_in t ss ≡ linked_in t (without_first u ss) + one (same_thread t u))
+        → one (same_thread t s.thread.id) + linked_in t ss ≡ linked_in t (if b then ss else s ∷ without_first u ss) + one (same_thread t u)
     by true is some rest = let p = ap (λ (v : ThreadId). one (same_thread t v)) (same_is u s.thread.id is) in omega (arith, p)
     by false is some rest = let p = rest some in omega (arith, p)
 

@@ -26,7 +26,7 @@ use Rattle.loft_sense.specs.Around.{Around, Beside}
 use Rattle.loft_sense.specs.CanGo.{has_any, is_index, is_known}
 use Rattle.loft_sense.specs.Eval.{eval, eval_all, eval_if, number_of, number_if, thread_or}
 use Rattle.loft_sense.specs.Statements.{Effect, GoesOn, Waits, Leaves, Dies, Now, if_value, goes_on, most_entries, is_up, hold, set_if, with_code, target_of, did, begun, answered}
-use Rattle.loft_sense.specs.Run.{Next, Finish, Stuck, Acts, Passes, Tests, Counts, Holds, Runs, Control, Active, Outcome, Held, Left, Ended, ends, live, thread_of, effect_on, test_on, count_on, run_on, begun_frame, stopped, step, step_on, no_step, going, go_on, go, here, beside, actives_of}
+use Rattle.loft_sense.specs.Run.{Next, Finish, Stuck, Acts, Advances, Tests, Counts, Holds, Runs, Control, Active, Outcome, Held, Left, Ended, ends, live, thread_of, effect_on, test_on, count_on, run_on, begun_frame, stopped, step, step_on, no_step, going, go_on, go, here, beside, actives_of}
 use Rattle.loft_sense.specs.Tree.{tree}
 use Rattle.loft_sense.specs.Code.{code}
 use Rattle.loft_sense.specs.Passes.{run_of, around_after}
@@ -206,7 +206,7 @@ module _ (h : Heads) (place : Place) where
   step_so c slots left on f Finish e r rs b = f b rs
   step_so c slots left on f Stuck e r rs b = absurd e
   step_so c slots left on f (Acts action p) e r rs b = effect_so c left on f (did c.heads action (here r) r.values b) p r rs b (did_well c.heads slots action e (here r) r.values b)
-  step_so c slots left on f (Passes p) e r rs b = f b (record r { at = p } ∷ rs)
+  step_so c slots left on f (Advances p) e r rs b = f b (record r { at = p } ∷ rs)
   step_so c slots left on f (Tests test p q) e r rs b = test_so left on f (eval c.heads r.values b test) p q r rs b
   step_so c slots left on f (Counts count g) e r rs b = count_so left on f (eval c.heads r.values b count) g r rs b
   step_so c slots left on f (Holds k pause p) e r rs b = effect_so c left on f (begun c.heads pause (here (stopped r k p)) r.values b) p (stopped r k p) rs b (begun_well c.heads slots pause e (here (stopped r k p)) r.values b)

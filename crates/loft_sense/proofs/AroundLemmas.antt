@@ -28,13 +28,13 @@ use Rattle.loft_sense.specs.declared.limits.Limits.{Limits}
 use Rattle.loft_sense.specs.declared.order.Order.{Order}
 use Rattle.loft_sense.specs.declared.order.Order.TheVariants as order
 use Rattle.loft_sense.specs.Machine.{Prog, Tree, Code, Mach, heads}
-use Rattle.loft_sense.specs.Around.{Around, Beside, done, entered}
+use Rattle.loft_sense.specs.Around.{Around, Beside, with_act, entered}
 use Rattle.loft_sense.specs.Eval.{eval, eval_all, eval_if, number_of, number_if, thread_or}
 use Rattle.loft_sense.specs.CanGo.{has_any, is_index, is_known}
-use Rattle.loft_sense.specs.Statements.{Effect, GoesOn, Waits, Leaves, Dies, Now, if_value, goes_on, most_entries, ok, one_made, is_up, hold, set_if, with_code, target_of, did, begun, answered}
-use Rattle.loft_sense.specs.Runs.{is_entry, generated_in, ended_in, Tells, instant_walk}
-use Rattle.loft_sense.specs.Codes.{IsPending}
-use Rattle.loft_sense.specs.Run.{Next, Finish, Stuck, Acts, Passes, Tests, Counts, Holds, Runs, Control, Active, Outcome, Held, Left, Ended, ends, live, effect_on, test_on, count_on, run_on, begun_frame, stopped, step, step_on, no_step, going, go_on, go, here, beside, actives_of}
+use Rattle.loft_sense.specs.Statements.{Effect, GoesOn, Waits, Leaves, Dies, Now, if_value, goes_on, most_entries, code_ok, one_made, is_up, hold, set_if, with_code, target_of, did, begun, answered}
+use Rattle.loft_sense.specs.LawWords.{is_entry, generated_in, ended_in, Tells, instant_walk}
+use Rattle.loft_sense.specs.WaitCodes.{IsPending}
+use Rattle.loft_sense.specs.Run.{Next, Finish, Stuck, Acts, Advances, Tests, Counts, Holds, Runs, Control, Active, Outcome, Held, Left, Ended, ends, live, effect_on, test_on, count_on, run_on, begun_frame, stopped, step, step_on, no_step, going, go_on, go, here, beside, actives_of}
 use Rattle.loft_sense.specs.Tree.{tree}
 use Rattle.loft_sense.specs.Code.{code}
 use Rattle.loft_sense.specs.Passes.{Runner, run_of, around_after, pass, passes}
@@ -86,7 +86,7 @@ set_shared a k v = record {
   tells = record { more = []; acts = sym (append-nil _); board = refl; known = sym (append-nil _) };
 }
 
-ended : (a : Around) (t : ThreadId) (end : End) → Follows a (done (act.End t end) (record a { known = a.known ++ t ∷ [] }))
+ended : (a : Around) (t : ThreadId) (end : End) → Follows a (with_act (act.End t end) (record a { known = a.known ++ t ∷ [] }))
 ended a t end = record {
   place = refl;
   events = refl;
@@ -219,7 +219,7 @@ begun_is h (Await events limit) at values b =
     by_hold b.around (has_any events b.around.board) (is_up (number_if v)) _ _ _ (same b.around) (same b.around) (λ up. record { unmarked = λ e. cc; instants = some_left (number_if v) up }))
 begun_is h (Get event index target) at values b =
     by_value b.around (eval h values b index) at _ (λ i.
-    begun_get values b.around (is_index (number_of i) (length (event_values event b.around.board))) _ event (number_of i) (set_follows h (Some target) _ values (with_code ok b)))
+    begun_get values b.around (is_index (number_of i) (length (event_values event b.around.board))) _ event (number_of i) (set_follows h (Some target) _ values (with_code code_ok b)))
 begun_is h (Join thread limit) at values b =
     by_value b.around (eval h values b thread) at _ (λ t.
     by_value b.around (eval_if h values b limit) at _ (λ v.
@@ -232,7 +232,7 @@ answered_follows : (h : Heads) (pause : Option Pause) (w : Wait) (values : List 
 answered_follows h pause wait.New values b = same b.around
 answered_follows h pause (wait.Coop left) values b = same b.around
 answered_follows h pause (wait.Events events left) values b = same b.around
-answered_follows h pause (wait.Index event i) values b = set_follows h (target_of pause) _ values (with_code ok b)
+answered_follows h pause (wait.Index event i) values b = set_follows h (target_of pause) _ values (with_code code_ok b)
 answered_follows h pause wait.Next values b = same b.around
 answered_follows h pause (wait.Join thread left) values b = same b.around
 answered_follows h pause wait.Halt values b = same b.around
@@ -284,7 +284,7 @@ step_so : {A : Type 0} (c : Control A) (left : ℕ) (on : Beside → List (Activ
 step_so c left on h Finish r rs b = h b rs
 step_so c left on h Stuck r rs b = h b rs
 step_so c left on h (Acts action p) r rs b = effect_so c left on h (did c.heads action (here r) r.values b) p r rs b (did_is c.heads action (here r) r.values b)
-step_so c left on h (Passes p) r rs b = h b (record r { at = p } ∷ rs)
+step_so c left on h (Advances p) r rs b = h b (record r { at = p } ∷ rs)
 step_so c left on h (Tests test p q) r rs b = test_so left on h (eval c.heads r.values b test) p q r rs b
 step_so c left on h (Counts count f) r rs b = count_so left on h (eval c.heads r.values b count) f r rs b
 step_so c left on h (Holds k pause p) r rs b = effect_so c left on h (begun c.heads pause (here (stopped r k p)) r.values b) p (stopped r k p) rs b (begun_is c.heads pause (here (stopped r k p)) r.values b)

@@ -21,11 +21,11 @@ use Rattle.loft_sense.specs.Around.{Around}
 use Rattle.loft_sense.specs.CanGo.{same_thread}
 use Rattle.loft_sense.specs.Run.{Outcome, Held, Left, Ended}
 use Rattle.loft_sense.specs.Passes.{Runner, run_of, runners_after}
-use Rattle.loft_sense.specs.Apply.{Applied, is_linked, link, unlink, suspend, apply_order, apply_orders, unapplied, apply}
+use Rattle.loft_sense.specs.Apply.{Applied, is_linked, with_last, without_first, suspend, apply_order, apply_orders, unapplied, apply}
 use Rattle.loft_sense.specs.Instant.{runner_of, around_of, lowered, closed_wait, closed, stays, instant, Replayed, replay}
-use Rattle.loft_sense.specs.Runs.{instant_walk}
+use Rattle.loft_sense.specs.LawWords.{instant_walk}
 use Rattle.loft_sense.specs.Fits.{Fits}
-use Rattle.loft_sense.specs.Codes.{left_of, IsPending}
+use Rattle.loft_sense.specs.WaitCodes.{number_left, IsPending}
 use Rattle.loft_sense.specs.CodeOrigins.{ArrivesNew, IsSetByClose}
 use Rattle.loft_sense.proofs.AroundLemmas.{OutcomeIs, run_is}
 use Rattle.loft_sense.proofs.RunnerLemmas.{IsKept, passes_keep, new_pending}
@@ -124,7 +124,7 @@ module _ (x : Prog) (limits : Limits) (s : SchedId) where
   abbrev EachSound : List (List Order) → List Standing → Type 0
   EachSound batches ss = AllByRecursion (SoundAt batches) ss
 
-  linked_new : (batches : List (List Order)) (t : Thread) (ss : List Standing) → t.wait ≡ wait.New → EachSound batches ss → EachSound batches (link t ss)
+  linked_new : (batches : List (List Order)) (t : Thread) (ss : List Standing) → t.wait ≡ wait.New → EachSound batches ss → EachSound batches (with_last t ss)
   linked_new batches t [] e f = (inl (new_pending t e), tt)
   linked_new batches t (q ∷ ss) e f = (f.0, linked_new batches t ss e f.1)
 
@@ -132,9 +132,9 @@ module _ (x : Prog) (limits : Limits) (s : SchedId) where
   unlinked_one batches true q rest others f g h = g
   unlinked_one batches false q rest others f g h = (f, h)
 
-  unlinked_sound : (batches : List (List Order)) (t : ThreadId) (ss : List Standing) → EachSound batches ss → EachSound batches (unlink t ss)
+  unlinked_sound : (batches : List (List Order)) (t : ThreadId) (ss : List Standing) → EachSound batches ss → EachSound batches (without_first t ss)
   unlinked_sound batches t [] f = tt
-  unlinked_sound batches t (q ∷ ss) f = unlinked_one batches (same_thread t q.thread.id) q ss (unlink t ss) f.0 f.1 (unlinked_sound batches t ss f.1)
+  unlinked_sound batches t (q ∷ ss) f = unlinked_one batches (same_thread t q.thread.id) q ss (without_first t ss) f.0 f.1 (unlinked_sound batches t ss f.1)
 
   suspended_one : (batches : List (List Order)) (b suspended : Bool) (q : Standing) (rest others : List Standing) → SoundAt batches q → EachSound batches rest → EachSound batches others
       → EachSound batches (if b then record q { suspended = suspended } ∷ rest else q ∷ others)
@@ -271,11 +271,11 @@ module _ (x : Prog) (limits : Limits) (s : SchedId) where
       (turned batches (λ (w : Wait). w ≡ wait.Next) (λ w p e. p.unmarked e) ss (sound_at batches batch news new))
 
   pub zeros_are_set : (batches : List (List Order)) (batch : List Order) → All (All ArrivesNew) batches → All ArrivesNew batch
-      → All (λ (q : Standing). left_of q.thread.wait ≡ Some (pos 0) → IsSetByClose x limits s batches q.thread) (apply x (machine batches) batch).linked
+      → All (λ (q : Standing). number_left q.thread.wait ≡ Some (pos 0) → IsSetByClose x limits s batches q.thread) (apply x (machine batches) batch).linked
   zeros_are_set batches batch news new =
       let ss = (apply x (machine batches) batch).linked in
-      All-from_recursion (λ (q : Standing). left_of q.thread.wait ≡ Some (pos 0) → IsSetByClose x limits s batches q.thread) ss
-      (turned batches (λ (w : Wait). left_of w ≡ Some (pos 0)) (λ w p e. not_above (p.instants (pos 0) e)) ss (sound_at batches batch news new))
+      All-from_recursion (λ (q : Standing). number_left q.thread.wait ≡ Some (pos 0) → IsSetByClose x limits s batches q.thread) ss
+      (turned batches (λ (w : Wait). number_left w ≡ Some (pos 0)) (λ w p e. not_above (p.instants (pos 0) e)) ss (sound_at batches batch news new))
 
 -- an order that fits brings a thread that waits as a new one, if any
 pub fits_new : (x : Prog) (s : SchedId) (o : Order) → Fits x s o → ArrivesNew o

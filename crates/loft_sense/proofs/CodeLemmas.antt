@@ -16,21 +16,21 @@ use Rattle.loft_sense.specs.declared.thread.Wait.TheVariants as wait
 use Rattle.loft_sense.specs.Around.{Beside}
 use Rattle.loft_sense.specs.Eval.{eval, eval_all, eval_if, number_of, number_if, thread_or}
 use Rattle.loft_sense.specs.CanGo.{has_any, is_index, is_known, is_zero}
-use Rattle.loft_sense.specs.Statements.{Effect, GoesOn, Waits, Leaves, Dies, Now, if_value, goes_on, ok, timeout, next, is_up, hold, set_if, with_code, code_after, target_of, most_entries, did, begun, answered}
+use Rattle.loft_sense.specs.Statements.{Effect, GoesOn, Waits, Leaves, Dies, Now, if_value, goes_on, code_ok, code_timeout, code_next, is_up, hold, set_if, with_code, code_after, target_of, most_entries, did, begun, answered}
 use Rattle.loft_sense.specs.Instant.{lowered, closed_wait}
-use Rattle.loft_sense.specs.Codes.{stop_sets_code, limit_number, wait_sets_code, left_of, IsPending}
+use Rattle.loft_sense.specs.WaitCodes.{stop_sets_code, limit_number, wait_sets_code, number_left, IsPending}
 
 -- ---- stops as they begin
 
 -- the code of a stop that goes on, whose limit is this
 abbrev pub IsCode : Option ℤ → ℤ → Type 0
-IsCode limit code = (code ≡ ok) ⊎ ((code ≡ timeout) × ((n : ℤ) × ((limit ≡ Some n) × (n ≤ℤ pos 0))))
+IsCode limit code = (code ≡ code_ok) ⊎ ((code ≡ code_timeout) × ((n : ℤ) × ((limit ≡ Some n) × (n ≤ℤ pos 0))))
 
 at_most : (n : ℤ) → int_le n (pos 0) ≡ true → n ≤ℤ pos 0
 at_most n h = grind (arith, common_steps)
 
 -- a stop goes on with TIMEOUT where its limit is up
-late : (limit : Option ℤ) → is_up limit ≡ true → IsCode limit timeout
+late : (limit : Option ℤ) → is_up limit ≡ true → IsCode limit code_timeout
 late None up = absurd cc
 late (Some n) up = inr (refl, (n, (refl, at_most n up)))
 
@@ -58,7 +58,7 @@ set_code h None v values b = refl
 set_code h (Some (ToSlot k)) v values b = refl
 set_code h (Some (ToShared x)) v values b = refl
 
-sets_get : (is_there : Bool) (now : Now) (event : EventId) (i : ℤ) → now.beside.code ≡ ok → Sets None (if is_there then GoesOn now else Waits (wait.Index event i))
+sets_get : (is_there : Bool) (now : Now) (event : EventId) (i : ℤ) → now.beside.code ≡ code_ok → Sets None (if is_there then GoesOn now else Waits (wait.Index event i))
 sets_get true now event i e = inl e
 sets_get false now event i e = tt
 
@@ -69,7 +69,7 @@ begun_sets h (Await events limit) at values b s =
     sets_hold (number_if v) (has_any events b.around.board) (is_up (number_if v)) _ _ _ (inl refl) (late (number_if v)) tt)
 begun_sets h (Get event index target) at values b s =
     sets_value None (eval h values b index) at _ (λ i.
-    sets_get (is_index (number_of i) (length (event_values event b.around.board))) _ event (number_of i) (set_code h (Some target) _ values (with_code ok b)))
+    sets_get (is_index (number_of i) (length (event_values event b.around.board))) _ event (number_of i) (set_code h (Some target) _ values (with_code code_ok b)))
 begun_sets h (Join thread limit) at values b s =
     sets_value (limit_number h (Join thread limit) values b) (eval h values b thread) at _ (λ t.
     sets_limited (eval_if h values b limit) at _ (λ v.
@@ -138,13 +138,13 @@ zero_left (negsuc n) e = absurd cc
 
 -- the code of a wait that ends
 abbrev pub IsAnswer : Wait → ℤ → Type 0
-IsAnswer w code = (code ≡ ok) ⊎ (((code ≡ timeout) × (left_of w ≡ Some (pos 0))) ⊎ ((code ≡ next) × (w ≡ wait.Next)))
+IsAnswer w code = (code ≡ code_ok) ⊎ (((code ≡ code_timeout) × (number_left w ≡ Some (pos 0))) ⊎ ((code ≡ code_next) × (w ≡ wait.Next)))
 
-answer_left : (w : Wait) (left : Option ℤ) → left_of w ≡ left → IsAnswer w (code_after left)
+answer_left : (w : Wait) (left : Option ℤ) → number_left w ≡ left → IsAnswer w (code_after left)
 answer_left w None e = inl refl
 answer_left w (Some n) e = by (is_zero n) refl
   where
-    by : (z : Bool) → is_zero n ≡ z → IsAnswer w (if z then timeout else ok)
+    by : (z : Bool) → is_zero n ≡ z → IsAnswer w (if z then code_timeout else code_ok)
     by true z = inr (inl (refl, e ∙ ap (λ (k : ℤ). Some k) (zero_left n z)))
     by false z = inl refl
 
@@ -152,7 +152,7 @@ pub answered_code : (h : Heads) (pause : Option Pause) (w : Wait) (values : List
 answered_code h pause wait.New values b s = absurd cc
 answered_code h pause (wait.Coop left) values b s = absurd cc
 answered_code h pause (wait.Events events left) values b s = answer_left (wait.Events events left) left refl
-answered_code h pause (wait.Index event i) values b s = inl (set_code h (target_of pause) _ values (with_code ok b))
+answered_code h pause (wait.Index event i) values b s = inl (set_code h (target_of pause) _ values (with_code code_ok b))
 answered_code h pause wait.Next values b s = inr (inr (refl, refl))
 answered_code h pause (wait.Join thread left) values b s = answer_left (wait.Join thread left) left refl
 answered_code h pause wait.Halt values b s = absurd cc
@@ -170,10 +170,10 @@ not_above : pos 0 <ℤ pos 0 → ⊥
 not_above h = grind arith
 
 -- a wait that began in this instant answers OK
-pub pending_code : (h : Heads) (pause : Option Pause) (w : Wait) (values : List Value) (b : Beside) → IsPending w → wait_sets_code w ≡ true → (answered h pause w values b).beside.code ≡ ok
+pub pending_code : (h : Heads) (pause : Option Pause) (w : Wait) (values : List Value) (b : Beside) → IsPending w → wait_sets_code w ≡ true → (answered h pause w values b).beside.code ≡ code_ok
 pending_code h pause w values b p s = by (answered_code h pause w values b s)
   where
-    by : IsAnswer w (answered h pause w values b).beside.code → (answered h pause w values b).beside.code ≡ ok
+    by : IsAnswer w (answered h pause w values b).beside.code → (answered h pause w values b).beside.code ≡ code_ok
     by (inl e) = e
     by (inr (inl e)) = absurd (not_above (p.instants (pos 0) e.1))
     by (inr (inr e)) = absurd (p.unmarked e.1)
@@ -189,7 +189,7 @@ closed_marks wait.Next e = inl refl
 closed_marks (wait.Join thread left) e = absurd cc
 closed_marks wait.Halt e = absurd cc
 
-pub closed_lowers : (w : Wait) → left_of (closed_wait w) ≡ option_map lowered (left_of w)
+pub closed_lowers : (w : Wait) → number_left (closed_wait w) ≡ option_map lowered (number_left w)
 closed_lowers wait.New = refl
 closed_lowers (wait.Coop left) = refl
 closed_lowers (wait.Events events left) = refl

@@ -22,7 +22,7 @@ use Rattle.loft_sense.specs.CanGo.{count_of, has_any, ran_out, can_go, is_over}
 use Rattle.loft_sense.specs.Passes.{Runner, is_ready}
 use Rattle.loft_sense.specs.Apply.{Applied, is_linked, apply_order, apply}
 use Rattle.loft_sense.specs.Instant.{runner_of, around_of, closed_wait, closed, stays, instant}
-use Rattle.loft_sense.specs.Runs.{KeepsEvents, events_in, instant_walk}
+use Rattle.loft_sense.specs.LawWords.{KeepsEvents, events_in, instant_walk}
 use Rattle.loft_sense.proofs.TellLemmas.{same_board, generated_board}
 use Rattle.loft_sense.proofs.PassLemmas.{nobody_is_ready}
 

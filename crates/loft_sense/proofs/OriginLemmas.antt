@@ -13,12 +13,12 @@ use Rattle.loft_sense.specs.declared.order.To.{To}
 use Rattle.loft_sense.specs.Machine.{Prog, Tree, Code}
 use Rattle.loft_sense.specs.Around.{Around, Beside}
 use Rattle.loft_sense.specs.Eval.{eval, eval_all, number_of}
-use Rattle.loft_sense.specs.Statements.{Effect, GoesOn, Waits, Leaves, Dies, ok, timeout, did, begun, answered}
-use Rattle.loft_sense.specs.Run.{Next, Finish, Stuck, Acts, Passes, Tests, Counts, Holds, Runs, Control, Active, Outcome, Held, Left, Ended, ends, live, effect_on, test_on, count_on, run_on, begun_frame, stopped, step, step_on, no_step, going, go_on, go, here, beside, actives_of}
+use Rattle.loft_sense.specs.Statements.{Effect, GoesOn, Waits, Leaves, Dies, code_ok, code_timeout, did, begun, answered}
+use Rattle.loft_sense.specs.Run.{Next, Finish, Stuck, Acts, Advances, Tests, Counts, Holds, Runs, Control, Active, Outcome, Held, Left, Ended, ends, live, effect_on, test_on, count_on, run_on, begun_frame, stopped, step, step_on, no_step, going, go_on, go, here, beside, actives_of}
 use Rattle.loft_sense.specs.Tree.{tree}
 use Rattle.loft_sense.specs.Code.{code}
 use Rattle.loft_sense.specs.Passes.{run_of}
-use Rattle.loft_sense.specs.Codes.{stop_sets_code, limit_number, wait_sets_code}
+use Rattle.loft_sense.specs.WaitCodes.{stop_sets_code, limit_number, wait_sets_code}
 use Rattle.loft_sense.specs.CodeOrigins.{Reaches, at_once, further, BeginsLate, LeadsLate, WakesLate, CodeComesFrom, kept, there, ran_out, late, marked}
 use Rattle.loft_sense.proofs.CodeLemmas.{IsCode, IsAnswer, begun_code, begun_same_code, did_same_code, answered_code, answered_same_code}
 
@@ -33,7 +33,7 @@ no_step_code K d [] = tt
 no_step_code K d (r ∷ rs) = tt
 
 -- From these frames on: K holds of OK, and of TIMEOUT where steps lead to a stop whose limit is at most 0.
-module _ {A : Type 0} (c : Control A) (b : Beside) (rs : List (Active A)) (K : ℤ → Type 0) (k_ok : K ok) (k_late : LeadsLate c b rs → K timeout) where
+module _ {A : Type 0} (c : Control A) (b : Beside) (rs : List (Active A)) (K : ℤ → Type 0) (k_ok : K code_ok) (k_late : LeadsLate c b rs → K code_timeout) where
   -- what a run leaves that goes on there
   abbrev GoesSo : (Beside → List (Active A) → Outcome) → Type 0
   GoesSo on = (e : Beside) (ps : List (Active A)) → Reaches c b rs e ps → K e.code → CodeIs K (on e ps)
@@ -101,7 +101,7 @@ module _ {A : Type 0} (c : Control A) (b : Beside) (rs : List (Active A)) (K : �
     step_code Finish what = goes_to Finish what d qs (λ left on. refl) k
     step_code Stuck what = goes_to Stuck what d qs (λ left on. refl) k
     step_code (Acts action p) what = acts_code action p what (did c.heads action (here q) q.values d) refl
-    step_code (Passes p) what = goes_to (Passes p) what d (record q { at = p } ∷ qs) (λ left on. refl) k
+    step_code (Advances p) what = goes_to (Advances p) what d (record q { at = p } ∷ qs) (λ left on. refl) k
     step_code (Tests test p r) what = test_code test p r what (eval c.heads q.values d test) refl
     step_code (Counts count f) what = count_code count f what (eval c.heads q.values d count) refl
     step_code (Holds stop pause p) what = holds_code stop pause p what (begun c.heads pause (here (stopped q stop p)) q.values d) refl (stop_sets_code pause) refl
@@ -118,7 +118,7 @@ module _ {A : Type 0} (c : Control A) (b : Beside) (rs : List (Active A)) (K : �
 
 -- ---- as a thread goes on
 
-wakes_code : {A : Type 0} (c : Control A) (K : ℤ → Type 0) (n : ℕ) (w : Wait) (b : Beside) (rs : List (Active A)) → K ok → (WakesLate c w b rs → K timeout)
+wakes_code : {A : Type 0} (c : Control A) (K : ℤ → Type 0) (n : ℕ) (w : Wait) (b : Beside) (rs : List (Active A)) → K code_ok → (WakesLate c w b rs → K code_timeout)
     → ((pause : Option Pause) (values : List Value) → K (answered c.heads pause w values b).beside.code) → CodeIs K (go_on c n w b rs)
 wakes_code c K zero w b rs k_ok k_late woken = no_step_code K b rs
 wakes_code c K (suc left) w b [] k_ok k_late woken = nobody left

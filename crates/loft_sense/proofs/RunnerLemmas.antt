@@ -21,8 +21,8 @@ use Rattle.loft_sense.specs.Passes.{Runner, Walk, is_ready, run_of, runners_afte
 use Rattle.loft_sense.specs.Moments.{Moment, IsKeptByRuns}
 use Rattle.loft_sense.specs.Apply.{apply}
 use Rattle.loft_sense.specs.Instant.{runner_of, around_of, has_run}
-use Rattle.loft_sense.specs.Runs.{instant_walk}
-use Rattle.loft_sense.specs.Codes.{IsPending}
+use Rattle.loft_sense.specs.LawWords.{instant_walk}
+use Rattle.loft_sense.specs.WaitCodes.{IsPending}
 use Rattle.loft_sense.proofs.StepLemmas.{IsBelow, run_takes_step}
 use Rattle.loft_sense.proofs.AroundLemmas.{OutcomeIs, run_is}
 use Rattle.loft_sense.proofs.MomentLemmas.{kept_within, kept_by_passes}

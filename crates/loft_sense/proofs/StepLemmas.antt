@@ -10,7 +10,7 @@ use Rattle.loft_sense.specs.Machine.{Prog, Tree, Code}
 use Rattle.loft_sense.specs.Around.{Around, Beside}
 use Rattle.loft_sense.specs.Eval.{eval, eval_all, number_of}
 use Rattle.loft_sense.specs.Statements.{Effect, GoesOn, Waits, Leaves, Dies, did, begun, answered}
-use Rattle.loft_sense.specs.Run.{Next, Finish, Stuck, Acts, Passes, Tests, Counts, Holds, Runs, Control, Active, Outcome, Held, Left, Ended, live, effect_on, test_on, count_on, run_on, begun_frame, stopped, step, step_on, no_step, going, go_on, go, here, beside, actives_of}
+use Rattle.loft_sense.specs.Run.{Next, Finish, Stuck, Acts, Advances, Tests, Counts, Holds, Runs, Control, Active, Outcome, Held, Left, Ended, live, effect_on, test_on, count_on, run_on, begun_frame, stopped, step, step_on, no_step, going, go_on, go, here, beside, actives_of}
 use Rattle.loft_sense.specs.Tree.{tree}
 use Rattle.loft_sense.specs.Code.{code}
 use Rattle.loft_sense.specs.Passes.{run_of}
@@ -61,7 +61,7 @@ below_step : {A : Type 0} (c : Control A) (left : ℕ) (on : Beside → List (Ac
 below_step c left on h Finish r rs b = IsBelow-more _ left (h b rs)
 below_step c left on h Stuck r rs b = IsBelow-more _ left (h b rs)
 below_step c left on h (Acts action p) r rs b = below_effect c left on h (did c.heads action (here r) r.values b) p r rs b
-below_step c left on h (Passes p) r rs b = IsBelow-more _ left (h b (record r { at = p } ∷ rs))
+below_step c left on h (Advances p) r rs b = IsBelow-more _ left (h b (record r { at = p } ∷ rs))
 below_step c left on h (Tests test p q) r rs b = below_test left on h (eval c.heads r.values b test) p q r rs b
 below_step c left on h (Counts count f) r rs b = below_count left on h (eval c.heads r.values b count) f r rs b
 below_step c left on h (Holds k pause p) r rs b = below_effect c left on h (begun c.heads pause (here (stopped r k p)) r.values b) p (stopped r k p) rs b

@@ -10,7 +10,7 @@ use Rattle.loft_board.proofs.BoardLemmas.{stays, prefix}
 use Rattle.loft_sense.specs.declared.note.Act.{Act}
 use Rattle.loft_sense.specs.declared.note.Act.TheVariants as act
 use Rattle.loft_sense.specs.Around.{Around}
-use Rattle.loft_sense.specs.Runs.{is_entry, generated_in, ended_in, Tells, KeepsEvents}
+use Rattle.loft_sense.specs.LawWords.{is_entry, generated_in, ended_in, Tells, KeepsEvents}
 
 -- ---- boards
 

@@ -43,17 +43,17 @@ abbrev pub new_thread : Heads → ThreadId → ModuleId → List Value → Threa
 new_thread h t m args = record { id = t; code = pos 0; mask = pos 0; wait = New; frames = record { «module» = m; stop = 0; counts = []; values = first_values h t m args } ∷ [] }
 
 -- the last in the list
-abbrev pub link : Thread → List Standing → List Standing
-link t linked = linked ++ record { thread = t; suspended = false } ∷ []
+abbrev pub with_last : Thread → List Standing → List Standing
+with_last t linked = linked ++ record { thread = t; suspended = false } ∷ []
 
 abbrev pub is_linked : ThreadId → List Standing → Bool
 is_linked t [] = false
 is_linked t (s ∷ ss) = same_thread t s.thread.id || is_linked t ss
 
 -- without the first thread of this id
-abbrev pub unlink : ThreadId → List Standing → List Standing
-unlink t [] = []
-unlink t (s ∷ ss) = if same_thread t s.thread.id then ss else s ∷ unlink t ss
+abbrev pub without_first : ThreadId → List Standing → List Standing
+without_first t [] = []
+without_first t (s ∷ ss) = if same_thread t s.thread.id then ss else s ∷ without_first t ss
 
 -- the first thread of this id is suspended, or isn't
 abbrev pub suspend : ThreadId → Bool → List Standing → List Standing
@@ -84,12 +84,12 @@ ended_by s t end m a = record a {
 abbrev pub apply_order : Heads → SchedId → Applied → Order → Applied
 apply_order h s a (order.Create t m args) =
     if nat_lt (length a.linked) MAX_LINKED
-    then marked mark.Done (record a { linked = link (new_thread h t m args) a.linked })
+    then marked mark.Done (record a { linked = with_last (new_thread h t m args) a.linked })
     else ended_by s t FullEnd mark.Full a
-apply_order h s a (order.Arrive t) = marked mark.Done (record a { linked = link t a.linked })
+apply_order h s a (order.Arrive t) = marked mark.Done (record a { linked = with_last t a.linked })
 apply_order h s a (order.Stop t) =
     if is_linked t a.linked
-    then ended_by s t Stopped mark.Done (record a { linked = unlink t a.linked })
+    then ended_by s t Stopped mark.Done (record a { linked = without_first t a.linked })
     else marked mark.Void a
 apply_order h s a (order.Suspend t) =
     if is_linked t a.linked

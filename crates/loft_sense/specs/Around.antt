@@ -29,8 +29,8 @@ pub record Beside : Type 0 where
   pub around : Around
 
 -- this was done
-abbrev pub done : Act → Around → Around
-done act around = record around { acts = around.acts ++ act ∷ [] }
+abbrev pub with_act : Act → Around → Around
+with_act act around = record around { acts = around.acts ++ act ∷ [] }
 
 -- this was done, and is an entry of the instant
 abbrev pub entered : Act → Around → Around

@@ -4,7 +4,7 @@ use Rattle.std.specs.Option.{option_and_then}
 use Rattle.loft_base.specs.declared.ids.ModuleId.{ModuleId}
 use Rattle.loft_tree.specs.Resolved.{Pause}
 use Rattle.loft_code.specs.Operations.{Operation, Do, Hold, Call, Branch, Enter, Count, Turn, Jump, End, Line, Automata, stop_of}
-use Rattle.loft_sense.specs.Run.{Next, Finish, Stuck, Acts, Passes, Tests, Counts, Holds, Runs, Control}
+use Rattle.loft_sense.specs.Run.{Next, Finish, Stuck, Acts, Advances, Tests, Counts, Holds, Runs, Control}
 
 -- a point of a module: the number of an operation, and the counts of the `repeat`s around it, from the inside out
 pub record Point : Type 0 where
@@ -58,9 +58,9 @@ next_operation (Do action) p counts = Acts action (point (p + 1) counts)
 next_operation (Hold k pause) p counts = Holds k pause (point (p + 1) counts)
 next_operation (Call k m arguments) p counts = Runs k m arguments (point (p + 1) counts)
 next_operation (Branch t test) p counts = Tests test (point (p + 1) counts) (point t counts)
-next_operation Enter p counts = Passes (point (p + 1) counts)
+next_operation Enter p counts = Advances (point (p + 1) counts)
 next_operation (Count e) p counts = Counts e (λ n. point (p + 1) (n ∷ counts))
-next_operation (Turn t) p counts = Passes (turned (p + 1) t counts)
+next_operation (Turn t) p counts = Advances (turned (p + 1) t counts)
 next_operation (Jump t) p counts = Stuck
 next_operation End p counts = Finish
 
@@ -92,13 +92,13 @@ after_or_past None lines = length lines
 after_or_past (Some p) lines = p + 1
 
 -- what an operation waits for; nothing where it is no stop, or a `run`
-abbrev pub pause_of : Operation → Option Pause
-pause_of (Hold k pause) = Some pause
-pause_of operation = None
+abbrev pub pause_of_operation : Operation → Option Pause
+pause_of_operation (Hold k pause) = Some pause
+pause_of_operation operation = None
 
 abbrev pub pause_at : List Line → Option ℕ → Option Pause
 pause_at lines None = None
-pause_at lines (Some p) = option_and_then (λ l. pause_of l.operation) (slice_get lines p)
+pause_at lines (Some p) = option_and_then (λ l. pause_of_operation l.operation) (slice_get lines p)
 
 -- what a stop waits for; the begin, which counts as stop 0, waits for nothing
 abbrev pub pause_in : List Line → ℕ → Option Pause

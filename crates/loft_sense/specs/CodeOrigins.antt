@@ -10,14 +10,14 @@ use Rattle.loft_sense.specs.declared.thread.Wait.{Wait}
 use Rattle.loft_sense.specs.declared.thread.Wait.TheVariants as wait
 use Rattle.loft_sense.specs.Machine.{Prog, Tree, Code}
 use Rattle.loft_sense.specs.Around.{Around, Beside}
-use Rattle.loft_sense.specs.Statements.{ok, timeout, next, answered}
+use Rattle.loft_sense.specs.Statements.{code_ok, code_timeout, code_next, answered}
 use Rattle.loft_sense.specs.Run.{Holds, Control, Active, Outcome, live, step_on, beside, actives_of}
 use Rattle.loft_sense.specs.Tree.{tree}
 use Rattle.loft_sense.specs.Code.{code}
 use Rattle.loft_sense.specs.Passes.{Runner}
 use Rattle.loft_sense.specs.Instant.{closed_wait, replay}
-use Rattle.loft_sense.specs.Runs.{instant_walk}
-use Rattle.loft_sense.specs.Codes.{limit_number, left_of, IsPending}
+use Rattle.loft_sense.specs.LawWords.{instant_walk}
+use Rattle.loft_sense.specs.WaitCodes.{limit_number, number_left, IsPending}
 
 -- ---- over a run
 
@@ -57,13 +57,13 @@ pub data CodeComesFrom (x : Prog) (t : Thread) (around : Around) (now : ℤ) : T
   -- it is the one before the run
   kept : now ≡ t.code → CodeComesFrom x t around now
   -- what it waited for was there
-  there : now ≡ ok → CodeComesFrom x t around now
+  there : now ≡ code_ok → CodeComesFrom x t around now
   -- no instant was left of its wait
-  ran_out : now ≡ timeout → left_of t.wait ≡ Some (pos 0) → CodeComesFrom x t around now
+  ran_out : now ≡ code_timeout → number_left t.wait ≡ Some (pos 0) → CodeComesFrom x t around now
   -- a stop began whose limit was at most 0
-  late : now ≡ timeout → RunsLate x t around → CodeComesFrom x t around now
+  late : now ≡ code_timeout → RunsLate x t around → CodeComesFrom x t around now
   -- its wait was marked
-  marked : now ≡ next → t.wait ≡ wait.Next → CodeComesFrom x t around now
+  marked : now ≡ code_next → t.wait ≡ wait.Next → CodeComesFrom x t around now
 
 -- ---- over instants
 

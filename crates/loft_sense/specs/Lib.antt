@@ -16,8 +16,8 @@ pub mod Passes
 pub mod Moments
 pub mod Apply
 pub mod Instant
-pub mod Runs
-pub mod Codes
+pub mod LawWords
+pub mod WaitCodes
 pub mod CodeOrigins
 pub mod Async
 pub mod Rest

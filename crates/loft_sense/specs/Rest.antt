@@ -1,5 +1,5 @@
 -- Schedulers that rest, and that have used their bounds up (docs/SEMANTICS.md, "Rest").
-use Rattle.std.specs.Prelude.{◌≤◌, ℤ, Bool, true, false, ◌||◌, ◌&&◌, not, List, [], ◌∷◌, Option, Some, None}
+use Rattle.std.specs.Prelude.{◌≤◌, Bool, true, false, ◌||◌, ◌&&◌, not, List, [], ◌∷◌, is_none}
 use Rattle.loft_base.specs.declared.ids.ThreadId.{ThreadId}
 use Rattle.loft_sense.specs.declared.thread.Wait.{Wait}
 use Rattle.loft_sense.specs.declared.thread.Wait.TheVariants.{Events, Join, Halt}
@@ -10,14 +10,10 @@ use Rattle.loft_sense.specs.Tally.{reaches_bound}
 use Rattle.loft_sense.specs.Machine.{Prog, heads, Mach}
 use Rattle.loft_sense.specs.CanGo.{is_known}
 
-abbrev pub is_none_left : Option ℤ → Bool
-is_none_left None = true
-is_none_left (Some n) = false
-
 -- between two instants no event is present
 abbrev pub waits_for_ever : Wait → List ThreadId → Bool
-waits_for_ever (Events events left) known = is_none_left left
-waits_for_ever (Join thread left) known = is_none_left left && not (is_known thread known)
+waits_for_ever (Events events left) known = is_none left
+waits_for_ever (Join thread left) known = is_none left && not (is_known thread known)
 waits_for_ever Halt known = true
 waits_for_ever w known = false
 

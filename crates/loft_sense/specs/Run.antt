@@ -16,7 +16,7 @@ use Rattle.loft_sense.specs.declared.order.To.{To}
 use Rattle.loft_sense.specs.declared.note.Act.TheVariants as act
 use Rattle.loft_sense.specs.declared.limits.TheConstants.{MAX_FRAMES}
 use Rattle.loft_sense.specs.Heads.{first_values}
-use Rattle.loft_sense.specs.Around.{Around, Beside, done}
+use Rattle.loft_sense.specs.Around.{Around, Beside, with_act}
 use Rattle.loft_sense.specs.Eval.{eval, eval_all, number_of, is_true}
 use Rattle.loft_sense.specs.Statements.{Effect, GoesOn, Waits, Leaves, Dies, did, begun, answered}
 
@@ -28,7 +28,7 @@ pub data Next (A : Type 0) : Type 0 where
   Stuck : Next A
   Acts : (action : Action) (rest : A) → Next A
   -- a loop begins; a turn of a `repeat`, or its last test
-  Passes : (rest : A) → Next A
+  Advances : (rest : A) → Next A
   Tests : (test : Exp) (yes no : A) → Next A
   -- a `repeat` begins
   Counts : (count : Exp) (rest : ℤ → A) → Next A
@@ -70,7 +70,7 @@ here r = record { «module» = r.module; stop = r.stop }
 
 -- the thread ends, and is known as ended
 abbrev pub ends : End → Beside → ℕ → Outcome
-ends end b left = Ended end (done (act.End b.id end) (record b.around { known = b.around.known ++ b.id ∷ [] })) left
+ends end b left = Ended end (with_act (act.End b.id end) (record b.around { known = b.around.known ++ b.id ∷ [] })) left
 
 -- the first where the module has ended there, else the second
 abbrev pub if_finish : {A B : Type 0} → Next A → B → B → B
@@ -129,7 +129,7 @@ abbrev pub step : {A : Type 0} → Control A → ℕ → (Beside → List (Activ
 step c left on Finish r rs b = on b rs
 step c left on Stuck r rs b = on b rs
 step c left on (Acts action p) r rs b = effect_on c left on (did c.heads action (here r) r.values b) p r rs b
-step c left on (Passes p) r rs b = on b (record r { at = p } ∷ rs)
+step c left on (Advances p) r rs b = on b (record r { at = p } ∷ rs)
 step c left on (Tests test p q) r rs b = test_on left on (eval c.heads r.values b test) p q r rs b
 step c left on (Counts count f) r rs b = count_on left on (eval c.heads r.values b count) f r rs b
 step c left on (Holds k pause p) r rs b = effect_on c left on (begun c.heads pause (here (stopped r k p)) r.values b) p (stopped r k p) rs b

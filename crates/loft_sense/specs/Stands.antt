@@ -115,9 +115,9 @@ code_stop c m k = line_stop (lines_at c m) k
 
 -- ---- threads
 
-abbrev pub stop_of : Prog → ModuleId → ℕ → Option StopAt
-stop_of (Tree p) m k = tree_stop p m k
-stop_of (Code c) m k = code_stop c m k
+abbrev pub program_stop : Prog → ModuleId → ℕ → Option StopAt
+program_stop (Tree p) m k = tree_stop p m k
+program_stop (Code c) m k = code_stop c m k
 
 -- a number left, where there is one, isn't negative, and there is one exactly where the statement gives one
 abbrev pub LeftAgrees : Option Exp → Option ℤ → Type 0
@@ -147,7 +147,7 @@ ValuesAgree (Some m) values = IsTrue (agree (kinds_of m.parameters ++ kinds_of m
 
 -- a frame that stands at this stop: a count for each `repeat` around it
 pub record FrameStands (x : Prog) (f : Frame) (at : StopAt) : Type 0 where
-  pub stop : stop_of x f.module f.stop ≡ Some at
+  pub stop : program_stop x f.module f.stop ≡ Some at
   pub counts : length f.counts ≡ at.depth
   pub values : ValuesAgree (slice_get (heads x).modules f.module.0) f.values
 

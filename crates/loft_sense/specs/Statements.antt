@@ -34,14 +34,14 @@ use Rattle.loft_sense.specs.CanGo.{ran_out, has_any, is_index, is_known}
 use Rattle.loft_sense.specs.Text.{value_text}
 
 -- the codes of waits that have ended
-abbrev pub ok : ℤ
-ok = pos 0
+abbrev pub code_ok : ℤ
+code_ok = pos 0
 
-abbrev pub timeout : ℤ
-timeout = pos 1
+abbrev pub code_timeout : ℤ
+code_timeout = pos 1
 
-abbrev pub next : ℤ
-next = pos 2
+abbrev pub code_next : ℤ
+code_next = pos 2
 
 -- the values of the running frame, and what stands beside the frames
 pub record Now : Type 0 where
@@ -189,7 +189,7 @@ indexed vs (negsuc k) = pos 0
 
 -- the variable of a value wait is set
 abbrev pub gotten : Heads → Option Target → EventId → ℤ → List Value → Beside → Now
-gotten h target event i values b = set_if h target (Int (indexed (event_values event b.around.board) i)) values (with_code ok b)
+gotten h target event i values b = set_if h target (Int (indexed (event_values event b.around.board) i)) values (with_code code_ok b)
 
 -- a stop as it begins, in a frame with these values, whose stop it is by now
 abbrev pub begun : Heads → Pause → At → List Value → Beside → Effect
@@ -199,7 +199,7 @@ begun h (Cooperate (Some e)) here values b =
 begun h (Await events limit) here values b =
     if_value (eval_if h values b limit) here (λ v.
     hold (has_any events b.around.board) (is_up (number_if v))
-    (goes_on values (events_end events ok b)) (goes_on values (events_end events timeout b)) (Waits (wait.Events events (number_if v))))
+    (goes_on values (events_end events code_ok b)) (goes_on values (events_end events code_timeout b)) (Waits (wait.Events events (number_if v))))
 begun h (Get event index target) here values b =
     if_value (eval h values b index) here (λ i.
     if is_index (number_of i) (length (event_values event b.around.board))
@@ -209,14 +209,14 @@ begun h (Join thread limit) here values b =
     if_value (eval h values b thread) here (λ t.
     if_value (eval_if h values b limit) here (λ v.
     hold (is_known (thread_or b.id t) b.around.known) (is_up (number_if v))
-    (goes_on values (with_code ok b)) (goes_on values (with_code timeout b)) (Waits (wait.Join (thread_or b.id t) (number_if v)))))
+    (goes_on values (with_code code_ok b)) (goes_on values (with_code code_timeout b)) (Waits (wait.Join (thread_or b.id t) (number_if v)))))
 begun h (Link s) here values b = Leaves (to.Sched s)
 begun h Unlink here values b = Leaves to.Workers
 begun h Halt here values b = Waits wait.Halt
 
 -- the code of a wait that ends: no instant may be left of it
 abbrev pub code_after : Option ℤ → ℤ
-code_after left = if ran_out left then timeout else ok
+code_after left = if ran_out left then code_timeout else code_ok
 
 -- the variable that a stop sets, where it is a `get`
 abbrev pub target_of : Option Pause → Option Target
@@ -229,6 +229,6 @@ answered h pause wait.New values b = now values b
 answered h pause (wait.Coop left) values b = now values b
 answered h pause (wait.Events events left) values b = now values (events_end events (code_after left) b)
 answered h pause (wait.Index event i) values b = gotten h (target_of pause) event i values b
-answered h pause wait.Next values b = now values (with_code next b)
+answered h pause wait.Next values b = now values (with_code code_next b)
 answered h pause (wait.Join thread left) values b = now values (with_code (code_after left) b)
 answered h pause wait.Halt values b = now values b

@@ -51,33 +51,22 @@ name_at names n = unwrap_or (slice_get names n) []
 abbrev pub scheduler_name : Heads → SchedId → List ℕ
 scheduler_name h s = name_at h.schedulers s.0
 
-abbrev pub name_of_module : Option Signature → List ℕ
-name_of_module None = []
-name_of_module (Some signature) = signature.name
+-- the name of what is declared, and nothing where there is no such declaration
+abbrev pub name_or_none : {A : Type 0} → (A → List ℕ) → Option A → List ℕ
+name_or_none name None = []
+name_or_none name (Some declared) = name declared
 
 abbrev pub module_name : Heads → ModuleId → List ℕ
-module_name h m = name_of_module (slice_get h.modules m.0)
-
-abbrev pub name_of_event : Option EventHead → List ℕ
-name_of_event None = []
-name_of_event (Some head) = head.name
+module_name h m = name_or_none (λ (d : Signature). d.name) (slice_get h.modules m.0)
 
 abbrev pub event_name : Heads → EventId → List ℕ
-event_name h e = name_of_event (slice_get h.events e.0)
-
-abbrev pub name_of_shared : Option SharedHead → List ℕ
-name_of_shared None = []
-name_of_shared (Some head) = head.name
+event_name h e = name_or_none (λ (d : EventHead). d.name) (slice_get h.events e.0)
 
 abbrev pub shared_name : Heads → SharedId → List ℕ
-shared_name h x = name_of_shared (slice_get h.shared x.0)
-
-abbrev pub name_of_client : Option Client → List ℕ
-name_of_client None = []
-name_of_client (Some client) = client.name
+shared_name h x = name_or_none (λ (d : SharedHead). d.name) (slice_get h.shared x.0)
 
 abbrev pub client_name : Heads → ℕ → List ℕ
-client_name h c = name_of_client (slice_get h.clients c)
+client_name h c = name_or_none (λ (d : Client). d.name) (slice_get h.clients c)
 
 -- A caller, whose number no client of the source has, has no name.
 abbrev pub maker_name : Heads → Maker → List ℕ

@@ -2,7 +2,7 @@
 use Rattle.std.specs.Prelude.{ℕ, zero, suc, ℤ, pos, negsuc, List, [], ◌∷◌, reverse, Option, Some, None, if◌then◌else◌, ◌==◌, slice_get}
 use Rattle.loft_base.specs.declared.ids.ModuleId.{ModuleId}
 use Rattle.loft_tree.specs.Resolved.{Exp, Pause, Step, Do, Hold, Call, Choose, Loop, Times, Body, Empty, Then, Resolved}
-use Rattle.loft_sense.specs.Run.{Next, Finish, Acts, Passes, Tests, Counts, Holds, Runs, Control}
+use Rattle.loft_sense.specs.Run.{Next, Finish, Acts, Advances, Tests, Counts, Holds, Runs, Control}
 
 -- one piece of work, which takes one step
 pub data Work : Type 0 where
@@ -14,29 +14,29 @@ pub data Work : Type 0 where
   Turns : (count : ℤ) (body : Body) → Work
 
 -- the statements of a body, and then the rest
-abbrev pub before : Body → List Work → List Work
-before Empty w = w
-before (Then s rest) w = Begin s ∷ before rest w
+abbrev pub body_then : Body → List Work → List Work
+body_then Empty w = w
+body_then (Then s rest) w = Begin s ∷ body_then rest w
 
 -- a statement, and what is left after it
 abbrev pub next_begin : Step → List Work → Next (List Work)
 next_begin (Do action) w = Acts action w
 next_begin (Hold k pause) w = Holds k pause w
 next_begin (Call k m arguments) w = Runs k m arguments w
-next_begin (Choose test first second) w = Tests test (before first w) (before second w)
-next_begin (Loop test body) w = Passes (Again test body ∷ w)
+next_begin (Choose test first second) w = Tests test (body_then first w) (body_then second w)
+next_begin (Loop test body) w = Advances (Again test body ∷ w)
 next_begin (Times count body) w = Counts count (λ n. Turns n body ∷ w)
 
 -- a turn of a `repeat`, while turns are to come
 abbrev pub next_turn : ℤ → Body → List Work → Next (List Work)
-next_turn (pos zero) body w = Passes w
-next_turn (pos (suc n)) body w = Passes (before body (Turns (pos n) body ∷ w))
-next_turn (negsuc n) body w = Passes w
+next_turn (pos zero) body w = Advances w
+next_turn (pos (suc n)) body w = Advances (body_then body (Turns (pos n) body ∷ w))
+next_turn (negsuc n) body w = Advances w
 
 abbrev pub next_work : List Work → Next (List Work)
 next_work [] = Finish
 next_work (Begin s ∷ w) = next_begin s w
-next_work (Again test body ∷ w) = Tests test (before body (Again test body ∷ w)) w
+next_work (Again test body ∷ w) = Tests test (body_then body (Again test body ∷ w)) w
 next_work (Turns n body ∷ w) = next_turn n body w
 
 -- the counts of the `repeat`s that are left, from the inside out
@@ -78,7 +78,7 @@ abbrev mutual
 
   pub after_body : Body → ℕ → List ℤ → List Work → Option (List Work)
   after_body Empty k counts w = None
-  after_body (Then s rest) k counts w = first_some (after_step s k counts (before rest w)) (after_body rest k counts w)
+  after_body (Then s rest) k counts w = first_some (after_step s k counts (body_then rest w)) (after_body rest k counts w)
 
 -- the statement that is stop k
 abbrev mutual
@@ -95,9 +95,9 @@ abbrev mutual
   stop_at (Then s rest) k = first_some (stop_at_step s k) (stop_at rest k)
 
 -- what it waits for; nothing where it is a `run`
-abbrev pub pause_of : Option Step → Option Pause
-pause_of (Some (Hold k pause)) = Some pause
-pause_of s = None
+abbrev pub pause_of_step : Option Step → Option Pause
+pause_of_step (Some (Hold k pause)) = Some pause
+pause_of_step s = None
 
 -- ---- the control of trees
 
@@ -120,12 +120,12 @@ after p m k counts = work_or_none (after_body (body_at p m) k counts [])
 -- what stop k of a module waits for; the begin, which counts as stop 0, waits for nothing
 abbrev pub pause_at : Resolved → ModuleId → ℕ → Option Pause
 pause_at p m zero = None
-pause_at p m (suc k) = pause_of (stop_at (body_at p m) (suc k))
+pause_at p m (suc k) = pause_of_step (stop_at (body_at p m) (suc k))
 
 abbrev pub tree : Resolved → Control (List Work)
 tree p = record {
   heads = p.heads;
-  start = λ m. before (body_at p m) [];
+  start = λ m. body_then (body_at p m) [];
   resume = after p;
   pause = pause_at p;
   counts = λ w. reverse (counts_in w);

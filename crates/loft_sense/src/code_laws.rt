@@ -17,15 +17,15 @@ ghost use Rattle.loft_sense.specs.declared.thread.Wait.{Wait};
 ghost use Rattle.loft_sense.specs.declared.thread.Wait.TheVariants.{Index, Next};
 ghost use Rattle.loft_sense.specs.Machine.{Prog, Mach};
 ghost use Rattle.loft_sense.specs.Around.{Around, Beside};
-ghost use Rattle.loft_sense.specs.Statements.{GoesOn, Now, ok, timeout, next, did, begun, answered};
+ghost use Rattle.loft_sense.specs.Statements.{GoesOn, Now, code_ok, code_timeout, code_next, did, begun, answered};
 ghost use Rattle.loft_sense.specs.Run.{Held, Left};
 ghost use Rattle.loft_sense.specs.Passes.{Runner, run_of, passes_within};
 ghost use Rattle.loft_sense.specs.Apply.{apply};
 ghost use Rattle.loft_sense.specs.Instant.{closed_wait, has_run, lowered, replay};
 ghost use Rattle.loft_sense.specs.Fits.{Fits};
-ghost use Rattle.loft_sense.specs.Runs.{instant_walk};
-ghost use Rattle.loft_sense.specs.Codes.{IsPending, left_of, limit_number};
-ghost use Rattle.loft_sense.specs.Codes.{stop_sets_code, wait_sets_code};
+ghost use Rattle.loft_sense.specs.LawWords.{instant_walk};
+ghost use Rattle.loft_sense.specs.WaitCodes.{IsPending, number_left, limit_number};
+ghost use Rattle.loft_sense.specs.WaitCodes.{stop_sets_code, wait_sets_code};
 ghost use Rattle.loft_sense.specs.CodeOrigins.{CodeComesFrom, ArrivesNew, IsSetByClose};
 
 /// A stop that goes on as it begins sets the code to OK, or to TIMEOUT where it has a limit of at
@@ -34,8 +34,8 @@ ghost use Rattle.loft_sense.specs.CodeOrigins.{CodeComesFrom, ArrivesNew, IsSetB
 pub fn stops_set_codes_as_they_begin()
     ensures sets { (h : Heads) (pause : Pause) (at : At) (values : List Value) (b : Beside)
         → (now : Now) → begun h pause at values b ≡ GoesOn now → stop_sets_code pause ≡ true
-        → (now.beside.code ≡ ok)
-        ⊎ ((now.beside.code ≡ timeout)
+        → (now.beside.code ≡ code_ok)
+        ⊎ ((now.beside.code ≡ code_timeout)
         × ((n : ℤ) × ((limit_number h pause values b ≡ Some n) × (n ≤ℤ pos 0)))) }
     ensures keeps { (h : Heads) (pause : Pause) (at : At) (values : List Value) (b : Beside)
         → (now : Now) → begun h pause at values b ≡ GoesOn now → stop_sets_code pause ≡ false
@@ -50,12 +50,12 @@ pub fn stops_set_codes_as_they_begin()
 pub fn waits_set_codes_as_they_end()
     ensures sets { (h : Heads) (pause : Option Pause) (w : Wait) (values : List Value) (b : Beside)
         → wait_sets_code w ≡ true → let code = (answered h pause w values b).beside.code in
-        (code ≡ ok)
-        ⊎ (((code ≡ timeout) × (left_of w ≡ Some (pos 0)))
-        ⊎ ((code ≡ next) × (w ≡ Next))) }
+        (code ≡ code_ok)
+        ⊎ (((code ≡ code_timeout) × (number_left w ≡ Some (pos 0)))
+        ⊎ ((code ≡ code_next) × (w ≡ Next))) }
     ensures pending { (h : Heads) (pause : Option Pause) (w : Wait) (values : List Value)
         → (b : Beside) → IsPending w → wait_sets_code w ≡ true
-        → (answered h pause w values b).beside.code ≡ ok }
+        → (answered h pause w values b).beside.code ≡ code_ok }
     ensures keeps { (h : Heads) (pause : Option Pause) (w : Wait) (values : List Value) (b : Beside)
         → wait_sets_code w ≡ false → (answered h pause w values b).beside.code ≡ b.code }
 {}
@@ -101,7 +101,7 @@ pub fn earlier_closes_set_marks_and_zeros()
     ensures ran_out { (x : Prog) (limits : Limits) (s : SchedId)
         → (batches : List (List Order)) (batch : List Order)
         → All (All ArrivesNew) batches → All ArrivesNew batch
-        → All (λ q. left_of q.thread.wait ≡ Some (pos 0)
+        → All (λ q. number_left q.thread.wait ≡ Some (pos 0)
         → IsSetByClose x limits s batches q.thread)
         (apply x (replay x limits s batches).machine batch).linked }
     ensures fits { (x : Prog) (s : SchedId) (o : Order) → Fits x s o → ArrivesNew o }
@@ -112,6 +112,6 @@ pub fn earlier_closes_set_marks_and_zeros()
 pub fn the_close_marks_and_lowers()
     ensures marks { (w : Wait) → closed_wait w ≡ Next
         → (w ≡ Next) ⊎ ((event : EventId) × (at : ℤ) × (w ≡ Index event at)) }
-    ensures number { (w : Wait) → left_of (closed_wait w) ≡ option_map lowered (left_of w) }
+    ensures number { (w : Wait) → number_left (closed_wait w) ≡ option_map lowered (number_left w) }
     ensures lowers { (n : ℤ) → lowered n ≡ (if int_lt (pos 0) n then n -ℤ pos 1 else n) }
 {}

@@ -18,7 +18,8 @@ use Rattle.loft_sense.specs.declared.order.To.TheVariants as to
 use Rattle.loft_sense.specs.declared.thread.Thread.{Thread}
 use Rattle.loft_sense.specs.Heads.{same_scheduler}
 use Rattle.loft_sense.specs.Machine.{Prog, heads}
-use Rattle.loft_history.specs.Clients.{control_of, orders_from}
+use Rattle.loft_sense.specs.Statements.{order_of}
+use Rattle.loft_history.specs.Clients.{orders_from}
 use Rattle.loft_history.specs.History.{starts_from, job_before}
 use Rattle.loft_history.specs.Legal.{FitsOne, IsCallersOrder}
 use Rattle.loft_stand.specs.Points.{OutFits}
@@ -69,7 +70,7 @@ module _ (x : Prog) (P : Claim) where
       start_one true f = (tt, f)
       start_one false f = f
 
-  control_carries : (control : Control) (t : ThreadId) (s : SchedId) → Carries P s (control_of control t)
+  control_carries : (control : Control) (t : ThreadId) (s : SchedId) → Carries P s (order_of control t)
   control_carries control.Stop t s = tt
   control_carries control.Suspend t s = tt
   control_carries control.Resume t s = tt

@@ -16,7 +16,7 @@ use Rattle.loft_code.specs.Places.{left_by_pause, place_left}
 use Rattle.loft_code.specs.Leads.{IsModule, IsReached, BeginsWell, Passes as PassesTests}
 use Rattle.loft_code.proofs.Leading.{valid_passes, leads_on, begins_well, ends_well, turn_counts, small_stop}
 use Rattle.loft_sense.specs.Machine.{Code}
-use Rattle.loft_sense.specs.Code.{Point, point, lines_at, jump_of, landing, next_operation, next_line, next_point, stop_from, after_or_past, pause_of, pause_at, pause_in}
+use Rattle.loft_sense.specs.Code.{Point, point, lines_at, jump_of, landing, next_operation, next_line, next_point, stop_from, after_or_past, pause_of_operation, pause_at, pause_in}
 use Rattle.loft_sense.specs.Run.{Next}
 use Rattle.loft_sense.specs.Stands.{StopKind, Begins, Pauses, Calls, StopAt, begin_of, begin_or_unlinked, end_of, end_or_unlinked, place_after, kind_of, stop_before, stop_at_line, code_stop}
 use Rattle.loft_stand.specs.WellFormed.{IsValidCode}
@@ -67,7 +67,7 @@ stop_there lines p l kind q depth at is r =
     ∙ ap (stop_before (Some kind)) (line_of lines q depth (p + 1) r)
 
 -- what a stop waits for is found under its number
-kind_pauses : (o : Operation) (kind : StopKind) → kind_of o ≡ Some kind → IsPauseOf kind (pause_of o)
+kind_pauses : (o : Operation) (kind : StopKind) → kind_of o ≡ Some kind → IsPauseOf kind (pause_of_operation o)
 kind_pauses (Do action) kind e = absurd cc
 kind_pauses (Hold k pause) kind e = let same : Pauses pause ≡ kind = cc in subst (λ q. IsPauseOf q (Some pause)) same refl
 kind_pauses (Call k m arguments) kind e = let same : Calls m ≡ kind = cc in subst (λ q. IsPauseOf q None) same tt
@@ -104,7 +104,7 @@ stop_waits : (lines : List Line) (o : Option ℕ) (at : StopAt) → stop_at_line
 stop_waits lines None at e = absurd cc
 stop_waits lines (Some p) at e =
     let stop = stop_parts lines p at e in
-    subst (IsPauseOf at.kind) (sym (ap (option_and_then (λ (l : Line). pause_of l.operation)) stop.there)) (kind_pauses stop.line.operation at.kind stop.kind)
+    subst (IsPauseOf at.kind) (sym (ap (option_and_then (λ (l : Line). pause_of_operation l.operation)) stop.there)) (kind_pauses stop.line.operation at.kind stop.kind)
 
 begin_waits : (o : Option Line) (at : StopAt) → stop_before (Some Begins) o ≡ Some at → IsPauseOf at.kind None
 begin_waits None at e = absurd cc

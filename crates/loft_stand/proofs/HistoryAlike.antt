@@ -25,7 +25,7 @@ use Rattle.loft_sense.specs.Rest.{is_resting}
 use Rattle.loft_sense.specs.Instant.{AfterInstant, Replayed, one_more, replay_on}
 use Rattle.loft_sense.specs.Fits.{IsThread, IsValue, IsEventOf, Fits}
 use Rattle.loft_history.specs.Clients.{made_by}
-use Rattle.loft_history.specs.History.{Choice, TakeBy, GiveBy, PickBy, PostBy, ClientBy, choice_of, log, is_open, waiting, jobs, left_after, left_of, unsent, creates, replayed, is_empty, has_turn, sent_last, entry_of_first, pick_of, entry_of, with_entry, hist_on, hist, has_finished, HasEnded, left_step}
+use Rattle.loft_history.specs.History.{Choice, TakeBy, GiveBy, PickBy, PostBy, ClientBy, choice_of, log, is_open, waiting, jobs, unposted_after, unposted, unsent, creates, replayed, is_empty, has_turn, sent_last, entry_of_first, pick_of, entry_of, with_entry, hist_on, hist, has_finished, HasEnded, unposted_step}
 use Rattle.loft_history.specs.Legal.{AtEach, IsCallersOrder, FitsOne, IsLegal, IsCallersEntry, ComesNext}
 use Rattle.loft_sense.specs.Lines.{text_of}
 use Rattle.loft_history.specs.Report.{head_lines, block_lines, scheduler_lines, left_line, schedulers_from, left_part, report_lines, report}
@@ -105,7 +105,7 @@ module _ (x y : Prog) (well : IsWellFormed x) (alike : RunsAlike x y) (o : RunOp
   -- what has been made so far fits in x, and workers have the same left to post in both
   pub record AlikeSoFar (h : List Entry) : Type 0 where
     pub fits : HistoryFits x well o h
-    pub left : (w : ℕ) → left_of x o w h ≡ left_of y o w h
+    pub left : (w : ℕ) → unposted x o w h ≡ unposted y o w h
 
   -- whether there is a turn to make is asked of the declarations and the machine alone
   turn_same : (m : Mach) (orders : List Order) → has_turn x o.limits m orders ≡ has_turn y o.limits m orders
@@ -128,7 +128,7 @@ module _ (x y : Prog) (well : IsWellFormed x) (alike : RunsAlike x y) (o : RunOp
   chosen_same h (ClientBy c) f = ap (λ (d : Heads). entry_of_first (Client c) (unsent d c h)) alike.heads
 
   -- what a worker has left after one more entry
-  one_left : (h : List Entry) (e : Entry) → AlikeSoFar h → ComesNext x o h e → (w : ℕ) → left_after x o w (left_of x o w h) (e ∷ []) ≡ left_after y o w (left_of y o w h) (e ∷ [])
+  one_left : (h : List Entry) (e : Entry) → AlikeSoFar h → ComesNext x o h e → (w : ℕ) → unposted_after x o w (unposted x o w h) (e ∷ []) ≡ unposted_after y o w (unposted y o w h) (e ∷ [])
   one_left h (Take s batch) f next w = f.left w
   one_left h (Give s sent) f next w = f.left w
   one_left h (Pick v job) f next w = if_same (w == v) (blocks_same x y alike job o.limits.block (picked_fits x well o h v job f.fits next)) (f.left w)
@@ -138,7 +138,7 @@ module _ (x y : Prog) (well : IsWellFormed x) (alike : RunsAlike x y) (o : RunOp
   next_alike : (h : List Entry) (e : Entry) → AlikeSoFar h → ComesNext x o h e → AlikeSoFar (h ++ e ∷ [])
   next_alike h e f next = record {
     fits = entry_fits x well o h e f.fits next;
-    left = λ w. fold-append (left_step x o w) [] h (e ∷ []) ∙ (one_left h e f next w ∙ sym (fold-append (left_step y o w) [] h (e ∷ [])));
+    left = λ w. fold-append (unposted_step x o w) [] h (e ∷ []) ∙ (one_left h e f next w ∙ sym (fold-append (unposted_step y o w) [] h (e ∷ [])));
   }
 
   none_yet : AlikeSoFar []

@@ -19,7 +19,7 @@ use Rattle.loft_sense.specs.declared.thread.Thread.{Thread}
 use Rattle.loft_sense.specs.Machine.{Prog, heads, empty}
 use Rattle.loft_sense.specs.Fits.{Fits}
 use Rattle.loft_sense.specs.Instant.{Replayed, one_more, replay_on, replay}
-use Rattle.loft_history.specs.History.{sends, sent_in, starts_of, waiting_after, waiting, job_before, jobs_sent, jobs_after, jobs, left_of, unsent, replayed}
+use Rattle.loft_history.specs.History.{sends, sent_in, starts_of, waiting_after, waiting, job_before, jobs_sent, jobs_after, jobs, unposted, unsent, replayed}
 use Rattle.loft_history.specs.Legal.{IsLegal, IsCallersEntry, ComesNext}
 use Rattle.loft_sense.proofs.AroundLemmas.{instant_shared}
 use Rattle.loft_history.proofs.LegalEntries.{legal_exactly}
@@ -161,8 +161,8 @@ module _ (x : Prog) (well : IsWellFormed x) (o : RunOptions) where
     pub threads_fit : All (ThreadFits x Unlinked) (jobs es)
     threads_fit = all_of (ThreadFits x Unlinked) (jobs es) (jobs_fit es fits)
 
-    pub posts_fit : (w : ℕ) → All (SentFits x) (left_of x o w es)
-    posts_fit w = all_of (SentFits x) (left_of x o w es) (fits.posts w)
+    pub posts_fit : (w : ℕ) → All (SentFits x) (unposted x o w es)
+    posts_fit w = all_of (SentFits x) (unposted x o w es) (fits.posts w)
 
     pub clients_fit : (c : ℕ) → All (SentFits x) (unsent (heads x) c es)
     clients_fit c = all_of (SentFits x) (unsent (heads x) c es) (fits.orders c)

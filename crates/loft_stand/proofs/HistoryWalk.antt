@@ -20,7 +20,7 @@ use Rattle.loft_sense.specs.Machine.{Prog, heads, Mach, empty}
 use Rattle.loft_sense.specs.Instant.{instant, Replayed, one_more, replay_on}
 use Rattle.loft_sense.specs.Async.{async}
 use Rattle.loft_history.specs.Clients.{outside_of}
-use Rattle.loft_history.specs.History.{choice_of, sends, sent_in, log, is_open, orders_to, starts_of, waiting_step, waiting_after, waiting, jobs_sent, jobs_step, jobs_after, jobs, left_step, left_of, unsent_step, unsent, replayed, has_turn, sent_last, entry_of_first, pick_of, entry_of}
+use Rattle.loft_history.specs.History.{choice_of, sends, sent_in, log, is_open, orders_to, starts_of, waiting_step, waiting_after, waiting, jobs_sent, jobs_step, jobs_after, jobs, unposted_step, unposted, unsent_step, unsent, replayed, has_turn, sent_last, entry_of_first, pick_of, entry_of}
 use Rattle.loft_history.specs.Legal.{AtEach, IsCallersEntry, ComesNext}
 use Rattle.loft_sense.proofs.AroundLemmas.{instant_scheduler}
 use Rattle.loft_history.proofs.HistoryLemmas.{is_same, on_if, on_first, on_pick, log-append}
@@ -122,14 +122,14 @@ module _ (x : Prog) (o : RunOptions) (c : Claims) where
     pub sent : Each c.sent (sent_in h)
     pub known : Each c.known (sent_in h)
     pub took : (s : SchedId) → IsScheduler (heads x) s → Each (BatchHolds s) (log s h)
-    pub posts : (w : ℕ) → Each c.sent (left_of x o w h)
+    pub posts : (w : ℕ) → Each c.sent (unposted x o w h)
     pub orders : (d : ℕ) → Each c.sent (unsent (heads x) d h)
 
   -- the same of what one more entry leaves
   pub record EntryHolds (h : List Entry) (e : Entry) : Type 0 where
     pub sent : Each c.sent (sends e)
     pub took : (s : SchedId) → IsScheduler (heads x) s → Each (BatchHolds s) (log s (e ∷ []))
-    pub posts : (w : ℕ) → Each c.sent (left_step x o w (left_of x o w h) e)
+    pub posts : (w : ℕ) → Each c.sent (unposted_step x o w (unposted x o w h) e)
     pub orders : (d : ℕ) → Each c.sent (unsent_step d (unsent (heads x) d h) e)
 
   -- The entry may come next. Where it is a caller's, what it gives is so, and what is known of all that entries send is known
@@ -181,7 +181,7 @@ module _ (x : Prog) (o : RunOptions) (c : Claims) (kept : AreKept x o c) where
     sent = more_sent c.sent h e f.sent g.sent;
     known = more_sent c.known h e f.known known;
     took = λ s declared. subst (Each (BatchHolds x o c s)) (sym (log-append s h (e ∷ []))) (each_append (BatchHolds x o c s) (log s h) (log s (e ∷ [])) (f.took s declared) (g.took s declared));
-    posts = λ w. subst (Each c.sent) (sym (fold_push (left_step x o w) [] h e)) (g.posts w);
+    posts = λ w. subst (Each c.sent) (sym (fold_push (unposted_step x o w) [] h e)) (g.posts w);
     orders = λ d. subst (Each c.sent) (sym (fold_push (unsent_step d) (outside_of (heads x) d) h e)) (g.orders d);
   }
 
@@ -207,7 +207,7 @@ module _ (x : Prog) (o : RunOptions) (c : Claims) (kept : AreKept x o c) where
   pick_holds h v job f here = record {
     sent = tt;
     took = λ s there. tt;
-    posts = λ w. either c.sent (w == v) (async x job o.limits.block) (left_of x o w h) (kept.blocks job here) (f.posts w);
+    posts = λ w. either c.sent (w == v) (async x job o.limits.block) (unposted x o w h) (kept.blocks job here) (f.posts w);
     orders = f.orders;
   }
 
@@ -215,7 +215,7 @@ module _ (x : Prog) (o : RunOptions) (c : Claims) (kept : AreKept x o c) where
   post_holds h v sent f here = record {
     sent = (here, tt);
     took = λ s there. tt;
-    posts = λ w. either c.sent (w == v) (drop 1 (left_of x o w h)) (left_of x o w h) (each_drop c.sent (left_of x o w h) (f.posts w)) (f.posts w);
+    posts = λ w. either c.sent (w == v) (drop 1 (unposted x o w h)) (unposted x o w h) (each_drop c.sent (unposted x o w h) (f.posts w)) (f.posts w);
     orders = f.orders;
   }
 
@@ -236,13 +236,13 @@ module _ (x : Prog) (o : RunOptions) (c : Claims) (kept : AreKept x o c) where
       on_if (nat_lt s.0 (length (heads x).schedulers) && is_open s h) (Some (Give s (sent_last (replayed x o.limits s h).notes))) (Give s sent) is
       (λ allowed same. subst (EntryHolds x o c h) (some_same same) (give_holds h s (ltb-true s.0 (length (heads x).schedulers) (and_parts _ (is_open s h) allowed).0) f))
   choice_holds h (Pick w job) f is =
-      on_if (nat_lt w o.workers) (pick_of w (left_of x o w h) (jobs h)) (Pick w job) is (λ declared picks.
-      on_pick w (left_of x o w h) (jobs h) (Pick w job) picks (λ free first.
+      on_if (nat_lt w o.workers) (pick_of w (unposted x o w h) (jobs h)) (Pick w job) is (λ declared picks.
+      on_pick w (unposted x o w h) (jobs h) (Pick w job) picks (λ free first.
       on_first (Pick w) (jobs h) (Pick w job) first (λ t rest all same.
       subst (EntryHolds x o c h) same (pick_holds h w t f (subst (Each c.job) all (jobs_hold h f)).0))))
   choice_holds h (Post w sent) f is =
-      on_if (nat_lt w o.workers) (entry_of_first (Post w) (left_of x o w h)) (Post w sent) is (λ declared first.
-      on_first (Post w) (left_of x o w h) (Post w sent) first (λ m rest all same.
+      on_if (nat_lt w o.workers) (entry_of_first (Post w) (unposted x o w h)) (Post w sent) is (λ declared first.
+      on_first (Post w) (unposted x o w h) (Post w sent) first (λ m rest all same.
       subst (EntryHolds x o c h) same (post_holds h w m f (subst (Each c.sent) all (f.posts w)).0)))
   choice_holds h (Client d sent) f is =
       on_first (Client d) (unsent (heads x) d h) (Client d sent) is (λ m rest all same.
@@ -251,8 +251,8 @@ module _ (x : Prog) (o : RunOptions) (c : Claims) (kept : AreKept x o c) where
   -- so does a thread that is picked
   pub picked_holds : (h : List Entry) (w : ℕ) (job : Thread) → HistoryHolds x o c h → ComesNext x o h (Pick w job) → c.job job
   picked_holds h w job f (inl is) =
-      on_if (nat_lt w o.workers) (pick_of w (left_of x o w h) (jobs h)) (Pick w job) is (λ declared picks.
-      on_pick w (left_of x o w h) (jobs h) (Pick w job) picks (λ free first.
+      on_if (nat_lt w o.workers) (pick_of w (unposted x o w h) (jobs h)) (Pick w job) is (λ declared picks.
+      on_pick w (unposted x o w h) (jobs h) (Pick w job) picks (λ free first.
       on_first (Pick w) (jobs h) (Pick w job) first (λ t rest all same.
       subst c.job (same_job same) (subst (Each c.job) all (jobs_hold h f)).0)))
   picked_holds h w job f (inr call) = absurd call

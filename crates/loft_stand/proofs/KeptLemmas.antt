@@ -8,8 +8,8 @@ use Rattle.loft_tree.specs.Resolved.{Step, Do, Hold, Call, Choose, Loop, Times, 
 use Rattle.loft_sense.specs.declared.thread.Frame.{Frame}
 use Rattle.loft_sense.specs.Machine.{Tree}
 use Rattle.loft_sense.specs.Run.{frame_of, point_of, active_of}
-use Rattle.loft_sense.specs.Tree.{Work, Again, Turns, before, counts_in, first_some, at_stop, first_count, rest_of, after_step, after_body, body_at, work_or_none, tree}
-use Rattle.loft_sense.specs.Stands.{StopAt, Begins, begin_of, leads_step, stop_in_step, stop_in, stop_of, FrameStands}
+use Rattle.loft_sense.specs.Tree.{Work, Again, Turns, body_then, counts_in, first_some, at_stop, first_count, rest_of, after_step, after_body, body_at, work_or_none, tree}
+use Rattle.loft_sense.specs.Stands.{StopAt, Begins, begin_of, leads_step, stop_in_step, stop_in, program_stop, FrameStands}
 use Rattle.loft_stand.proofs.LeftLemmas.{counts_before, reverse_one}
 
 -- A stop inside so many repeats and more. Where there are as many counts as there are repeats between, the work after it has
@@ -62,8 +62,8 @@ module _ (h : Heads) where
     body_keeps : (b : Body) (k d : ℕ) (p : Place) (cs : List ℤ) (w : List Work) → Keeps d cs (counts_in w) (after_body b k cs w) (stop_in h b k d p)
     body_keeps Empty k d p cs w = tt
     body_keeps (Then s b) k d p cs w =
-        keeps_first d cs (counts_in w) (after_step s k cs (before b w)) (after_body b k cs w) (stop_in_step h s k d p) (stop_in h b k d (leads_step h s p))
-        (subst (λ (l : List ℤ). Keeps d cs l (after_step s k cs (before b w)) (stop_in_step h s k d p)) (counts_before b w) (step_keeps s k d p cs (before b w)))
+        keeps_first d cs (counts_in w) (after_step s k cs (body_then b w)) (after_body b k cs w) (stop_in_step h s k d p) (stop_in h b k d (leads_step h s p))
+        (subst (λ (l : List ℤ). Keeps d cs l (after_step s k cs (body_then b w)) (stop_in_step h s k d p)) (counts_before b w) (step_keeps s k d p cs (body_then b w)))
         (body_keeps b k d (leads_step h s p) cs w)
 
 kept_by : (cs : List ℤ) (o : Option (List Work)) (s : Option StopAt) (at : StopAt) → s ≡ Some at → length cs ≡ at.depth → Keeps 0 cs [] o s → reverse (counts_in (work_or_none o)) ≡ cs
@@ -80,7 +80,7 @@ none_of : (cs : List ℤ) → length cs ≡ 0 → [] ≡ cs
 none_of [] e = refl
 none_of (c ∷ cs) e = absurd (omega (arith, e))
 
-counts_kept : (p : Resolved) (f : Frame) (k : ℕ) (at : StopAt) → stop_of (Tree p) f.module k ≡ Some at → length f.counts ≡ at.depth → reverse (counts_in (point_of (tree p) f k)) ≡ f.counts
+counts_kept : (p : Resolved) (f : Frame) (k : ℕ) (at : StopAt) → program_stop (Tree p) f.module k ≡ Some at → length f.counts ≡ at.depth → reverse (counts_in (point_of (tree p) f k)) ≡ f.counts
 counts_kept p f zero at e n =
     let same : record { kind = Begins; depth = 0; after = begin_of p.heads f.module } ≡ at = cc in
     let depth : 0 ≡ at.depth = ap (λ (a : StopAt). a.depth) same in

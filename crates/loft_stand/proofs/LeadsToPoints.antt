@@ -11,8 +11,8 @@ use Rattle.loft_tree.specs.NamedFits.{slots_of}
 use Rattle.loft_tree.specs.Resolved.{Pause, Cooperate, Await, Get, Join, Link, Unlink, Halt}
 use Rattle.loft_sense.specs.Statements.{target_of}
 use Rattle.loft_sense.specs.Machine.{Prog, heads}
-use Rattle.loft_sense.specs.Run.{Next, Finish, Stuck, Acts, Passes, Tests, Counts, Holds, Runs}
-use Rattle.loft_sense.specs.Stands.{StopKind, Begins, Pauses, Calls, StopAt, begin_of, end_of, place_after, stop_of}
+use Rattle.loft_sense.specs.Run.{Next, Finish, Stuck, Acts, Advances, Tests, Counts, Holds, Runs}
+use Rattle.loft_sense.specs.Stands.{StopKind, Begins, Pauses, Calls, StopAt, begin_of, end_of, place_after, program_stop}
 use Rattle.loft_stand.specs.WellFormed.{PointOf, control}
 use Rattle.loft_stand.specs.WorkFits.{TargetHasKind, PauseFits, NextFits}
 use Rattle.loft_stand.specs.Points.{PointIsAt}
@@ -52,14 +52,14 @@ IsPauseOf (Calls m) o = Unit {0}
 module _ (x : Prog) (m : ModuleId) (head : Signature) where
   -- stop k of this kind, where a thread is linked at q after it, and goes on there at p
   abbrev pub StopsAt : ℕ → StopKind → PointOf x → Place → Type 0
-  StopsAt k kind p q = (stop_of x m k ≡ Some (the_stop kind (length ((control x).counts p)) q)) × PointIsAt x m head p q
+  StopsAt k kind p q = (program_stop x m k ≡ Some (the_stop kind (length ((control x).counts p)) q)) × PointIsAt x m head p q
 
   -- what comes next, where a thread is linked here, ends the module in its place or goes on at points of the module
   abbrev pub LeadsAt : Place → Next (PointOf x) → Type 0
   LeadsAt here Finish = here ≡ head.end
   LeadsAt here Stuck = ⊥
   LeadsAt here (Acts action p) = PointIsAt x m head p here
-  LeadsAt here (Passes p) = PointIsAt x m head p here
+  LeadsAt here (Advances p) = PointIsAt x m head p here
   LeadsAt here (Tests test p q) = PointIsAt x m head p here × PointIsAt x m head q here
   LeadsAt here (Counts count f) = (n : ℤ) → PointIsAt x m head (f n) here
   LeadsAt here (Holds k pause p) = StopsAt k (Pauses pause) p (place_after pause here)
@@ -77,8 +77,8 @@ pub record LeadsToPoints (x : Prog) : Type 0 where
   pub next : (m : ModuleId) (head : Signature) (p : PointOf x) (here : Place) → slice_get (heads x).modules m.0 ≡ Some head → PointIsAt x m head p here
       → NextFits (heads x) (slots_of head) here ((control x).next m p) × LeadsAt x m head here ((control x).next m p)
   -- the begin is a stop, and a thread begins at a point
-  pub begins : (m : ModuleId) (head : Signature) → slice_get (heads x).modules m.0 ≡ Some head → stop_of x m 0 ≡ Some (begin_stop (heads x) m)
+  pub begins : (m : ModuleId) (head : Signature) → slice_get (heads x).modules m.0 ≡ Some head → program_stop x m 0 ≡ Some (begin_stop (heads x) m)
   pub starts : (m : ModuleId) (head : Signature) → slice_get (heads x).modules m.0 ≡ Some head → IsAfter x m head (begin_stop (heads x) m) ((control x).start m)
   -- after a stop, with as many counts as it has `repeat`s around it, a thread goes on at a point
   pub resumes : (m : ModuleId) (head : Signature) (k : ℕ) (counts : List ℤ) (at : StopAt) → slice_get (heads x).modules m.0 ≡ Some head
-      → stop_of x m (suc k) ≡ Some at → length counts ≡ at.depth → IsAfter x m head at ((control x).resume m (suc k) counts)
+      → program_stop x m (suc k) ≡ Some at → length counts ≡ at.depth → IsAfter x m head at ((control x).resume m (suc k) counts)

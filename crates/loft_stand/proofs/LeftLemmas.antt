@@ -4,8 +4,8 @@ use Rattle.std.specs.Prelude.{◌⊎◌, ℤ, pos, negsuc, reverse, if◌then◌
 use Rattle.std.proofs.lemmas.List.{reverse-append}
 use Rattle.loft_base.specs.declared.ids.ModuleId.{ModuleId}
 use Rattle.loft_tree.specs.Resolved.{Exp, Step, Do, Hold, Call, Choose, Loop, Times, Body, Empty, Then, Resolved}
-use Rattle.loft_sense.specs.Run.{Next, Finish, Stuck, Acts, Passes, Tests, Counts, Holds, Runs}
-use Rattle.loft_sense.specs.Tree.{Work, Begin, Again, Turns, before, next_begin, next_turn, next_work, counts_in, first_some, at_stop, first_count, rest_of, after_step, after_body, body_at, work_or_none}
+use Rattle.loft_sense.specs.Run.{Next, Finish, Stuck, Acts, Advances, Tests, Counts, Holds, Runs}
+use Rattle.loft_sense.specs.Tree.{Work, Begin, Again, Turns, body_then, next_begin, next_turn, next_work, counts_in, first_some, at_stop, first_count, rest_of, after_step, after_body, body_at, work_or_none}
 use Rattle.loft_stand.specs.Numbered.{stops_in, body_stops, StepNumbered, BodyNumbered, IsNumbered}
 use Rattle.loft_stand.specs.Left.{LeadsTo, IsLeft, begins, resumes, goes_on, LeavesAfter}
 use Rattle.loft_stand.proofs.NumberLemmas.{elsewhere, found_here, neither, in_first, in_second, none_some, IsOutside, outside_left, outside_right, outside_one, apart}
@@ -25,8 +25,8 @@ mutual
   outside_body : (b : Body) (n k : ℕ) (cs : List ℤ) (w : List Work) → BodyNumbered b n → IsOutside k n (body_stops b) → after_body b k cs w ≡ None
   outside_body Empty n k cs w h o = refl
   outside_body (Then s b) n k cs w h o =
-      neither (after_step s k cs (before b w)) (after_body b k cs w)
-      (outside_step s n k cs (before b w) h.0 (outside_left k n (stops_in s) (body_stops b) o)) (outside_body b (n + stops_in s) k cs w h.1 (outside_right k n (stops_in s) (body_stops b) o))
+      neither (after_step s k cs (body_then b w)) (after_body b k cs w)
+      (outside_step s n k cs (body_then b w) h.0 (outside_left k n (stops_in s) (body_stops b) o)) (outside_body b (n + stops_in s) k cs w h.1 (outside_right k n (stops_in s) (body_stops b) o))
 
 -- where a stop is found in what comes after, it isn't in what comes before
 not_in_step : (s : Step) (b : Body) (n k : ℕ) (cs ds : List ℤ) (u v w : List Work) → StepNumbered s n → BodyNumbered b (n + stops_in s) → after_body b k cs w ≡ Some v → after_step s k ds u ≡ None
@@ -44,7 +44,7 @@ not_in_body a b n k cs ds u v w ha hb e = by (apart k n (body_stops a) (body_sto
     by (inr o) = absurd (none_some (after_body b k cs w) v (outside_body b (n + body_stops a) k cs w hb o) e)
 
 -- a body in front has no counts of its own
-pub counts_before : (b : Body) (w : List Work) → counts_in (before b w) ≡ counts_in w
+pub counts_before : (b : Body) (w : List Work) → counts_in (body_then b w) ≡ counts_in w
 counts_before Empty w = refl
 counts_before (Then s b) w = counts_before b w
 
@@ -71,13 +71,13 @@ module _ (whole : Body) where
   In (Turns n x ∷ w) = ((m : ℤ) → InBody x (Turns m x ∷ w)) × In w
 
   -- the first statement of a body, and the rest of it
-  head_in : (s : Step) (b : Body) (w : List Work) → InBody (Then s b) w → InStep s (before b w)
+  head_in : (s : Step) (b : Body) (w : List Work) → InBody (Then s b) w → InStep s (body_then b w)
   head_in s b w h = record {
     from = h.from;
     numbered = h.numbered.0;
     same = λ k cs v e.
         subst (λ (ns : List ℤ). after_body whole k (reverse ns ++ cs) [] ≡ Some v) (sym (counts_before b w))
-        (h.same k cs v (in_first (after_step s k cs (before b w)) (after_body b k cs w) v e));
+        (h.same k cs v (in_first (after_step s k cs (body_then b w)) (after_body b k cs w) v e));
   }
 
   rest_in : (s : Step) (b : Body) (w : List Work) → InBody (Then s b) w → InBody b w
@@ -85,7 +85,7 @@ module _ (whole : Body) where
     from = h.from + stops_in s;
     numbered = h.numbered.1;
     same = λ k cs v e.
-        h.same k cs v (in_second (after_step s k cs (before b w)) (after_body b k cs w) v (not_in_step s b h.from k cs cs (before b w) v w h.numbered.0 h.numbered.1 e) e);
+        h.same k cs v (in_second (after_step s k cs (body_then b w)) (after_body b k cs w) v (not_in_step s b h.from k cs cs (body_then b w) v w h.numbered.0 h.numbered.1 e) e);
   }
 
   first_in : (test : Exp) (x y : Body) (w : List Work) → InStep (Choose test x y) w → InBody x w
@@ -112,7 +112,7 @@ module _ (whole : Body) where
     same = λ k cs v e. subst (λ (ns : List ℤ). after_body whole k ns [] ≡ Some v) (sym (reverse_one m (counts_in w) cs)) (h.same k (m ∷ cs) v e);
   }
 
-  in_before : (b : Body) (w : List Work) → InBody b w → In w → In (before b w)
+  in_before : (b : Body) (w : List Work) → InBody b w → In w → In (body_then b w)
   in_before Empty w h i = i
   in_before (Then s b) w h i = (head_in s b w h, in_before b w (rest_in s b w h) i)
 
@@ -126,7 +126,7 @@ module _ (whole : Body) where
   NextIn Finish = Unit {0}
   NextIn Stuck = Unit {0}
   NextIn (Acts action w) = In w
-  NextIn (Passes w) = In w
+  NextIn (Advances w) = In w
   NextIn (Tests test v w) = In v × In w
   NextIn (Counts count f) = (n : ℤ) → In (f n)
   NextIn (Holds k pause w) = In w × Stops k w
@@ -158,7 +158,7 @@ module _ (whole : Body) where
   leads_in Finish v h l = absurd l
   leads_in Stuck v h l = absurd l
   leads_in (Acts action w) v h l = subst In (sym l) h
-  leads_in (Passes w) v h l = subst In (sym l) h
+  leads_in (Advances w) v h l = subst In (sym l) h
   leads_in (Tests test p q) v h l = ⊎_elim (λ a. subst In (sym a) h.0) (λ b. subst In (sym b) h.1) l
   leads_in (Counts count f) v h l = subst In (sym l.1) (h l.0)
   leads_in (Holds k pause w) v h l = subst In (sym l) h.0
@@ -195,8 +195,8 @@ module _ (whole : Body) where
     after_in_body : (b : Body) (k : ℕ) (cs : List ℤ) (w : List Work) → InBody b w → In w → IfIn (after_body b k cs w)
     after_in_body Empty k cs w h i = tt
     after_in_body (Then s b) k cs w h i =
-        first_of_two (after_step s k cs (before b w)) (after_body b k cs w)
-        (after_in_step s k cs (before b w) (head_in s b w h) (in_before b w (rest_in s b w h) i)) (after_in_body b k cs w (rest_in s b w h) i)
+        first_of_two (after_step s k cs (body_then b w)) (after_body b k cs w)
+        (after_in_step s k cs (body_then b w) (head_in s b w h) (in_before b w (rest_in s b w h) i)) (after_in_body b k cs w (rest_in s b w h) i)
 
   none_in : (o : Option (List Work)) → IfIn o → In (work_or_none o)
   none_in None h = tt
@@ -217,7 +217,7 @@ module _ (p : Resolved) (numbered : IsNumbered p) (m : ModuleId) where
   leaves_by Finish h = tt
   leaves_by Stuck h = tt
   leaves_by (Acts action w) h = tt
-  leaves_by (Passes w) h = tt
+  leaves_by (Advances w) h = tt
   leaves_by (Tests test v w) h = tt
   leaves_by (Counts count f) h = tt
   leaves_by (Holds k pause w) h = ap work_or_none h.1

@@ -43,9 +43,10 @@ use Rattle.loft_history.specs.Legal.{FitsOne}
 use Rattle.loft_sense.specs.Machine.{Prog, heads}
 use Rattle.loft_sense.specs.CanGo.{same_thread}
 use Rattle.loft_sense.specs.Stands.{begin_of, begin_or_unlinked, ValuesAgree, Stands}
-use Rattle.loft_history.specs.Clients.{control_of, orders_from, orders_or_none, outside_of}
+use Rattle.loft_sense.specs.Statements.{order_of}
+use Rattle.loft_history.specs.Clients.{orders_from, orders_or_none, outside_of}
 use Rattle.loft_sense.specs.Fits.{IsMaker, IsThread, IsValue, ThreadNames, EndNames, Fits}
-use Rattle.loft_sense.specs.Apply.{Applied, new_thread, link, is_linked, unlink, suspend, tell_end, apply_order, apply_orders}
+use Rattle.loft_sense.specs.Apply.{Applied, new_thread, with_last, is_linked, without_first, suspend, tell_end, apply_order, apply_orders}
 use Rattle.loft_sense.specs.Instant.{sent_by}
 use Rattle.loft_history.proofs.HistoryLemmas.{is_same}
 use Rattle.loft_stand.specs.Points.{OrderFits, OutFits, ActFits, StandsThere}
@@ -157,9 +158,9 @@ module _ (x : Prog) (s : SchedId) where
   unlinked_one true q rest others f g h = g
   unlinked_one false q rest others f g h = (f, h)
 
-  unlink_keeps : (t : ThreadId) (ss : List Standing) → Each Linked ss → Each Linked (unlink t ss)
+  unlink_keeps : (t : ThreadId) (ss : List Standing) → Each Linked ss → Each Linked (without_first t ss)
   unlink_keeps t [] f = tt
-  unlink_keeps t (q ∷ ss) f = unlinked_one (same_thread t q.thread.id) q ss (unlink t ss) f.0 f.1 (unlink_keeps t ss f.1)
+  unlink_keeps t (q ∷ ss) f = unlinked_one (same_thread t q.thread.id) q ss (without_first t ss) f.0 f.1 (unlink_keeps t ss f.1)
 
   suspended_one : (b suspended : Bool) (q : Standing) (rest others : List Standing) → Linked q → Each Linked rest → Each Linked others
       → Each Linked (if b then record q { suspended = suspended } ∷ rest else q ∷ others)
@@ -174,7 +175,7 @@ module _ (x : Prog) (s : SchedId) where
   applied_one true v w f g = f
   applied_one false v w f g = g
 
-  link_fits : (t : Thread) (a : Applied) → AppliedFits x s a → ThreadFits x (Sched s) t → Each Linked (link t a.linked)
+  link_fits : (t : Thread) (a : Applied) → AppliedFits x s a → ThreadFits x (Sched s) t → Each Linked (with_last t a.linked)
   link_fits t a f g = each_append Linked a.linked (record { thread = t; suspended = false } ∷ []) f.linked (g, tt)
 
   ended_fits : (t : ThreadId) (end : End) (a : Applied) → AppliedFits x s a → IsThread (heads x) t → EndNames (heads x) end → Each (SentFits x) (a.sent ++ tell_end (Sched s) t end ∷ [])
@@ -222,7 +223,7 @@ starts_fit x well s = all_of (Fits x s) (starts_from s 0 (heads x).starts) (star
 started_thread : (h : Heads) (t : ThreadId) → IsStarted h t → IsThread h t
 started_thread h t is = subst (IsMaker h) (sym is.0) tt
 
-control_fits : (x : Prog) (s : SchedId) (control : Control) (t : ThreadId) → IsThread (heads x) t → Fits x s (control_of control t)
+control_fits : (x : Prog) (s : SchedId) (control : Control) (t : ThreadId) → IsThread (heads x) t → Fits x s (order_of control t)
 control_fits x s control.Stop t is = is
 control_fits x s control.Suspend t is = is
 control_fits x s control.Resume t is = is

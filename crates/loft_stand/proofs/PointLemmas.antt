@@ -26,8 +26,8 @@ use Rattle.loft_sense.specs.Around.{Beside}
 use Rattle.loft_sense.specs.Eval.{eval, eval_all, number_of, is_true}
 use Rattle.loft_sense.specs.Statements.{Effect, GoesOn, Waits, Leaves, Dies, did, begun}
 use Rattle.loft_sense.specs.Machine.{Prog, heads}
-use Rattle.loft_sense.specs.Run.{Next, Finish, Stuck, Acts, Passes, Tests, Counts, Holds, Runs, Control, Active, Outcome, Held, Left, here, ends, if_finish, live, frame_of, thread_of, effect_on, test_on, count_on, begun_frame, run_on, stopped, step, step_on, no_step, going}
-use Rattle.loft_sense.specs.Stands.{StopKind, Pauses, Calls, StopAt, begin_of, end_of, end_or_unlinked, place_after, stop_of, WaitAgrees, ValuesAgree, FrameStands, OuterStand, FramesStand, Stands}
+use Rattle.loft_sense.specs.Run.{Next, Finish, Stuck, Acts, Advances, Tests, Counts, Holds, Runs, Control, Active, Outcome, Held, Left, here, ends, if_finish, live, frame_of, thread_of, effect_on, test_on, count_on, begun_frame, run_on, stopped, step, step_on, no_step, going}
+use Rattle.loft_sense.specs.Stands.{StopKind, Pauses, Calls, StopAt, begin_of, end_of, end_or_unlinked, place_after, program_stop, WaitAgrees, ValuesAgree, FrameStands, OuterStand, FramesStand, Stands}
 use Rattle.loft_sense.specs.Fits.{IsThread, IsValue, WaitNames, FrameNames, ThreadNames, IsPoint, EndNames}
 use Rattle.loft_stand.specs.WellFormed.{PointOf, control}
 use Rattle.loft_stand.specs.WorkFits.{NextFits}
@@ -67,7 +67,7 @@ module _ (x : Prog) where
   stop_at kind p q = the_stop kind (length ((control x).counts p)) q
 
   -- a frame that fits and comes to a stop
-  frame_stands : (place q : Place) (r : Active (PointOf x)) (k : ℕ) (kind : StopKind) (p : PointOf x) → FrameFits x place r → stop_of x r.module k ≡ Some (stop_at kind p q)
+  frame_stands : (place q : Place) (r : Active (PointOf x)) (k : ℕ) (kind : StopKind) (p : PointOf x) → FrameFits x place r → program_stop x r.module k ≡ Some (stop_at kind p q)
       → FrameStands x (frame_of (control_of x) (stopped r k p)) (stop_at kind p q)
   frame_stands place q r k kind p f s = record {
     stop = s;
@@ -217,7 +217,7 @@ module _ (x : Prog) where
         next_lands Stuck e s = absurd e
         next_lands (Acts action p) e s =
             act_lands p (did (heads x) action (here r) r.values b) (did_fits (heads x) (slots_of f.head) place count (here r) r.values b (is_point place r f) f.values beside action e) s
-        next_lands (Passes p) e s = goes_at r.stop r.values p b f.values s beside
+        next_lands (Advances p) e s = goes_at r.stop r.values p b f.values s beside
         next_lands (Tests test p q) e s = test_lands (eval (heads x) r.values b test) p q s.0 s.1
         next_lands (Counts count g) e s = count_lands (eval (heads x) r.values b count) g s
         next_lands (Holds k pause p) e s =
@@ -256,7 +256,7 @@ module _ (x : Prog) where
     live_one b m head Finish ls rs e f g = f e
     live_one b m head Stuck ls rs e f g = g
     live_one b m head (Acts action p) ls rs e f g = g
-    live_one b m head (Passes p) ls rs e f g = g
+    live_one b m head (Advances p) ls rs e f g = g
     live_one b m head (Tests test p q) ls rs e f g = g
     live_one b m head (Counts count c) ls rs e f g = g
     live_one b m head (Holds k pause p) ls rs e f g = g

@@ -17,7 +17,7 @@ use Rattle.loft_place.specs.Links.{IsPlaced}
 use Rattle.loft_place.proofs.Declared.{start_fits, create_fits}
 use Rattle.loft_code.specs.Fits.{StartFits, OrderFits, ClientFits}
 use Rattle.loft_sense.specs.Machine.{Prog, Tree, Code, heads}
-use Rattle.loft_sense.specs.Stands.{StopKind, Pauses, StopAt, stop_of}
+use Rattle.loft_sense.specs.Stands.{StopKind, Pauses, StopAt, program_stop}
 use Rattle.loft_sense.specs.Fits.{IsMaker, IsValue}
 use Rattle.loft_stand.specs.WellFormed.{IsWellFormed, control}
 use Rattle.loft_stand.proofs.LeadsToPoints.{IsPauseOf, LeadsToPoints}
@@ -29,11 +29,11 @@ pub leads_to_points : (x : Prog) → IsWellFormed x → LeadsToPoints x
 leads_to_points (Tree p) is = subst (λ (q : Resolved). LeadsToPoints (Tree q)) is.same (tree_leads is.source is.names is.links)
 leads_to_points (Code c) is = code_leads c is
 
-pub stop_pauses : (x : Prog) (m : ModuleId) (k : ℕ) (at : StopAt) → stop_of x m k ≡ Some at → IsPauseOf at.kind ((control x).pause m k)
+pub stop_pauses : (x : Prog) (m : ModuleId) (k : ℕ) (at : StopAt) → program_stop x m k ≡ Some at → IsPauseOf at.kind ((control x).pause m k)
 stop_pauses (Tree p) m k at e = tree_pauses p m k at e
 stop_pauses (Code c) m k at e = code_pauses c m k at e
 
-pub pause_found : (x : Prog) (m : ModuleId) (k : ℕ) (at : StopAt) (pause : Pause) → stop_of x m k ≡ Some at → at.kind ≡ Pauses pause → (control x).pause m k ≡ Some pause
+pub pause_found : (x : Prog) (m : ModuleId) (k : ℕ) (at : StopAt) (pause : Pause) → program_stop x m k ≡ Some at → at.kind ≡ Pauses pause → (control x).pause m k ≡ Some pause
 pause_found x m k at pause e kind = subst (λ (q : StopKind). IsPauseOf q ((control x).pause m k)) kind (stop_pauses x m k at e)
 
 -- ---- starts

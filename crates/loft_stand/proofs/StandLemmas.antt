@@ -23,7 +23,7 @@ use Rattle.loft_sense.specs.Machine.{Prog, Tree, Code, heads}
 use Rattle.loft_sense.specs.Run.{Active, frame_of, point_of, active_of, actives_of, live, no_step, going, go_on, beside, go}
 use Rattle.loft_sense.specs.Code.{Point, code}
 use Rattle.loft_sense.specs.Passes.{run_of}
-use Rattle.loft_sense.specs.Stands.{StopKind, Begins, Pauses, Calls, StopAt, end_of, stop_of, WaitAgrees, ValuesAgree, FrameStands, OuterStand, FramesStand, Stands}
+use Rattle.loft_sense.specs.Stands.{StopKind, Begins, Pauses, Calls, StopAt, end_of, program_stop, WaitAgrees, ValuesAgree, FrameStands, OuterStand, FramesStand, Stands}
 use Rattle.loft_sense.specs.Fits.{FrameNames, ThreadNames}
 use Rattle.loft_stand.specs.WellFormed.{IsWellFormed, PointOf, control}
 use Rattle.loft_stand.specs.Points.{ValuesFit, AroundFits, BesideFits, PointIsAt, FrameFits, OuterFit, PointFits, FrontFits, FrontLands, GoesOnlyTo, LeavesStanding}
@@ -57,7 +57,7 @@ module _ (x : Prog) (leads : LeadsToPoints x) where
   abbrev frame_again : Frame → Active (PointOf x)
   frame_again f = active_of (control_of x) f
 
-  after_stop : (f : Frame) (head : Signature) (at : StopAt) (k : ℕ) → slice_get (heads x).modules f.module.0 ≡ Some head → stop_of x f.module k ≡ Some at → length f.counts ≡ at.depth
+  after_stop : (f : Frame) (head : Signature) (at : StopAt) (k : ℕ) → slice_get (heads x).modules f.module.0 ≡ Some head → program_stop x f.module k ≡ Some at → length f.counts ≡ at.depth
       → IsAfter x f.module head at (point_of (control_of x) f k)
   after_stop f head at zero declared e few =
       let begins : Some (begin_stop (heads x) f.module) ≡ Some at = sym (leads.begins f.module head declared) ∙ e in

@@ -5,7 +5,7 @@ use Rattle.loft_tree.specs.declared.heads.Place.{Place}
 use Rattle.loft_tree.specs.declared.heads.Heads.{Heads}
 use Rattle.loft_base.specs.declared.ids.ModuleId.{ModuleId}
 use Rattle.loft_tree.specs.Resolved.{Exp, Pause, Step, Resolved, Do, Hold, Call, Choose, Loop, Times, Body, Empty, Then}
-use Rattle.loft_sense.specs.Tree.{pause_at, body_at, first_some, at_stop, stop_at_step, stop_at, pause_of}
+use Rattle.loft_sense.specs.Tree.{pause_at, body_at, first_some, at_stop, stop_at_step, stop_at, pause_of_step}
 use Rattle.loft_sense.specs.Stands.{begin_of, tree_stop, StopKind, Begins, Pauses, Calls, StopAt, leads_step, stop_in_step, stop_in}
 use Rattle.loft_stand.specs.Numbered.{stops_in, body_stops, StepNumbered, BodyNumbered}
 use Rattle.loft_stand.proofs.NumberLemmas.{elsewhere, found_here, neither, in_first, in_second, none_some, IsOutside, outside_left, outside_right, outside_one, apart}
@@ -79,9 +79,9 @@ module _ (h : Heads) where
   abbrev pub PauseIs : Option StopAt → Option Step → Type 0
   PauseIs None None = Unit {0}
   PauseIs None (Some s) = ⊥
-  PauseIs (Some at) o = IsPauseOf at.kind (pause_of o)
+  PauseIs (Some at) o = IsPauseOf at.kind (pause_of_step o)
 
-  kind_first : (kind : StopKind) (c d : Option Step) → IsPauseOf kind (pause_of c) → IsPauseOf kind (pause_of (first_some c d))
+  kind_first : (kind : StopKind) (c d : Option Step) → IsPauseOf kind (pause_of_step c) → IsPauseOf kind (pause_of_step (first_some c d))
   kind_first Begins c d f = tt
   kind_first (Pauses pause) None d f = absurd cc
   kind_first (Pauses pause) (Some s) d f = f

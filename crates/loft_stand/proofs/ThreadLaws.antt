@@ -24,7 +24,7 @@ use Rattle.loft_sense.specs.Machine.{Prog, heads}
 use Rattle.loft_sense.specs.Passes.{run_of, around_after}
 use Rattle.loft_history.specs.Clients.{outside_of}
 use Rattle.loft_sense.specs.Fits.{Fits}
-use Rattle.loft_history.specs.History.{sends, sent_in, starts_of, log, waiting, jobs, left_of, replayed}
+use Rattle.loft_history.specs.History.{sends, sent_in, starts_of, log, waiting, jobs, unposted, replayed}
 use Rattle.loft_history.specs.Legal.{AtEach, IsLegal, ComesNext}
 use Rattle.loft_history.proofs.GrowthLemmas.{at_each_before}
 use Rattle.loft_history.proofs.LegalEntries.{legal_exactly}
@@ -90,7 +90,7 @@ pub record Everywhere (x : Prog) (P : Claim) (M : Grant) (o : RunOptions) (es : 
   pub batches : (s : SchedId) → IsScheduler (heads x) s → All (λ batch. All (WaitsSo P M s) batch) (log s es)
   pub jobs : All (P Unlinked) (jobs es)
   pub hands : (before : List Entry) (w : ℕ) (job : Thread) (after : List Entry) → es ≡ before ++ Pick w job ∷ after → P Unlinked job
-  pub posts : (w : ℕ) → All (SentCarries P) (left_of x o w es)
+  pub posts : (w : ℕ) → All (SentCarries P) (unposted x o w es)
   pub sent : (s : SchedId) → IsScheduler (heads x) s → All (λ note. All (SentCarries P) note.sent) (replayed x o.limits s es).notes
 
 module _ (x : Prog) (well : IsWellFormed x) (P : Claim) (A B M : Grant) (h : Premises x P A B) (both : (t : ThreadId) (m : ModuleId) (args : List Value) → A t m args → B t m args → M t m args) where
@@ -118,7 +118,7 @@ module _ (x : Prog) (well : IsWellFormed x) (P : Claim) (A B M : Grant) (h : Pre
             let front = threads_so x well P A B h o before (at_each_before (ComesNext x o) before (Pick w job ∷ after) (subst (AtEach (ComesNext x o)) same each))
             (at_each_before (EntrySo x well P A B h) before (Pick w job ∷ after) (subst (AtEach (EntrySo x well P A B h)) same grants)) in
             (picked_holds x o claims kept before w job front (each before (Pick w job) after same)).1;
-        posts = λ w. sents_so (left_of x o w es) (so.posts w);
+        posts = λ w. sents_so (unposted x o w es) (so.posts w);
         sent = λ s declared.
             let r = replayed_holds x o claims kept es s so declared in
             let notes = (replayed x o.limits s es).notes in

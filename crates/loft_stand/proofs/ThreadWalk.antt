@@ -29,7 +29,7 @@ use Rattle.loft_sense.specs.CanGo.{same_thread}
 use Rattle.loft_sense.specs.Run.{Outcome, Held, Left, Ended}
 use Rattle.loft_sense.specs.Passes.{Runner, run_of, runners_after, around_after, passes}
 use Rattle.loft_sense.specs.Moments.{Moment, IsKeptByRuns}
-use Rattle.loft_sense.specs.Apply.{Applied, new_thread, is_linked, link, unlink, suspend, tell_end, apply_order, apply_orders, unapplied, apply}
+use Rattle.loft_sense.specs.Apply.{Applied, new_thread, is_linked, with_last, without_first, suspend, tell_end, apply_order, apply_orders, unapplied, apply}
 use Rattle.loft_sense.specs.Instant.{runner_of, around_of, closed_wait, closed, stays, leaver, leavers, sent_by, instant}
 use Rattle.loft_sense.specs.Async.{alone, block_sent, async}
 use Rattle.loft_history.specs.Clients.{orders_or_none, outside_of}
@@ -81,9 +81,9 @@ module _ (x : Prog) (well : IsWellFormed x) (P : Claim) (M N : Grant) (h : Premi
   unlinked_one s true q rest others f g k = g
   unlinked_one s false q rest others f g k = (f, k)
 
-  unlink_so : (s : SchedId) (t : ThreadId) (ss : List Standing) → Each (LinkedSo s) ss → Each (LinkedSo s) (unlink t ss)
+  unlink_so : (s : SchedId) (t : ThreadId) (ss : List Standing) → Each (LinkedSo s) ss → Each (LinkedSo s) (without_first t ss)
   unlink_so s t [] f = tt
-  unlink_so s t (q ∷ ss) f = unlinked_one s (same_thread t q.thread.id) q ss (unlink t ss) f.0 f.1 (unlink_so s t ss f.1)
+  unlink_so s t (q ∷ ss) f = unlinked_one s (same_thread t q.thread.id) q ss (without_first t ss) f.0 f.1 (unlink_so s t ss f.1)
 
   suspended_one : (s : SchedId) (b suspended : Bool) (q : Standing) (rest others : List Standing) → LinkedSo s q → Each (LinkedSo s) rest → Each (LinkedSo s) others
       → Each (LinkedSo s) (if b then record q { suspended = suspended } ∷ rest else q ∷ others)
@@ -102,7 +102,7 @@ module _ (x : Prog) (well : IsWellFormed x) (P : Claim) (M N : Grant) (h : Premi
   applied_one s true v w f g = f
   applied_one s false v w f g = g
 
-  link_so : (s : SchedId) (t : Thread) (ss : List Standing) → Each (LinkedSo s) ss → P (Sched s) t → Each (LinkedSo s) (link t ss)
+  link_so : (s : SchedId) (t : Thread) (ss : List Standing) → Each (LinkedSo s) ss → P (Sched s) t → Each (LinkedSo s) (with_last t ss)
   link_so s t ss f g = each_append (LinkedSo s) ss (record { thread = t; suspended = false } ∷ []) f (g, tt)
 
   ended_so : (s : SchedId) (t : ThreadId) (end : End) (ms : List Sent) → Each SentSo ms → Each SentSo (ms ++ tell_end (Sched s) t end ∷ [])

@@ -10,8 +10,8 @@ use Rattle.loft_tree.specs.NamedFits.{NamedFits, slots_of}
 use Rattle.loft_tree.specs.Resolved.{Body, resolved_of}
 use Rattle.loft_place.specs.Links.{IsPlaced}
 use Rattle.loft_sense.specs.Machine.{Prog, Tree}
-use Rattle.loft_sense.specs.Run.{Next, Finish, Stuck, Acts, Passes, Tests, Counts, Holds, Runs}
-use Rattle.loft_sense.specs.Tree.{Work, before, next_work, counts_in, after_body, body_at, work_or_none, after}
+use Rattle.loft_sense.specs.Run.{Next, Finish, Stuck, Acts, Advances, Tests, Counts, Holds, Runs}
+use Rattle.loft_sense.specs.Tree.{Work, body_then, next_work, counts_in, after_body, body_at, work_or_none, after}
 use Rattle.loft_sense.specs.Stands.{Pauses, Calls, StopAt, begin_of, end_of, begin_or_unlinked, place_after, leads, stop_in, tree_stop}
 use Rattle.loft_stand.specs.WorkFits.{NextFits, BodyFits}
 use Rattle.loft_stand.specs.WorkAgrees.{BodyAgrees}
@@ -61,7 +61,7 @@ module _ (n : NamedProgram) (fits : NamedFits n) (placed : IsPlaced n) where
     leads_at Finish here f g = f
     leads_at Stuck here f g = absurd f
     leads_at (Acts action w) here f g = record { fits = f; agrees = g }
-    leads_at (Passes w) here f g = record { fits = f; agrees = g }
+    leads_at (Advances w) here f g = record { fits = f; agrees = g }
     leads_at (Tests test v w) here f g = (record { fits = f.0; agrees = g.0 }, record { fits = f.1; agrees = g.1 })
     leads_at (Counts count w) here f g = λ i. record { fits = f i; agrees = g i }
     leads_at (Holds k pause w) here f g = (
@@ -81,13 +81,13 @@ module _ (n : NamedProgram) (fits : NamedFits n) (placed : IsPlaced n) where
 
     -- ---- where a thread goes on
 
-    start_leads : IsAfter program m head (begin_stop n.heads m) (before body [])
+    start_leads : IsAfter program m head (begin_stop n.heads m) (body_then body [])
     start_leads = record {
       there = record {
         fits = fits_before n.heads (slots_of head) body [] (begin_of n.heads m) head.end fits_there ends_there;
         agrees = agrees_before n.heads stops body [] (begin_of n.heads m) agrees_there tt;
       };
-      counts = length-reverse (counts_in (before body [])) ∙ ap (λ (l : List ℤ). length l) (counts_before body []);
+      counts = length-reverse (counts_in (body_then body [])) ∙ ap (λ (l : List ℤ). length l) (counts_before body []);
       kind = tt;
     }
 

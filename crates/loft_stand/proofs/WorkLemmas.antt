@@ -5,8 +5,8 @@ use Rattle.loft_tree.specs.declared.kinds.Kind.{Kind}
 use Rattle.loft_tree.specs.declared.heads.Place.{Place}
 use Rattle.loft_tree.specs.declared.heads.Heads.{Heads}
 use Rattle.loft_tree.specs.Resolved.{Step, Do, Hold, Call, Choose, Loop, Times, Body, Empty, Then}
-use Rattle.loft_sense.specs.Run.{Next, Finish, Stuck, Acts, Passes, Tests, Counts, Holds, Runs}
-use Rattle.loft_sense.specs.Tree.{Work, Begin, Again, Turns, before, next_begin, next_turn, next_work, counts_in, first_some, at_stop, first_count, rest_of, after_step, after_body}
+use Rattle.loft_sense.specs.Run.{Next, Finish, Stuck, Acts, Advances, Tests, Counts, Holds, Runs}
+use Rattle.loft_sense.specs.Tree.{Work, Begin, Again, Turns, body_then, next_begin, next_turn, next_work, counts_in, first_some, at_stop, first_count, rest_of, after_step, after_body}
 use Rattle.loft_sense.specs.Stands.{Pauses, Calls, StopAt, place_after, end_of, leads_step, leads, stop_in_step, stop_in}
 use Rattle.loft_stand.specs.WorkFits.{NextFits, StepFits, BodyFits, WorkFits}
 use Rattle.loft_stand.proofs.LeftLemmas.{counts_before}
@@ -16,12 +16,12 @@ use Rattle.loft_stand.proofs.LeadsToPoints.{KindFits, target_fits}
 -- ---- work that fits
 
 module _ (h : Heads) (slots : List Kind) where
-  pub fits_before : (b : Body) (w : List Work) (p q : Place) → BodyFits h slots b p → WorkFits h slots w (leads h b p) q → WorkFits h slots (before b w) p q
+  pub fits_before : (b : Body) (w : List Work) (p q : Place) → BodyFits h slots b p → WorkFits h slots w (leads h b p) q → WorkFits h slots (body_then b w) p q
   fits_before Empty w p q f g = g
   fits_before (Then s b) w p q f g = (f.0, fits_before b w (leads_step h s p) q f.1 g)
 
   -- after a body that ends where it begins
-  fits_around : (b : Body) (w : List Work) (p q : Place) → BodyFits h slots b p → leads h b p ≡ p → WorkFits h slots w p q → WorkFits h slots (before b w) p q
+  fits_around : (b : Body) (w : List Work) (p q : Place) → BodyFits h slots b p → leads h b p ≡ p → WorkFits h slots w p q → WorkFits h slots (body_then b w) p q
   fits_around b w p q f e g = fits_before b w p q f (subst (λ r. WorkFits h slots w r q) (sym e) g)
 
   -- where the thread is after what comes next
@@ -29,7 +29,7 @@ module _ (h : Heads) (slots : List Kind) where
   LeftFits Finish p q = p ≡ q
   LeftFits Stuck p q = ⊥
   LeftFits (Acts action w) p q = WorkFits h slots w p q
-  LeftFits (Passes w) p q = WorkFits h slots w p q
+  LeftFits (Advances w) p q = WorkFits h slots w p q
   LeftFits (Tests test v w) p q = WorkFits h slots v p q × WorkFits h slots w p q
   LeftFits (Counts count f) p q = (n : ℤ) → WorkFits h slots (f n) p q
   LeftFits (Holds k pause w) p q = WorkFits h slots w (place_after pause p) q
@@ -59,21 +59,21 @@ module _ (h : Heads) (slots : List Kind) where
 -- ---- work whose stops are those of the module
 
 module _ (h : Heads) (stops : ℕ → Option StopAt) where
-  length_before : (b : Body) (w : List Work) → length (counts_in (before b w)) ≡ length (counts_in w)
+  length_before : (b : Body) (w : List Work) → length (counts_in (body_then b w)) ≡ length (counts_in w)
   length_before b w = ap (λ (l : List ℤ). length l) (counts_before b w)
 
-  pub agrees_before : (b : Body) (w : List Work) (p : Place) → BodyAgrees h stops b (length (counts_in w)) p → WorkAgrees h stops w (leads h b p) → WorkAgrees h stops (before b w) p
+  pub agrees_before : (b : Body) (w : List Work) (p : Place) → BodyAgrees h stops b (length (counts_in w)) p → WorkAgrees h stops w (leads h b p) → WorkAgrees h stops (body_then b w) p
   agrees_before Empty w p f g = g
   agrees_before (Then s b) w p f g = (subst (λ d. StepAgrees h stops s d p) (sym (length_before b w)) f.0, agrees_before b w (leads_step h s p) f.1 g)
 
-  agrees_around : (b : Body) (w : List Work) (p : Place) → BodyAgrees h stops b (length (counts_in w)) p → leads h b p ≡ p → WorkAgrees h stops w p → WorkAgrees h stops (before b w) p
+  agrees_around : (b : Body) (w : List Work) (p : Place) → BodyAgrees h stops b (length (counts_in w)) p → leads h b p ≡ p → WorkAgrees h stops w p → WorkAgrees h stops (body_then b w) p
   agrees_around b w p f e g = agrees_before b w p f (subst (λ r. WorkAgrees h stops w r) (sym e) g)
 
   abbrev pub NextAgrees : Next (List Work) → Place → Type 0
   NextAgrees Finish p = Unit {0}
   NextAgrees Stuck p = Unit {0}
   NextAgrees (Acts action w) p = WorkAgrees h stops w p
-  NextAgrees (Passes w) p = WorkAgrees h stops w p
+  NextAgrees (Advances w) p = WorkAgrees h stops w p
   NextAgrees (Tests test v w) p = WorkAgrees h stops v p × WorkAgrees h stops w p
   NextAgrees (Counts count f) p = (n : ℤ) → WorkAgrees h stops (f n) p
   NextAgrees (Holds k pause w) p = IsStop h stops k (Pauses pause) (length (counts_in w)) (place_after pause p) × WorkAgrees h stops w (place_after pause p)
@@ -155,7 +155,7 @@ module _ (h : Heads) (stops : ℕ → Option StopAt) where
           → WorkFits h slots w (leads h b p) q → WorkAgrees h stops w (leads h b p) → AfterFits q (after_body b k cs w) (stop_in h b k d p)
       after_body_fits Empty k d cs w p q n e f g i = tt
       after_body_fits (Then s b) k d cs w p q n e f g i =
-          after_first q (after_step s k cs (before b w)) (after_body b k cs w) (stop_in_step h s k d p) (stop_in h b k d (leads_step h s p))
-          (after_step_fits s k d cs (before b w) p q (length_before b w ∙ n) e.0 f.0 (fits_before h slots b w (leads_step h s p) q e.1 g)
+          after_first q (after_step s k cs (body_then b w)) (after_body b k cs w) (stop_in_step h s k d p) (stop_in h b k d (leads_step h s p))
+          (after_step_fits s k d cs (body_then b w) p q (length_before b w ∙ n) e.0 f.0 (fits_before h slots b w (leads_step h s p) q e.1 g)
           (agrees_before b w (leads_step h s p) (subst (λ c. BodyAgrees h stops b c (leads_step h s p)) (sym n) f.1) i))
           (after_body_fits b k d cs w (leads_step h s p) q n e.1 f.1 g i)

@@ -17,7 +17,7 @@ use Rattle.loft_tree.specs.HeadsFit.{kinds_of}
 use Rattle.loft_tree.specs.KindOf.{builtin_kind, compares}
 use Rattle.loft_tree.specs.NamedFits.{IsScheduler, OperandsAgree}
 use Rattle.loft_tree.specs.Resolved.{Exp, Number, Slot, Shared, Special, Unary, Binary, Target, ToSlot, ToShared, Action, Assign, Make, PrintText, PrintValue, Generate, ControlThread, Broadcast, Pause, Cooperate, Await, Get, Join, Link, Unlink, Halt, Step, Do, Hold, Call, Choose, Loop, Times, Body, Empty, Then}
-use Rattle.loft_sense.specs.Run.{Next, Finish, Stuck, Acts, Passes, Tests, Counts, Holds, Runs}
+use Rattle.loft_sense.specs.Run.{Next, Finish, Stuck, Acts, Advances, Tests, Counts, Holds, Runs}
 use Rattle.loft_sense.specs.Tree.{Work, Begin, Again, Turns}
 use Rattle.loft_sense.specs.Stands.{begin_of, leads_step, leads}
 
@@ -95,7 +95,7 @@ module _ (h : Heads) (slots : List Kind) where
     NextFits Finish = Unit {0}
     NextFits Stuck = ⊥
     NextFits (Acts action rest) = ActionFits action
-    NextFits (Passes rest) = Unit {0}
+    NextFits (Advances rest) = Unit {0}
     NextFits (Tests test v u) = IsInt test
     NextFits (Counts count rest) = IsInt count
     NextFits (Holds k pause rest) = PauseFits pause

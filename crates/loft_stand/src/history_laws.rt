@@ -13,7 +13,7 @@ ghost use Rattle.loft_sense.specs.Machine.{Prog, heads};
 ghost use Rattle.loft_sense.specs.Fits.{Fits};
 ghost use Rattle.loft_history.specs.Clients.{outside_of};
 ghost use Rattle.loft_sense.specs.Instant.{replay};
-ghost use Rattle.loft_history.specs.History.{sent_in, waiting, jobs, left_of, unsent, replayed};
+ghost use Rattle.loft_history.specs.History.{sent_in, waiting, jobs, unposted, unsent, replayed};
 ghost use Rattle.loft_history.specs.Legal.{FitsOne, IsLegal};
 ghost use Rattle.loft_stand.specs.WellFormed.{IsWellFormed};
 ghost use Rattle.loft_stand.specs.Points.{HasValues};
@@ -71,7 +71,7 @@ pub fn waiting_orders_fit()
         → All (ThreadFits x Unlinked) (jobs es) }
     ensures posts { (x : Prog) → IsWellFormed x
         → (o : RunOptions) (es : List Entry) → IsLegal x o es
-        → (w : ℕ) → All (SentFits x) (left_of x o w es) }
+        → (w : ℕ) → All (SentFits x) (unposted x o w es) }
     ensures clients { (x : Prog) → IsWellFormed x
         → (o : RunOptions) (es : List Entry) → IsLegal x o es
         → (c : ℕ) → All (SentFits x) (unsent (heads x) c es) }

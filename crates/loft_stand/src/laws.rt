@@ -28,7 +28,7 @@ ghost use Rattle.loft_sense.specs.Run.{Active, frame_of, active_of, live, going}
 ghost use Rattle.loft_sense.specs.Passes.{run_of};
 ghost use Rattle.loft_sense.specs.Tree.{Work, next_work, tree};
 ghost use Rattle.loft_sense.specs.Code.{Point, code};
-ghost use Rattle.loft_sense.specs.Stands.{Pauses, StopAt, stop_of, FrameStands, Stands};
+ghost use Rattle.loft_sense.specs.Stands.{Pauses, StopAt, program_stop, FrameStands, Stands};
 ghost use Rattle.loft_sense.specs.Fits.{IsThread, ThreadNames, Fits};
 ghost use Rattle.loft_sense.specs.Instant.{instant};
 ghost use Rattle.loft_sense.specs.Async.{async};
@@ -103,7 +103,7 @@ pub fn well_formed_programs_never_stick()
     ensures events { (h : Heads) (place : Place) (around : Around) (e : EventId)
         → IsEvent h place e → AroundFits h place around → e.0 < length around.board }
     ensures pauses { (x : Prog) (m : ModuleId) (k : ℕ) (at : StopAt) (pause : Pause)
-        → stop_of x m k ≡ Some at → at.kind ≡ Pauses pause
+        → program_stop x m k ≡ Some at → at.kind ≡ Pauses pause
         → (control x).pause m k ≡ Some pause }
     ensures indexes { (values : List ℤ) (i : ℤ) → is_index i (length values) ≡ true
         → (k : ℕ) × (v : ℤ) × (i ≡ pos k) × (slice_get values k ≡ Some v) }

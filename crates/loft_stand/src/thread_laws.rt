@@ -14,7 +14,7 @@ ghost use Rattle.loft_sense.specs.declared.entry.Entry.TheVariants.{Pick};
 ghost use Rattle.loft_sense.specs.declared.limits.RunOptions.{RunOptions};
 ghost use Rattle.loft_sense.specs.declared.thread.Thread.{Thread};
 ghost use Rattle.loft_sense.specs.Machine.{Prog, heads};
-ghost use Rattle.loft_history.specs.History.{log, waiting, jobs, left_of, replayed};
+ghost use Rattle.loft_history.specs.History.{log, waiting, jobs, unposted, replayed};
 ghost use Rattle.loft_stand.specs.Threads.{SentCarries, WaitsSo, IsKeptIn};
 
 use std::marker::Brand;
@@ -62,7 +62,7 @@ pub fn threads_keep_what_runs_keep<C: ThreadClaim>()
         → es ≡ before ++ Pick w job ∷ after → C.holds Unlinked job }
     ensures posts { (x : Prog) (o : RunOptions) (es : List Entry)
         → IsKeptIn x C.holds C.grants o es
-        → (w : ℕ) → All (SentCarries C.holds) (left_of x o w es) }
+        → (w : ℕ) → All (SentCarries C.holds) (unposted x o w es) }
     ensures sent { (x : Prog) (o : RunOptions) (es : List Entry)
         → IsKeptIn x C.holds C.grants o es → (s : SchedId) → IsScheduler (heads x) s
         → All (λ note. All (SentCarries C.holds) note.sent) (replayed x o.limits s es).notes }

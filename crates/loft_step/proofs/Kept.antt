@@ -16,7 +16,7 @@ use Rattle.loft_effect.proofs.Runs.{reverse-cons, reverse-map}
 use Rattle.loft_step.specs.declared.running.Running.{Running}
 use Rattle.loft_step.specs.Kept.{counts_kept, settled, IsKept, AreKept}
 use Rattle.loft_step.specs.Lines.{op_after}
-use Rattle.loft_step.specs.Frames.{active, actives, Stands}
+use Rattle.loft_step.specs.Frames.{active, actives, HasStopped}
 
 abbrev pub frame : ModuleId → ℕ → List ℤ → List Value → Frame
 frame m k counts values = record { «module» = m; stop = k; counts = counts; values = values }
@@ -130,12 +130,12 @@ module _ (c : Automata) where
       ∙ ap (λ (ns : List ℤ). going_at m (suc k) values (point op ns)) (reverse-reverse (reverse counts))
 
   -- it goes on where it is, if it is kept
-  pub goes_on_there : (r : Running) → Stands c r → active_of (code c) (frame_of (code c) (active r)) ≡ active r
+  pub goes_on_there : (r : Running) → HasStopped c r → active_of (code c) (frame_of (code c) (active r)) ≡ active r
   goes_on_there r stands = goes_on_at r.scope.at.module r.scope.at.stop r.op r.counts r.scope.values stands.stop stands.after
 
   kept_some : (k : ℕ) (counts : List ℤ) → k ≢ 0 → counts_kept k counts ≡ counts
   kept_some zero counts some = absurd (some refl)
   kept_some (suc k) counts some = refl
 
-  pub stands_kept : (r : Running) → Stands c r → IsKept (frame_of (code c) (active r))
+  pub stands_kept : (r : Running) → HasStopped c r → IsKept (frame_of (code c) (active r))
   stands_kept r stands = kept_some r.scope.at.stop (reverse (reverse r.counts)) stands.stop

@@ -27,7 +27,7 @@ abbrev pub actives : Automata → List Frame → List (Active Point)
 actives c fs = map (active_of (code c)) (reverse fs)
 
 -- the frame has stood at a stop, and goes on after it
-pub record Stands (c : Automata) (r : Running) : Type 0 where
+pub record HasStopped (c : Automata) (r : Running) : Type 0 where
   pub stop : r.scope.at.stop ≢ 0
   pub after : op_after (lines_at c r.scope.at.module) r.scope.at.stop ≡ r.op
 
@@ -93,7 +93,7 @@ Walks c old b move new b' =
 abbrev pub IfEnters : Move → Automata → Running → BesideInMemory → BesideInMemory → Type 0
 IfEnters move.Pause c r b b' = b.around.steps < b'.around.steps
 IfEnters move.Return c r b b' = Unit {0}
-IfEnters (move.Enter m arguments) c r b b' = Stands c r × (b.around.steps < b'.around.steps)
+IfEnters (move.Enter m arguments) c r b b' = HasStopped c r × (b.around.steps < b'.around.steps)
 IfEnters (move.Hold wait) c r b b' = Unit {0}
 IfEnters (move.Leave to) c r b b' = Unit {0}
 IfEnters (move.End end) c r b b' = Unit {0}

@@ -5,7 +5,7 @@ ghost use Rattle.std.specs.Option.{option_map};
 ghost use Rattle.loft_tree.specs.Resolved.{target_of as variable_of};
 ghost use Rattle.loft_code.specs.Operations.{stop_of};
 ghost use Rattle.loft_code.specs.View.{automata_of, line_of, lines_of, operation_of};
-ghost use Rattle.loft_sense.specs.Code.{lines_at, jump_of, landing as landing_of, is_number, stop_from, pause_of, pause_at, pause_in};
+ghost use Rattle.loft_sense.specs.Code.{lines_at, jump_of, landing as landing_of, is_number, stop_from, pause_of_operation, pause_at, pause_in};
 ghost use Rattle.loft_sense.specs.Statements.{target_of};
 ghost use Rattle.loft_step.specs.Lines.{ends_at, line_in, op_after, StopsAreNumbered};
 
@@ -116,7 +116,7 @@ fn find_stop(lines: &[CodeLine], k: u32) -> Option<usize>
 
 /// The variable that a stop sets, where it is a `get`.
 fn target_of(op: &Op) -> Option<Target>
-    ensures { option_map variable_of result ≡ target_of (pause_of (operation_of op.now)) }
+    ensures { option_map variable_of result ≡ target_of (pause_of_operation (operation_of op.now)) }
 {
     match op {
         Op::Hold {

@@ -12,7 +12,7 @@ ghost use Rattle.loft_sense.specs.Run.{thread_of, begun_frame, ends, going, go_o
 ghost use Rattle.loft_effect.specs.declared.effect.Effect.TheVariants.{GoesOn};
 ghost use Rattle.loft_effect.specs.View.{around_of, beside_of, pace_of, steps_left};
 ghost use Rattle.loft_effect.specs.Outcomes.{outcome_of, outcome_with};
-ghost use Rattle.loft_step.specs.Frames.{active, actives, advance_if, moved_by, Stands};
+ghost use Rattle.loft_step.specs.Frames.{active, actives, advance_if, moved_by, HasStopped};
 ghost use Rattle.loft_step.specs.Kept.{AreKept};
 ghost use Rattle.loft_step.specs.Midst.{turn_with, IfGoes};
 
@@ -117,7 +117,7 @@ fn enter(
     arguments: Values,
 ) -> Result<(), NoMemory>
     requires kept { AreKept outer.old }
-    requires stands { Stands (automata_of code.now) top.old }
+    requires stands { HasStopped (automata_of code.now) top.old }
     ensures kept { OnOk result (AreKept outer.new) }
     ensures begins { OnOk result ((b : BesideOf) → b.id ≡ thread
         → active top.new ≡ begun_frame (control_of (automata_of code.now)) «module» arguments b) }

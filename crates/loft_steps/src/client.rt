@@ -3,7 +3,8 @@
 ghost use Rattle.std.specs.Prelude.{◌≡◌, ◌∷◌, [], ◌+◌, ◌^◌, ◌<◌, drop, IfOk, IsTrue, is_some, slice_get};
 ghost use Rattle.std.specs.Option.{option_map};
 ghost use Rattle.loft_tree.specs.Fits.{Each};
-ghost use Rattle.loft_history.specs.Clients.{control_of, orders_from};
+ghost use Rattle.loft_history.specs.Clients.{orders_from};
+ghost use Rattle.loft_sense.specs.Statements.{order_of as order_by};
 ghost use Rattle.loft_steps.specs.Clients.{orders_of, orders_at, HasEvent};
 
 use loft_base::{Maker, NoMemory, Sequence, ThreadId};
@@ -13,7 +14,7 @@ use std::alloc::Global;
 
 /// The order that stops, suspends or resumes a thread.
 fn control_of(control: Control, thread: ThreadId) -> Order
-    ensures { result ≡ control_of control thread }
+    ensures { result ≡ order_by control thread }
 {
     match control {
         Control::Stop => Order::Stop(thread),

@@ -14,7 +14,7 @@ ghost use Rattle.loft_sense.specs.declared.thread.Thread.{Thread};
 ghost use Rattle.loft_sense.specs.Async.{async};
 ghost use Rattle.loft_history.specs.Clients.{outside_of};
 ghost use Rattle.loft_sense.specs.Machine.{Prog, Mach};
-ghost use Rattle.loft_history.specs.History.{creates, ends_block, is_busy, is_open, left_of, unsent};
+ghost use Rattle.loft_history.specs.History.{creates, ends_block, is_busy, is_open, unposted, unsent};
 ghost use Rattle.loft_history.specs.Legal.{of, Gives};
 ghost use Rattle.loft_steps.specs.Clients.{orders_at};
 ghost use Rattle.loft_steps.specs.Turns.{IsReplay};
@@ -41,10 +41,10 @@ pub fn turns_follow_their_entries()
 pub fn jobs_follow_their_entries()
     ensures pick { (x : Prog) (o : RunOptions) (w : ℕ) (es : List Entry) (job : Thread)
         → let next = es ++ Pick w job ∷ [] in
-        (left_of x o w next ≡ async x job o.limits.block) × (is_busy w next ≡ true) }
+        (unposted x o w next ≡ async x job o.limits.block) × (is_busy w next ≡ true) }
     ensures post { (x : Prog) (o : RunOptions) (w : ℕ) (es : List Entry) (m : Sent)
-        (rest : List Sent) → left_of x o w es ≡ m ∷ rest → let next = es ++ Post w m ∷ [] in
-        (left_of x o w next ≡ rest) × (is_busy w next ≡ not (ends_block m.order)) }
+        (rest : List Sent) → unposted x o w es ≡ m ∷ rest → let next = es ++ Post w m ∷ [] in
+        (unposted x o w next ≡ rest) × (is_busy w next ≡ not (ends_block m.order)) }
 {}
 
 /// What a client of the source has still to give is what comes after as many of its orders as it has

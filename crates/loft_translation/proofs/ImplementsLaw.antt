@@ -13,9 +13,9 @@ use Rattle.loft_sense.specs.declared.thread.Wait.{Wait}
 use Rattle.loft_sense.specs.Around.{Around}
 use Rattle.loft_sense.specs.Machine.{Tree}
 use Rattle.loft_sense.specs.Run.{point_of, active_of, go}
-use Rattle.loft_sense.specs.Tree.{Work, before, next_work, body_or_empty, body_at, stop_at, pause_of, after_body, work_or_none, after, tree}
+use Rattle.loft_sense.specs.Tree.{Work, body_then, next_work, body_or_empty, body_at, stop_at, pause_of_step, after_body, work_or_none, after, tree}
 use Rattle.loft_sense.specs.Code.{Point, point, next_point, lines_at, stop_from, after_or_past, pause_in, code}
-use Rattle.loft_sense.specs.Stands.{StopAt, begin_of, leads_step, stop_in, stop_of, FrameStands, OuterStand, FramesStand, Stands}
+use Rattle.loft_sense.specs.Stands.{StopAt, begin_of, leads_step, stop_in, program_stop, FrameStands, OuterStand, FramesStand, Stands}
 use Rattle.loft_translation.specs.Compiled.{step_lines, body_lines, compiled}
 use Rattle.loft_translation.specs.Implements.{Implements}
 use Rattle.loft_translation.specs.Whole.{StepIsWhole, BodyIsWhole, IsWhole}
@@ -74,22 +74,22 @@ module _ (p : Resolved) (whole : IsWhole p) where
   abbrev IsIn : ModuleId → List Work → Point → Type 0
   IsIn m w q = (b : Body) × (slice_get p.bodies m.0 ≡ Some b) × StandsFor (code_of p.heads b (begin_of p.heads m)) p.heads w q
 
-  start_in : (m : ModuleId) → IsOne p.heads (length p.bodies) m → IsIn m (before (body_at p m) []) (point 0 [])
+  start_in : (m : ModuleId) → IsOne p.heads (length p.bodies) m → IsIn m (body_then (body_at p m) []) (point 0 [])
   start_in m is =
       let body = within_some p.bodies m.0 is in
       let here = begin_of p.heads m in
-      (body.0, body.1, subst (λ b. StandsFor (code_of p.heads body.0 here) p.heads (before b []) (point 0 [])) (sym (body_is p m body.0 body.1)) (module_start p.heads body.0 here))
+      (body.0, body.1, subst (λ b. StandsFor (code_of p.heads body.0 here) p.heads (body_then b []) (point 0 [])) (sym (body_is p m body.0 body.1)) (module_start p.heads body.0 here))
 
   pause_same : (m : ModuleId) (k : ℕ) → (tree p).pause m k ≡ (code (compiled p)).pause m k
   pause_same m zero = refl
   pause_same m (suc k) = by (body_or_not p m)
     where
-      by : ((b : Body) × (slice_get p.bodies m.0 ≡ Some b)) ⊎ (slice_get p.bodies m.0 ≡ None) → pause_of (stop_at (body_at p m) (suc k)) ≡ pause_in (lines_at (compiled p) m) (suc k)
+      by : ((b : Body) × (slice_get p.bodies m.0 ≡ Some b)) ⊎ (slice_get p.bodies m.0 ≡ None) → pause_of_step (stop_at (body_at p m) (suc k)) ≡ pause_in (lines_at (compiled p) m) (suc k)
       by (inl (b, e)) =
-          ap (λ x. pause_of (stop_at x (suc k))) (body_is p m b e)
+          ap (λ x. pause_of_step (stop_at x (suc k))) (body_is p m b e)
           ∙ sym (module_pause p.heads b (begin_of p.heads m) (length p.bodies) (whole_body p whole m b e) (suc k) [])
           ∙ ap (λ ls. pause_in ls (suc k)) (sym (lines_are p m b e))
-      by (inr e) = ap (λ o. pause_of (stop_at (body_or_empty o) (suc k))) e ∙ ap (λ ls. pause_in ls (suc k)) (sym (no_lines p m e))
+      by (inr e) = ap (λ o. pause_of_step (stop_at (body_or_empty o) (suc k))) e ∙ ap (λ ls. pause_in ls (suc k)) (sym (no_lines p m e))
 
   next_in : (m : ModuleId) (w : List Work) (q : Point) → IsIn m w q → NextAgrees (IsOne p.heads (length p.bodies)) (IsIn m) (next_work w) (next_point (lines_at (compiled p) m) q)
   next_in m w q is =
@@ -110,7 +110,7 @@ module _ (p : Resolved) (whole : IsWhole p) where
 
   -- ---- a thread that stands goes on at related points
 
-  resume_in : (f : Frame) (k : ℕ) (at : StopAt) (b : Body) → slice_get p.bodies f.module.0 ≡ Some b → stop_of (Tree p) f.module k ≡ Some at → length f.counts ≡ at.depth
+  resume_in : (f : Frame) (k : ℕ) (at : StopAt) (b : Body) → slice_get p.bodies f.module.0 ≡ Some b → program_stop (Tree p) f.module k ≡ Some at → length f.counts ≡ at.depth
       → IsIn f.module (point_of (tree p) f k) (point_of (code (compiled p)) f k)
   resume_in f zero at b e stop same = start_in f.module (slice_get_within p.bodies f.module.0 b e)
   resume_in f (suc k) at b e stop same =

@@ -10,7 +10,7 @@ use Rattle.loft_tree.specs.declared.heads.Heads.{Heads}
 use Rattle.loft_tree.specs.Resolved.{Step, Body, Resolved}
 use Rattle.loft_code.specs.Operations.{Line}
 use Rattle.loft_code.specs.Operations as op
-use Rattle.loft_sense.specs.Tree.{Work, before, after_body, body_or_empty, body_at, work_or_none, stop_at, pause_of}
+use Rattle.loft_sense.specs.Tree.{Work, body_then, after_body, body_or_empty, body_at, work_or_none, stop_at, pause_of_step}
 use Rattle.loft_sense.specs.Code.{point, lines_at, stop_from, after_or_past, pause_at}
 use Rattle.loft_sense.specs.Stands.{Begins, StopAt, begin_of, leads, stop_in, stop_before, stop_at_line, line_stop}
 use Rattle.loft_translation.specs.Compiled.{line, body_lines, module_lines, modules_from, compiled}
@@ -40,7 +40,7 @@ module _ (lines : List Line) (h : Heads) (cs : List ℤ) where
   stop_found nowhere = refl
   stop_found (found is) = is.stop
 
-  pause_found : {q : Option ℕ} {w : Option (List Work)} {at : Option StopAt} {s : Option Step} → Found lines h 0 cs [] q w at s → pause_at lines q ≡ pause_of s
+  pause_found : {q : Option ℕ} {w : Option (List Work)} {at : Option StopAt} {s : Option Step} → Found lines h 0 cs [] q w at s → pause_at lines q ≡ pause_of_step s
   pause_found nowhere = refl
   pause_found (found is) = is.pause
 
@@ -76,7 +76,7 @@ module _ (h : Heads) (b : Body) (here : Place) where
   end_line : LineIs (code_of h b here) h last 0 (leads h b here)
   end_line = record { is = line (leads h b here) 0 op.End; at = end_has; depth = refl; place = refl }
 
-  pub module_start : StandsFor (code_of h b here) h (before b []) (point 0 [])
+  pub module_start : StandsFor (code_of h b here) h (body_then b []) (point 0 [])
   module_start = stands_body (code_of h b here) h b 0 0 last here [] [] refl body end_does
 
   pub module_begin : line_stop (code_of h b here) 0 ≡ Some (record { kind = Begins; depth = 0; after = here })
@@ -96,7 +96,7 @@ module _ (h : Heads) (b : Body) (here : Place) where
     pub module_stop : stop_at_line (code_of h b here) (stop_from 0 (code_of h b here) k) ≡ stop_in h b k 0 here
     module_stop = stop_found (code_of h b here) h cs module_found
 
-    pub module_pause : pause_at (code_of h b here) (stop_from 0 (code_of h b here) k) ≡ pause_of (stop_at b k)
+    pub module_pause : pause_at (code_of h b here) (stop_from 0 (code_of h b here) k) ≡ pause_of_step (stop_at b k)
     module_pause = pause_found (code_of h b here) h cs module_found
 
     pub module_goes : (at : StopAt) → stop_in h b k 0 here ≡ Some at → length cs ≡ at.depth

@@ -9,8 +9,8 @@ use Rattle.loft_tree.specs.declared.heads.Heads.{Heads}
 use Rattle.loft_tree.specs.Resolved.{Step, Do, Hold, Call, Choose, Loop, Times, Body, Empty, Then}
 use Rattle.loft_code.specs.Operations.{Line, stop_of}
 use Rattle.loft_code.specs.Operations as op
-use Rattle.loft_sense.specs.Tree.{Work, Again, Turns, before, counts_in, first_some, first_count, rest_of, after_step, after_body, stop_at_step, stop_at, pause_of as pause_of_step}
-use Rattle.loft_sense.specs.Code.{point, is_number, stop_from, pause_of, pause_at}
+use Rattle.loft_sense.specs.Tree.{Work, Again, Turns, body_then, counts_in, first_some, first_count, rest_of, after_step, after_body, stop_at_step, stop_at, pause_of_step as pause_of_step}
+use Rattle.loft_sense.specs.Code.{point, is_number, stop_from, pause_of_operation, pause_at}
 use Rattle.loft_sense.specs.Stands.{StopKind, Pauses, Calls, StopAt, end_of, place_after, leads_step, leads, stop_in_step, stop_in, kind_of, stop_before, stop_at_line}
 use Rattle.loft_translation.specs.Compiled.{line, step_lines, body_lines}
 use Rattle.loft_translation.specs.Whole.{StepIsWhole, BodyIsWhole}
@@ -64,8 +64,8 @@ module _ (lines : List Line) (h : Heads) where
       ∙ ap (λ n. Some (record { kind = kind; depth = n; after = next.is.place })) next.depth
       ∙ ap (λ place. Some (record { kind = kind; depth = d; after = place })) next.place
 
-  pause_is : (q : ℕ) (l : Line) → slice_get lines q ≡ Some l → pause_at lines (Some q) ≡ pause_of l.operation
-  pause_is q l e = ap (λ o. option_and_then (λ (k : Line). pause_of k.operation) o) e
+  pause_is : (q : ℕ) (l : Line) → slice_get lines q ≡ Some l → pause_at lines (Some q) ≡ pause_of_operation l.operation
+  pause_is q l e = ap (λ o. option_and_then (λ (k : Line). pause_of_operation k.operation) o) e
 
   -- the operation with which the code of a statement, or of a body and what comes after it, begins
   step_line : (s : Step) (p d past : ℕ) (here : Place) → Between lines p (step_lines h s p d here) past → LineIs p d here
@@ -105,7 +105,7 @@ module _ (lines : List Line) (h : Heads) where
   found_first (found is) g = found is
 
   -- operation p is a stop of this kind
-  found_here : (p d : ℕ) (l : Line) (there : Place) (kind : StopKind) (s : Step) (cs : List ℤ) (w : List Work) (yes : Bool) → slice_get lines p ≡ Some l → kind_of l.operation ≡ Some kind → pause_of l.operation ≡ pause_of_step (Some s)
+  found_here : (p d : ℕ) (l : Line) (there : Place) (kind : StopKind) (s : Step) (cs : List ℤ) (w : List Work) (yes : Bool) → slice_get lines p ≡ Some l → kind_of l.operation ≡ Some kind → pause_of_operation l.operation ≡ pause_of_step (Some s)
       → LineIs (p + 1) d there → Does lines h (p + 1) w
       → Found d cs (counts_in w) (if yes then Some p else None) (if yes then Some w else None) (if yes then Some (record { kind = kind; depth = d; after = there }) else None) (if yes then Some s else None)
   found_here p d l there kind s cs w true e is waits next rest = found (record {
@@ -180,5 +180,5 @@ module _ (lines : List Line) (h : Heads) where
           let back = back_of lines p past first others code in
           found_at d cs refl (sym (stop_from_parts p first others k))
           (found_first
-          (found_at d cs (counts_before b w) refl (found_step s k p d q here cs (before b w) whole.0 (front_of lines p past first others code) (body_line b q d past there back next) (does_body lines h b q d past there w back rest)))
+          (found_at d cs (counts_before b w) refl (found_step s k p d q here cs (body_then b w) whole.0 (front_of lines p past first others code) (body_line b q d past there back next) (does_body lines h b q d past there w back rest)))
           (found_body b k q d past there cs w whole.1 back next rest))

@@ -14,7 +14,7 @@ use Rattle.loft_sense.specs.declared.limits.TheConstants.{MAX_FRAMES}
 use Rattle.loft_sense.specs.Around.{Around, Beside}
 use Rattle.loft_sense.specs.Eval.{eval, eval_all, number_of, is_true}
 use Rattle.loft_sense.specs.Statements.{Now, Effect, GoesOn, Waits, Leaves, Dies, did, begun, answered}
-use Rattle.loft_sense.specs.Run.{Next, Finish, Acts, Passes, Tests, Counts, Holds, Runs, Control, Active, Outcome, Held, Left, here, ends, if_finish, live, frame_of, thread_of, effect_on, test_on, count_on, begun_frame, run_on, step, step_on, no_step, going, actives_of, go_on, beside, go}
+use Rattle.loft_sense.specs.Run.{Next, Finish, Acts, Advances, Tests, Counts, Holds, Runs, Control, Active, Outcome, Held, Left, here, ends, if_finish, live, frame_of, thread_of, effect_on, test_on, count_on, begun_frame, run_on, step, step_on, no_step, going, actives_of, go_on, beside, go}
 
 -- a frame at a point
 abbrev pub frame : {A : Type 0} → ModuleId → ℕ → List Value → A → Active A
@@ -24,7 +24,7 @@ frame m k values p = record { «module» = m; stop = k; values = values; at = p 
 pub data NextAgrees {A B : Type 0} (Called : ModuleId → Type 0) (R : A → B → Type 0) : Next A → Next B → Type 0 where
   both_finish : NextAgrees Called R Finish Finish
   both_act : {action : Action} {p : A} {q : B} → R p q → NextAgrees Called R (Acts action p) (Acts action q)
-  both_pass : {p : A} {q : B} → R p q → NextAgrees Called R (Passes p) (Passes q)
+  both_pass : {p : A} {q : B} → R p q → NextAgrees Called R (Advances p) (Advances q)
   both_test : {test : Exp} {p p' : A} {q q' : B} → R p q → R p' q' → NextAgrees Called R (Tests test p p') (Tests test q q')
   both_count : {count : Exp} {f : ℤ → A} {g : ℤ → B} → ((n : ℤ) → R (f n) (g n)) → NextAgrees Called R (Counts count f) (Counts count g)
   both_hold : {k : ℕ} {pause : Pause} {p : A} {q : B} → R p q → NextAgrees Called R (Holds k pause p) (Holds k pause q)

@@ -9,8 +9,8 @@ use Rattle.loft_tree.specs.declared.heads.Heads.{Heads}
 use Rattle.loft_tree.specs.Resolved.{Exp, Step, Do, Hold, Call, Choose, Loop, Times, Body, Empty, Then}
 use Rattle.loft_code.specs.Operations.{Operation, Line}
 use Rattle.loft_code.specs.Operations as op
-use Rattle.loft_sense.specs.Run.{Next, Finish, Passes}
-use Rattle.loft_sense.specs.Tree.{Work, Begin, Again, Turns, before, next_begin, next_turn, next_work, counts_in}
+use Rattle.loft_sense.specs.Run.{Next, Finish, Advances}
+use Rattle.loft_sense.specs.Tree.{Work, Begin, Again, Turns, body_then, next_begin, next_turn, next_work, counts_in}
 use Rattle.loft_sense.specs.Code.{Point, point, jump_of, follow, land, landing, turned, next_operation, next_line, next_at, next_point}
 use Rattle.loft_sense.specs.Stands.{leads_step, leads}
 use Rattle.loft_translation.specs.Compiled.{line, else_lines, again_lines, turn_lines, step_lines, body_lines}
@@ -37,7 +37,7 @@ RunsOnly Called (op.Turn t) = Unit {0}
 RunsOnly Called (op.Jump t) = Unit {0}
 RunsOnly Called op.End = Unit {0}
 
-pub counts_before : (b : Body) (w : List Work) → counts_in (before b w) ≡ counts_in w
+pub counts_before : (b : Body) (w : List Work) → counts_in (body_then b w) ≡ counts_in w
 counts_before Empty w = refl
 counts_before (Then s b) w = counts_before b w
 
@@ -180,7 +180,7 @@ module _ (lines : List Line) where
     step_begins (Times count x) p d here = refl
 
     -- the code of a body, and then the rest
-    pub does_body : (b : Body) (p d past : ℕ) (here : Place) (w : List Work) → Between p (body_lines h b p d here) past → Does past w → Does p (before b w)
+    pub does_body : (b : Body) (p d past : ℕ) (here : Place) (w : List Work) → Between p (body_lines h b p d here) past → Does past w → Does p (body_then b w)
     does_body Empty p d past here w code rest = let e : past ≡ p = omega (arith, code.ends) in does_same past p w e rest
     does_body (Then s b) p d past here w code rest =
         let first = step_lines h s p d here in
@@ -199,7 +199,7 @@ module _ (lines : List Line) where
       pub at : Does p.op w
       pub counts : p.counts ≡ counts_in w
 
-    pub stands_body : (b : Body) (p d past : ℕ) (here : Place) (w : List Work) (cs : List ℤ) → cs ≡ counts_in w → Between p (body_lines h b p d here) past → Does past w → StandsFor (before b w) (point p cs)
+    pub stands_body : (b : Body) (p d past : ℕ) (here : Place) (w : List Work) (cs : List ℤ) → cs ≡ counts_in w → Between p (body_lines h b p d here) past → Does past w → StandsFor (body_then b w) (point p cs)
     stands_body b p d past here w cs same code rest = record { at = does_body b p d past here w code rest; counts = same ∙ sym (counts_before b w) }
 
     -- ---- what comes next
@@ -260,8 +260,8 @@ module _ (lines : List Line) where
           subst (λ ns. NextSame (next_turn n x w) (next_point lines (point p ns))) (sym same)
           (landed _ p q _ (n ∷ counts_in w) reach work.code.has.0 (turn n inside (record { at = does_same past (j + 1) w parts.ends rest; counts = refl })))
         where
-          turn : {t : ℕ} (n : ℤ) → ((m : ℤ) → StandsFor (before x (Turns m x ∷ w)) (point (q + 1) (m ∷ counts_in w))) → StandsFor w (point t (counts_in w))
-              → NextSame (next_turn n x w) (Passes (turned (q + 1) t (n ∷ counts_in w)))
+          turn : {t : ℕ} (n : ℤ) → ((m : ℤ) → StandsFor (body_then x (Turns m x ∷ w)) (point (q + 1) (m ∷ counts_in w))) → StandsFor w (point t (counts_in w))
+              → NextSame (next_turn n x w) (Advances (turned (q + 1) t (n ∷ counts_in w)))
           turn (pos zero) inside outside = both_pass outside
           turn (pos (suc m)) inside outside = both_pass (inside (pos m))
           turn (negsuc m) inside outside = both_pass outside

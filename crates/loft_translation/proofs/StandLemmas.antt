@@ -17,7 +17,7 @@ use Rattle.loft_sense.specs.declared.thread.Wait.{Wait}
 use Rattle.loft_sense.specs.Machine.{Prog, Tree, Code}
 use Rattle.loft_sense.specs.Tree.{body_or_empty, body_at}
 use Rattle.loft_sense.specs.Code.{lines_at}
-use Rattle.loft_sense.specs.Stands.{StopAt, begin_of, leads_step, leads, stop_in, line_stop, stop_of, ValuesAgree, FrameStands, OuterStand, FramesStand, Stands}
+use Rattle.loft_sense.specs.Stands.{StopAt, begin_of, leads_step, leads, stop_in, line_stop, program_stop, ValuesAgree, FrameStands, OuterStand, FramesStand, Stands}
 use Rattle.loft_stand.specs.Numbered.{stops_in, body_stops}
 use Rattle.loft_translation.specs.Compiled.{line, again_lines, turn_lines, step_lines, body_lines, compiled}
 use Rattle.loft_translation.specs.Implements.{IsSame}
@@ -101,7 +101,7 @@ module _ (p : Resolved) where
     pub whole_body : BodyIsWhole p.heads (length p.bodies) b (begin_of p.heads m)
     whole_body = subst (λ x. BodyIsWhole p.heads (length p.bodies) x (begin_of p.heads m)) (body_is p m b is) (whole.each m)
 
-    pub same_stop : (k : ℕ) → stop_of (Tree p) m k ≡ stop_of (Code (compiled p)) m k
+    pub same_stop : (k : ℕ) → program_stop (Tree p) m k ≡ program_stop (Code (compiled p)) m k
     same_stop zero = sym (module_begin p.heads b (begin_of p.heads m)) ∙ ap (λ ls. line_stop ls 0) (sym (lines_are p m b is))
     same_stop (suc k) =
         ap (λ x. stop_in p.heads x (suc k) 0 (begin_of p.heads m)) (body_is p m b is)

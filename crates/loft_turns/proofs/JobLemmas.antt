@@ -11,7 +11,7 @@ use Rattle.loft_sense.specs.declared.limits.RunOptions.{RunOptions}
 use Rattle.loft_sense.specs.declared.order.Sent.{Sent}
 use Rattle.loft_sense.specs.declared.thread.Thread.{Thread}
 use Rattle.loft_sense.specs.Machine.{Prog, heads}
-use Rattle.loft_history.specs.History.{Choice, PickBy, PostBy, is_open, jobs_sent, jobs, left_of, is_busy, entry_of_first, pick_of, entry_of, instant_step, jobs_step}
+use Rattle.loft_history.specs.History.{Choice, PickBy, PostBy, is_open, jobs_sent, jobs, unposted, is_busy, entry_of_first, pick_of, entry_of, instant_step, jobs_step}
 use Rattle.loft_history.proofs.HistoryLemmas.{on_if, on_first, on_pick}
 use Rattle.loft_turns.specs.Blocks.{IsHand}
 use Rattle.loft_turns.specs.Course.{Stand, Hand, Moves}
@@ -33,7 +33,7 @@ as_left x o h e work =
 pub record IsPosting (x : Prog) (o : RunOptions) (start h : List Entry) (w : ℕ) : Type 0 where
   pub declared : w < o.workers
   pub schedulers : (s : SchedId) → is_open s h ≡ false
-  pub others : (v : ℕ) → v ≢ w → left_of x o v h ≡ []
+  pub others : (v : ℕ) → v ≢ w → unposted x o v h ≡ []
   pub left : left x o h ≡ left x o start
   pub fewer : length (jobs h) < length (jobs start)
 
@@ -52,8 +52,8 @@ picked x o h w t rest declared free first = record {
 pub picked_one : (x : Prog) (o : RunOptions) (h g : List Entry) (w : ℕ) → AllRest x o h → Moves x o h (PickBy w) true g → IsPosting x o h g w
 picked_one x o h g w free moves =
     moved_some x o h g (PickBy w) moves (λ e is grows.
-    on_if (nat_lt w o.workers) (pick_of w (left_of x o w h) (jobs h)) e is (λ declared picks.
-    on_pick w (left_of x o w h) (jobs h) e picks (λ none first.
+    on_if (nat_lt w o.workers) (pick_of w (unposted x o w h) (jobs h)) e is (λ declared picks.
+    on_pick w (unposted x o w h) (jobs h) e picks (λ none first.
     on_first (Pick w) (jobs h) e first (λ t rest all same.
     subst (λ (l : List Entry). IsPosting x o h l w) (sym (grows ∙ ap (λ (q : Entry). h ++ q ∷ []) (sym same)))
     (picked x o h w t rest (ltb-true w o.workers declared) free all)))))
@@ -67,10 +67,10 @@ first_links h false m rest none = absurd cc
 -- one more post, or none is left
 pub record IsPosted (x : Prog) (o : RunOptions) (start h g : List Entry) (w : ℕ) (moved : Bool) : Type 0 where
   pub posting : IsPosting x o start g w
-  pub done : moved ≡ false → left_of x o w g ≡ []
-  pub less : length (left_of x o w g) + (if moved then 1 else 0) < length (left_of x o w h) + 1
+  pub done : moved ≡ false → unposted x o w g ≡ []
+  pub less : length (unposted x o w g) + (if moved then 1 else 0) < length (unposted x o w h) + 1
 
-posted : (x : Prog) (o : RunOptions) (start h : List Entry) (w : ℕ) (m : Sent) (rest : List Sent) → IsPosting x o start h w → IsHand (heads x) (is_busy w h) (left_of x o w h) → left_of x o w h ≡ m ∷ rest
+posted : (x : Prog) (o : RunOptions) (start h : List Entry) (w : ℕ) (m : Sent) (rest : List Sent) → IsPosting x o start h w → IsHand (heads x) (is_busy w h) (unposted x o w h) → unposted x o w h ≡ m ∷ rest
     → IsPosted x o start h (h ++ Post w m ∷ []) w true
 posted x o start h w m rest before hand is =
     let none : jobs_sent (m ∷ []) ≡ [] = first_links (heads x) (is_busy w h) m rest (subst (IsHand (heads x) (is_busy w h)) is hand) in
@@ -85,40 +85,40 @@ posted x o start h w m rest before hand is =
         fewer = subst (λ (l : List Thread). length l < length (jobs start)) (sym jobs_same) before.fewer;
       };
       done = λ not. cc;
-      less = let now : length (left_of x o w (h ++ Post w m ∷ [])) ≡ length rest = ap (λ (q : Hand). length q.left) (posted_hand x o h w m rest is) in
-          let was : length (left_of x o w h) ≡ length (m ∷ rest) = ap length is in
+      less = let now : length (unposted x o w (h ++ Post w m ∷ [])) ≡ length rest = ap (λ (q : Hand). length q.left) (posted_hand x o h w m rest is) in
+          let was : length (unposted x o w h) ≡ length (m ∷ rest) = ap length is in
           omega (arith, now, was);
     }
 
-none_left : (x : Prog) (o : RunOptions) (h : List Entry) (w : ℕ) → (declared : Bool) → declared ≡ true → (if declared then entry_of_first (Post w) (left_of x o w h) else None) ≡ None → left_of x o w h ≡ []
-none_left x o h w true d none = by (left_of x o w h) none
+none_left : (x : Prog) (o : RunOptions) (h : List Entry) (w : ℕ) → (declared : Bool) → declared ≡ true → (if declared then entry_of_first (Post w) (unposted x o w h) else None) ≡ None → unposted x o w h ≡ []
+none_left x o h w true d none = by (unposted x o w h) none
   where
     by : (l : List Sent) → entry_of_first (Post w) l ≡ None → l ≡ []
     by [] e = refl
     by (m ∷ l) e = cc
 none_left x o h w false d none = cc
 
-pub posted_one : (x : Prog) (o : RunOptions) (start h g : List Entry) (w : ℕ) (moved : Bool) → IsPosting x o start h w → IsHand (heads x) (is_busy w h) (left_of x o w h) → Moves x o h (PostBy w) moved g
+pub posted_one : (x : Prog) (o : RunOptions) (start h g : List Entry) (w : ℕ) (moved : Bool) → IsPosting x o start h w → IsHand (heads x) (is_busy w h) (unposted x o w h) → Moves x o h (PostBy w) moved g
     → IsPosted x o start h g w moved
 posted_one x o start h g w false before hand moves =
     let same = moved_not x o h g (PostBy w) moves in
-    let none : left_of x o w h ≡ [] = none_left x o h w (nat_lt w o.workers) (lt-ltb w o.workers before.declared) same.1 in
+    let none : unposted x o w h ≡ [] = none_left x o h w (nat_lt w o.workers) (lt-ltb w o.workers before.declared) same.1 in
     subst (λ (l : List Entry). IsPosted x o start h l w false) (sym same.0)
     (record { posting = before; done = λ not. none; less = omega arith })
 posted_one x o start h g w true before hand moves =
     moved_some x o h g (PostBy w) moves (λ e is grows.
-    on_if (nat_lt w o.workers) (entry_of_first (Post w) (left_of x o w h)) e is (λ declared first.
-    on_first (Post w) (left_of x o w h) e first (λ m rest all same.
+    on_if (nat_lt w o.workers) (entry_of_first (Post w) (unposted x o w h)) e is (λ declared first.
+    on_first (Post w) (unposted x o w h) e first (λ m rest all same.
     subst (λ (l : List Entry). IsPosted x o start h l w true) (sym (grows ∙ ap (λ (q : Entry). h ++ q ∷ []) (sym same)))
     (posted x o start h w m rest before hand all))))
 
 -- ---- the whole job
 
-pub job_done : (x : Prog) (o : RunOptions) (start h : List Entry) (w : ℕ) → IsPosting x o start h w → left_of x o w h ≡ [] → AllRest x o h
+pub job_done : (x : Prog) (o : RunOptions) (start h : List Entry) (w : ℕ) → IsPosting x o start h w → unposted x o w h ≡ [] → AllRest x o h
 job_done x o start h w posting none = record { schedulers = posting.schedulers; workers = λ v. by v (v == w) refl }
   where
-    by : (v : ℕ) (is : Bool) → v == w ≡ is → left_of x o v h ≡ []
-    by v true e = subst (λ (k : ℕ). left_of x o k h ≡ []) (sym (eqb-true v w e)) none
+    by : (v : ℕ) (is : Bool) → v == w ≡ is → unposted x o v h ≡ []
+    by v true e = subst (λ (k : ℕ). unposted x o k h ≡ []) (sym (eqb-true v w e)) none
     by v false e = posting.others v (λ same. not_same e same)
       where
         not_same : v == w ≡ false → v ≡ w → ⊥

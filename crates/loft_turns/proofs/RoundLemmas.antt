@@ -15,7 +15,7 @@ use Rattle.loft_sense.specs.Machine.{Prog, heads}
 use Rattle.loft_sense.specs.Rest.{is_spent}
 use Rattle.loft_sense.proofs.TallyLemmas.{unspent_number}
 use Rattle.loft_sense.specs.Instant.{Replayed, replay}
-use Rattle.loft_history.specs.History.{Choice, TakeBy, GiveBy, ClientBy, in_instant, is_open, jobs, left_of, unsent, replayed, has_turn, waiting, sent_last, entry_of_first, pick_of, entry_of, HasEnded, instant_step, left_step, unsent_step}
+use Rattle.loft_history.specs.History.{Choice, TakeBy, GiveBy, ClientBy, in_instant, is_open, jobs, unposted, unsent, replayed, has_turn, waiting, sent_last, entry_of_first, pick_of, entry_of, HasEnded, instant_step, unposted_step, unsent_step}
 use Rattle.loft_sense.proofs.AroundLemmas.{instant_number}
 use Rattle.loft_history.proofs.HistoryLemmas.{unsent_none, on_first}
 use Rattle.loft_turns.specs.Course.{Stand, HasWorkers, Moves}
@@ -112,8 +112,8 @@ all_rest x o h s batch sent rest = record {
       ∙ (ap (λ (b : Bool). not (same_scheduler q s) && b) (fold-append (instant_step q) false h (Take s batch ∷ []))
       ∙ rest_again (same_scheduler q s) (in_instant q false h) (rest.schedulers q));
   workers = λ w.
-      fold-append (left_step x o w) [] (h ++ Take s batch ∷ []) (Give s sent ∷ [])
-      ∙ (fold-append (left_step x o w) [] h (Take s batch ∷ []) ∙ rest.workers w);
+      fold-append (unposted_step x o w) [] (h ++ Take s batch ∷ []) (Give s sent ∷ [])
+      ∙ (fold-append (unposted_step x o w) [] h (Take s batch ∷ []) ∙ rest.workers w);
 }
 
 number_after : (x : Prog) (o : RunOptions) (h : List Entry) (s : SchedId) (batch : List Order) (sent : List Sent)
@@ -176,7 +176,7 @@ one_turn x o s h f g moved rest takes gives =
 rest_still : (x : Prog) (o : RunOptions) (h : List Entry) (c : ℕ) (m : Sent) → AllRest x o h → AllRest x o (h ++ Client c m ∷ [])
 rest_still x o h c m rest = record {
   schedulers = λ q. fold-append (instant_step q) false h (Client c m ∷ []) ∙ rest.schedulers q;
-  workers = λ w. fold-append (left_step x o w) [] h (Client c m ∷ []) ∙ rest.workers w;
+  workers = λ w. fold-append (unposted_step x o w) [] h (Client c m ∷ []) ∙ rest.workers w;
 }
 
 other_orders : (x : Prog) (h : List Entry) (c : ℕ) (m : Sent) (k : ℕ) → k ≢ c → orders_unsent x (h ++ Client c m ∷ []) k ≡ orders_unsent x h k
@@ -286,7 +286,7 @@ all_ended x o h some rest turns jobs_none orders = record {
     at_least_one : (n : ℕ) → 1 ≤ n → 0 < n
     at_least_one n some_ = omega (arith, some_)
 
-    no_job : (declared : Bool) → declared ≡ true → (if declared then pick_of 0 (left_of x o 0 h) (jobs h) else None) ≡ None → jobs h ≡ []
+    no_job : (declared : Bool) → declared ≡ true → (if declared then pick_of 0 (unposted x o 0 h) (jobs h) else None) ≡ None → jobs h ≡ []
     no_job true d none = none_first (Pick 0) (jobs h) (sym (ap (λ (l : List Sent). pick_of 0 l (jobs h)) (rest.workers 0)) ∙ none)
     no_job false d none = absurd cc
 

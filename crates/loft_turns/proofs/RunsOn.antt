@@ -21,7 +21,7 @@ use Rattle.loft_sense.specs.Heads.{scheduler, same_scheduler}
 use Rattle.loft_sense.specs.Machine.{Prog, heads}
 use Rattle.loft_sense.specs.Instant.{replay}
 use Rattle.loft_history.specs.Clients.{orders_from, orders_or_none}
-use Rattle.loft_history.specs.History.{Choice, TakeBy, GiveBy, PickBy, PostBy, ClientBy, choice_of, log, in_instant, is_open, left_of, is_busy, unsent, creates, replayed, has_turn, waiting, sent_last, entry_of, with_entry, hist_on, hist, creates_step, busy_step, left_step, unsent_step, instant_step}
+use Rattle.loft_history.specs.History.{Choice, TakeBy, GiveBy, PickBy, PostBy, ClientBy, choice_of, log, in_instant, is_open, unposted, is_busy, unsent, creates, replayed, has_turn, waiting, sent_last, entry_of, with_entry, hist_on, hist, creates_step, busy_step, unposted_step, unsent_step, instant_step}
 use Rattle.loft_history.specs.Legal.{actor_of, same_actor, of}
 use Rattle.loft_history.proofs.HistoryLemmas.{choice_kept, log-append}
 use Rattle.loft_world.specs.State.{State, no_entries}
@@ -69,14 +69,14 @@ IsWork (Client c sent) = ⊥
 
 -- the entries of schedulers and clients leave workers as they are
 pub hand_kept : (x : Prog) (o : RunOptions) (h : List Entry) (e : Entry) → (IsWork e → ⊥) → (w : ℕ) → hand_after x o h w ≡ hand_after x o (h ++ e ∷ []) w
-hand_kept x o h (Take s batch) other w = same_hand _ _ (sym (fold-append (left_step x o w) [] h (Take s batch ∷ []))) (sym (fold-append (busy_step w) false h (Take s batch ∷ [])))
-hand_kept x o h (Give s sent) other w = same_hand _ _ (sym (fold-append (left_step x o w) [] h (Give s sent ∷ []))) (sym (fold-append (busy_step w) false h (Give s sent ∷ [])))
-hand_kept x o h (Client c sent) other w = same_hand _ _ (sym (fold-append (left_step x o w) [] h (Client c sent ∷ []))) (sym (fold-append (busy_step w) false h (Client c sent ∷ [])))
+hand_kept x o h (Take s batch) other w = same_hand _ _ (sym (fold-append (unposted_step x o w) [] h (Take s batch ∷ []))) (sym (fold-append (busy_step w) false h (Take s batch ∷ [])))
+hand_kept x o h (Give s sent) other w = same_hand _ _ (sym (fold-append (unposted_step x o w) [] h (Give s sent ∷ []))) (sym (fold-append (busy_step w) false h (Give s sent ∷ [])))
+hand_kept x o h (Client c sent) other w = same_hand _ _ (sym (fold-append (unposted_step x o w) [] h (Client c sent ∷ []))) (sym (fold-append (busy_step w) false h (Client c sent ∷ [])))
 hand_kept x o h (Pick v job) other w = absurd (other tt)
 hand_kept x o h (Post v sent) other w = absurd (other tt)
 
 -- a worker has as much in hand as before
-pub hand_is : (x : Prog) (o : RunOptions) (h g : List Entry) (w : ℕ) → hand_after x o h w ≡ hand_after x o g w → IsHand (heads x) (is_busy w h) (left_of x o w h) → IsHand (heads x) (is_busy w g) (left_of x o w g)
+pub hand_is : (x : Prog) (o : RunOptions) (h g : List Entry) (w : ℕ) → hand_after x o h w ≡ hand_after x o g w → IsHand (heads x) (is_busy w h) (unposted x o w h) → IsHand (heads x) (is_busy w g) (unposted x o w g)
 hand_is x o h g w same is = subst (λ (q : Hand). IsHand (heads x) q.busy q.left) same is
 
 -- ---- lists by index

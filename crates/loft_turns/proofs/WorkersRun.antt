@@ -21,7 +21,7 @@ use Rattle.loft_sense.specs.declared.thread.Thread.{Thread}
 use Rattle.loft_sense.specs.Machine.{Prog, heads}
 use Rattle.loft_sense.specs.Async.{async}
 use Rattle.loft_history.specs.Legal.{of}
-use Rattle.loft_history.specs.History.{Choice, TakeBy, GiveBy, PickBy, PostBy, ClientBy, choice_of, jobs_sent, job_before, jobs, ends_block, left_of, is_busy, unsent, hist, entry_of_first, pick_of, entry_of, creates_step, busy_step, instant_step, left_step, unsent_step}
+use Rattle.loft_history.specs.History.{Choice, TakeBy, GiveBy, PickBy, PostBy, ClientBy, choice_of, jobs_sent, job_before, jobs, ends_block, unposted, is_busy, unsent, hist, entry_of_first, pick_of, entry_of, creates_step, busy_step, instant_step, unposted_step, unsent_step}
 use Rattle.loft_history.proofs.HistoryLemmas.{choice_kept, on_if, on_first, on_pick, log-append}
 use Rattle.loft_sense.specs.Heads.{scheduler}
 use Rattle.loft_world.specs.State.{State}
@@ -35,10 +35,10 @@ use Rattle.loft_turns.proofs.RunsOn.{grown, same_hand, IsWork, hand_is, from_non
 -- ---- the worker's own choices
 
 -- a worker with a job in hand picks none
-pub busy_picks_none : (x : Prog) (o : RunOptions) (h : List Entry) (w : ℕ) → IsHand (heads x) true (left_of x o w h) → Moves x o h (PickBy w) false h
-busy_picks_none x o h w block = stays x o h (PickBy w) (none_then (nat_lt w o.workers) (by (left_of x o w h) block.0 block.1))
+pub busy_picks_none : (x : Prog) (o : RunOptions) (h : List Entry) (w : ℕ) → IsHand (heads x) true (unposted x o w h) → Moves x o h (PickBy w) false h
+busy_picks_none x o h w block = stays x o h (PickBy w) (none_then (nat_lt w o.workers) (by (unposted x o w h) block.0 block.1))
   where
-    none_then : (declared : Bool) → pick_of w (left_of x o w h) (jobs h) ≡ None → (if declared then pick_of w (left_of x o w h) (jobs h) else None) ≡ None
+    none_then : (declared : Bool) → pick_of w (unposted x o w h) (jobs h) ≡ None → (if declared then pick_of w (unposted x o w h) (jobs h) else None) ≡ None
     none_then true none = none
     none_then false none = refl
 
@@ -48,9 +48,9 @@ busy_picks_none x o h w block = stays x o h (PickBy w) (none_then (nat_lt w o.wo
 
 -- nothing waits, and so nothing is picked
 pub none_to_pick : (x : Prog) (o : RunOptions) (h : List Entry) (w : ℕ) → slice_get (jobs h) 0 ≡ None → Moves x o h (PickBy w) false h
-none_to_pick x o h w first = stays x o h (PickBy w) (none_then (nat_lt w o.workers) (by (left_of x o w h) (jobs h) first))
+none_to_pick x o h w first = stays x o h (PickBy w) (none_then (nat_lt w o.workers) (by (unposted x o w h) (jobs h) first))
   where
-    none_then : (declared : Bool) → pick_of w (left_of x o w h) (jobs h) ≡ None → (if declared then pick_of w (left_of x o w h) (jobs h) else None) ≡ None
+    none_then : (declared : Bool) → pick_of w (unposted x o w h) (jobs h) ≡ None → (if declared then pick_of w (unposted x o w h) (jobs h) else None) ≡ None
     none_then true none = none
     none_then false none = refl
 
@@ -63,7 +63,7 @@ then_true : {A : Type 0} (declared : Bool) (a b : Option A) → declared ≡ tru
 then_true true a b e = refl
 then_true false a b e = cc
 
-pub pick_entry : (x : Prog) (o : RunOptions) (h : List Entry) (w : ℕ) (t : Thread) → w < o.workers → left_of x o w h ≡ [] → slice_get (jobs h) 0 ≡ Some t → entry_of x o h (PickBy w) ≡ Some (Pick w t)
+pub pick_entry : (x : Prog) (o : RunOptions) (h : List Entry) (w : ℕ) (t : Thread) → w < o.workers → unposted x o w h ≡ [] → slice_get (jobs h) 0 ≡ Some t → entry_of x o h (PickBy w) ≡ Some (Pick w t)
 pick_entry x o h w t declared free first =
     then_true (nat_lt w o.workers) _ None (lt-ltb w o.workers declared)
     ∙ (ap (λ (l : List Sent). pick_of w l (jobs h)) free ∙ by (jobs h) first)
@@ -76,28 +76,28 @@ pick_entry x o h w t declared free first =
         opened None = None
         opened (Some u) = Some (Pick w u)
 
-pub picks : (x : Prog) (o : RunOptions) (h g : List Entry) (w : ℕ) (t : Thread) → w < o.workers → left_of x o w h ≡ [] → slice_get (jobs h) 0 ≡ Some t → g ≡ h ++ Pick w t ∷ [] → Moves x o h (PickBy w) true g
+pub picks : (x : Prog) (o : RunOptions) (h g : List Entry) (w : ℕ) (t : Thread) → w < o.workers → unposted x o w h ≡ [] → slice_get (jobs h) 0 ≡ Some t → g ≡ h ++ Pick w t ∷ [] → Moves x o h (PickBy w) true g
 picks x o h g w t declared free first grows = moved_by x o h (PickBy w) g (Pick w t) (pick_entry x o h w t declared free first) grows
 
 pub picked_hand : (x : Prog) (o : RunOptions) (h : List Entry) (w : ℕ) (t : Thread) → hand_after x o (h ++ Pick w t ∷ []) w ≡ record { left = async x t o.limits.block; busy = true }
 picked_hand x o h w t = same_hand (hand_after x o (h ++ Pick w t ∷ []) w) _ (left_picked x o w h t) (busy_picked w h t)
 
 -- nothing is left to post
-pub none_to_post : (x : Prog) (o : RunOptions) (h : List Entry) (w : ℕ) → left_of x o w h ≡ [] → Moves x o h (PostBy w) false h
+pub none_to_post : (x : Prog) (o : RunOptions) (h : List Entry) (w : ℕ) → unposted x o w h ≡ [] → Moves x o h (PostBy w) false h
 none_to_post x o h w none = stays x o h (PostBy w) (ap (λ (l : List Sent). if nat_lt w o.workers then entry_of_first (Post w) l else None) none ∙ none_then (nat_lt w o.workers))
   where
     none_then : (declared : Bool) → (if declared then entry_of_first (Post w) [] else None) ≡ None
     none_then true = refl
     none_then false = refl
 
-pub post_entry : (x : Prog) (o : RunOptions) (h : List Entry) (w : ℕ) (m : Sent) (left : List Sent) → w < o.workers → left_of x o w h ≡ m ∷ left → entry_of x o h (PostBy w) ≡ Some (Post w m)
+pub post_entry : (x : Prog) (o : RunOptions) (h : List Entry) (w : ℕ) (m : Sent) (left : List Sent) → w < o.workers → unposted x o w h ≡ m ∷ left → entry_of x o h (PostBy w) ≡ Some (Post w m)
 post_entry x o h w m left declared is =
     then_true (nat_lt w o.workers) _ None (lt-ltb w o.workers declared) ∙ ap (λ (l : List Sent). entry_of_first (Post w) l) is
 
-pub posts : (x : Prog) (o : RunOptions) (h g : List Entry) (w : ℕ) (m : Sent) (left : List Sent) → w < o.workers → left_of x o w h ≡ m ∷ left → g ≡ h ++ Post w m ∷ [] → Moves x o h (PostBy w) true g
+pub posts : (x : Prog) (o : RunOptions) (h g : List Entry) (w : ℕ) (m : Sent) (left : List Sent) → w < o.workers → unposted x o w h ≡ m ∷ left → g ≡ h ++ Post w m ∷ [] → Moves x o h (PostBy w) true g
 posts x o h g w m left declared is grows = moved_by x o h (PostBy w) g (Post w m) (post_entry x o h w m left declared is) grows
 
-pub posted_hand : (x : Prog) (o : RunOptions) (h : List Entry) (w : ℕ) (m : Sent) (left : List Sent) → left_of x o w h ≡ m ∷ left
+pub posted_hand : (x : Prog) (o : RunOptions) (h : List Entry) (w : ℕ) (m : Sent) (left : List Sent) → unposted x o w h ≡ m ∷ left
     → hand_after x o (h ++ Post w m ∷ []) w ≡ record { left = left; busy = not (ends_block m.order) }
 posted_hand x o h w m left is = same_hand (hand_after x o (h ++ Post w m ∷ []) w) _ (left_posted x o w h m left is) (busy_posted w h m)
 
@@ -195,12 +195,12 @@ other_hands x o h (Client c sent) w is v other = absurd is
 other_hands x o h (Pick u t) w is v other =
     let else_ : v == u ≡ false = apart v u (λ same. other (same ∙ is)) in
     same_hand (hand_after x o h v) (hand_after x o (h ++ Pick u t ∷ []) v)
-    (sym (fold-append (left_step x o v) [] h (Pick u t ∷ []) ∙ ap (λ (own : Bool). if own then async x t o.limits.block else left_of x o v h) else_))
+    (sym (fold-append (unposted_step x o v) [] h (Pick u t ∷ []) ∙ ap (λ (own : Bool). if own then async x t o.limits.block else unposted x o v h) else_))
     (sym (fold-append (busy_step v) false h (Pick u t ∷ []) ∙ ap (λ (own : Bool). own || is_busy v h) else_))
 other_hands x o h (Post u m) w is v other =
     let else_ : v == u ≡ false = apart v u (λ same. other (same ∙ is)) in
     same_hand (hand_after x o h v) (hand_after x o (h ++ Post u m ∷ []) v)
-    (sym (fold-append (left_step x o v) [] h (Post u m ∷ []) ∙ ap (λ (own : Bool). if own then drop 1 (left_of x o v h) else left_of x o v h) else_))
+    (sym (fold-append (unposted_step x o v) [] h (Post u m ∷ []) ∙ ap (λ (own : Bool). if own then drop 1 (unposted x o v h) else unposted x o v h) else_))
     (sym (fold-append (busy_step v) false h (Post u m ∷ []) ∙ ap (λ (own : Bool). if own then not (ends_block m.order) else is_busy v h) else_))
 
 -- ---- schedulers and clients
@@ -237,14 +237,14 @@ work_clients x h (Post u m) is = record {
 
 -- what is in hand of the worker of an allowed choice
 own_hand : (x : Prog) (o : RunOptions) (h : List Entry) (e : Entry) (w : ℕ) → IsOf w e → entry_of x o h (choice_of e) ≡ Some e
-    → All (λ (t : Thread). IsBlock (heads x) t.id (async x t o.limits.block)) (jobs h) → IsHand (heads x) (is_busy w h) (left_of x o w h)
-    → IsHand (heads x) (is_busy w (h ++ e ∷ [])) (left_of x o w (h ++ e ∷ []))
+    → All (λ (t : Thread). IsBlock (heads x) t.id (async x t o.limits.block)) (jobs h) → IsHand (heads x) (is_busy w h) (unposted x o w h)
+    → IsHand (heads x) (is_busy w (h ++ e ∷ [])) (unposted x o w (h ++ e ∷ []))
 own_hand x o h (Take s batch) w of_w is blocks hand = absurd of_w
 own_hand x o h (Give s sent) w of_w is blocks hand = absurd of_w
 own_hand x o h (Client c sent) w of_w is blocks hand = absurd of_w
 own_hand x o h (Pick u t) w of_w is blocks hand =
-    on_if (nat_lt u o.workers) (pick_of u (left_of x o u h) (jobs h)) (Pick u t) is (λ declared picked.
-    on_pick u (left_of x o u h) (jobs h) (Pick u t) picked (λ free first.
+    on_if (nat_lt u o.workers) (pick_of u (unposted x o u h) (jobs h)) (Pick u t) is (λ declared picked.
+    on_pick u (unposted x o u h) (jobs h) (Pick u t) picked (λ free first.
     on_first (Pick u) (jobs h) (Pick u t) first (λ q rest all same.
     let block : IsBlock (heads x) t.id (async x t o.limits.block) = first_all (λ (r : Thread). IsBlock (heads x) r.id (async x r o.limits.block)) (jobs h) t blocks (ap (λ (l : List Thread). slice_get l 0) all ∙ ap (λ (r : Thread). Some r) (same_thread q same)) in
     subst (λ (r : Hand). IsHand (heads x) r.busy r.left) (sym (subst (λ (k : ℕ). hand_after x o (h ++ Pick u t ∷ []) k ≡ record { left = async x t o.limits.block; busy = true }) of_w (picked_hand x o h u t))) (t.id, block))))
@@ -252,10 +252,10 @@ own_hand x o h (Pick u t) w of_w is blocks hand =
     same_thread : (q : Thread) → Pick u q ≡ Pick u t → q ≡ t
     same_thread q f = cc
 own_hand x o h (Post u m) w of_w is blocks hand =
-    on_if (nat_lt u o.workers) (entry_of_first (Post u) (left_of x o u h)) (Post u m) is (λ declared first.
-    on_first (Post u) (left_of x o u h) (Post u m) first (λ n rest all same.
-    let left : left_of x o u h ≡ m ∷ rest = all ∙ ap (λ (r : Sent). r ∷ rest) (same_sent n same) in
-    let before : IsHand (heads x) (is_busy u h) (left_of x o u h) = subst (λ (k : ℕ). IsHand (heads x) (is_busy k h) (left_of x o k h)) (sym of_w) hand in
+    on_if (nat_lt u o.workers) (entry_of_first (Post u) (unposted x o u h)) (Post u m) is (λ declared first.
+    on_first (Post u) (unposted x o u h) (Post u m) first (λ n rest all same.
+    let left : unposted x o u h ≡ m ∷ rest = all ∙ ap (λ (r : Sent). r ∷ rest) (same_sent n same) in
+    let before : IsHand (heads x) (is_busy u h) (unposted x o u h) = subst (λ (k : ℕ). IsHand (heads x) (is_busy k h) (unposted x o k h)) (sym of_w) hand in
     let block = whole rest (is_busy u h) (subst (IsHand (heads x) (is_busy u h)) left before) in
     subst (λ (r : Hand). IsHand (heads x) r.busy r.left) (sym (subst (λ (k : ℕ). hand_after x o (h ++ Post u m ∷ []) k ≡ record { left = rest; busy = not (ends_block m.order) }) of_w (posted_hand x o h u m rest left))) (hand_posted (heads x) block.0 m rest block.1)))
   where
@@ -292,12 +292,12 @@ is_work w (Client c sent) is = is
 abbrev with_hand : Course → State → ℕ → Hand → Course
 with_hand r w v hand = record { world = w; stations = r.stations; workers = set r.workers v hand; given = r.given }
 
-hands_now : (x : Prog) (o : RunOptions) (h : List Entry) (e : Entry) (w : ℕ) → IsOf w e → IsHand (heads x) (is_busy w (h ++ e ∷ [])) (left_of x o w (h ++ e ∷ []))
-    → ((v : ℕ) → IsHand (heads x) (is_busy v h) (left_of x o v h)) → (v : ℕ) → IsHand (heads x) (is_busy v (h ++ e ∷ [])) (left_of x o v (h ++ e ∷ []))
+hands_now : (x : Prog) (o : RunOptions) (h : List Entry) (e : Entry) (w : ℕ) → IsOf w e → IsHand (heads x) (is_busy w (h ++ e ∷ [])) (unposted x o w (h ++ e ∷ []))
+    → ((v : ℕ) → IsHand (heads x) (is_busy v h) (unposted x o v h)) → (v : ℕ) → IsHand (heads x) (is_busy v (h ++ e ∷ [])) (unposted x o v (h ++ e ∷ []))
 hands_now x o h e w of_w own hands v = by (v == w) refl
   where
-    by : (is : Bool) → v == w ≡ is → IsHand (heads x) (is_busy v (h ++ e ∷ [])) (left_of x o v (h ++ e ∷ []))
-    by true is = subst (λ (k : ℕ). IsHand (heads x) (is_busy k (h ++ e ∷ [])) (left_of x o k (h ++ e ∷ []))) (sym (eqb-true v w is)) own
+    by : (is : Bool) → v == w ≡ is → IsHand (heads x) (is_busy v (h ++ e ∷ [])) (unposted x o v (h ++ e ∷ []))
+    by true is = subst (λ (k : ℕ). IsHand (heads x) (is_busy k (h ++ e ∷ [])) (unposted x o k (h ++ e ∷ []))) (sym (eqb-true v w is)) own
     by false is = hand_is x o h (h ++ e ∷ []) v (other_hands x o h e w of_w v (λ same. not_same is same)) (hands v)
       where
         not_same : v == w ≡ false → v ≡ w → ⊥
@@ -322,7 +322,7 @@ worked_by x o r w v hand c e run can of_v is grows same in_hand =
           (λ k other. subst (λ (g : List Entry). hand_after x o h k ≡ hand_after x o g k) back (other_hands x o h e v of_v k other)) in_hand;
       given = given_same x r w.history run.given (subst (SameClients x h) back clients);
       orders = λ k. orders_same x h w.history k (subst (SameClients x h) back clients) (run.orders k);
-      hands = subst (λ (g : List Entry). (k : ℕ) → IsHand (heads x) (is_busy k g) (left_of x o k g)) back (hands_now x o h e v of_v own run.hands);
+      hands = subst (λ (g : List Entry). (k : ℕ) → IsHand (heads x) (is_busy k g) (unposted x o k g)) back (hands_now x o h e v of_v own run.hands);
     }
 
 not_worked : (x : Prog) (o : RunOptions) (r : Course) (w : State) (v : ℕ) (hand : Hand) → IsRun x o r → w.history ≡ r.world.history → w.heads ≡ r.world.heads → hand ≡ hand_after x o w.history v
@@ -338,7 +338,7 @@ not_worked x o r w v hand run same heads_same in_hand =
           ∙ set_one (hand_after x o h) (hand_after x o w.history) o.workers v hand (λ k other. ap (λ (g : List Entry). hand_after x o g k) back) in_hand;
       given = subst (λ (g : List Entry). r.given ≡ map (gave g) (range_with_len 0 (length (heads x).clients))) back run.given;
       orders = subst (λ (g : List Entry). (k : ℕ) → unsent (heads x) k g ≡ orders_left x k g (gave g k)) back run.orders;
-      hands = subst (λ (g : List Entry). (k : ℕ) → IsHand (heads x) (is_busy k g) (left_of x o k g)) back run.hands;
+      hands = subst (λ (g : List Entry). (k : ℕ) → IsHand (heads x) (is_busy k g) (unposted x o k g)) back run.hands;
     }
 
 pub worked : (x : Prog) (o : RunOptions) (r : Course) (w : State) (v : ℕ) (hand : Hand) (c : Choice) (moved : Bool) → IsRun x o r → CanRun x o → IsTurnOf v c
@@ -355,10 +355,10 @@ worked x o r w v hand c moved run can turn moves same in_hand = by (entry_of x o
 
 -- a worker beyond the last makes no entry
 pub pick_beyond : (x : Prog) (o : RunOptions) (h : List Entry) (w : ℕ) → nat_lt w o.workers ≡ false → Moves x o h (PickBy w) false h
-pick_beyond x o h w beyond = stays x o h (PickBy w) (ap (λ (b : Bool). if b then pick_of w (left_of x o w h) (jobs h) else None) beyond)
+pick_beyond x o h w beyond = stays x o h (PickBy w) (ap (λ (b : Bool). if b then pick_of w (unposted x o w h) (jobs h) else None) beyond)
 
 pub post_beyond : (x : Prog) (o : RunOptions) (h : List Entry) (w : ℕ) → nat_lt w o.workers ≡ false → Moves x o h (PostBy w) false h
-post_beyond x o h w beyond = stays x o h (PostBy w) (ap (λ (b : Bool). if b then entry_of_first (Post w) (left_of x o w h) else None) beyond)
+post_beyond x o h w beyond = stays x o h (PostBy w) (ap (λ (b : Bool). if b then entry_of_first (Post w) (unposted x o w h) else None) beyond)
 
 pub so_many_workers : (x : Prog) (o : RunOptions) (r : Course) → IsRun x o r → length r.workers ≡ o.workers
 so_many_workers x o r run = ap length run.workers ∙ length-map-range_with_len (hand_after x o r.world.history) 0 o.workers

@@ -16,7 +16,7 @@ use Rattle.loft_sense.specs.Machine.{Prog, Code, heads as heads_of, Mach}
 use Rattle.loft_sense.specs.Fits.{Fits}
 use Rattle.loft_sense.specs.Async.{async}
 use Rattle.loft_history.specs.Clients.{outside_of}
-use Rattle.loft_history.specs.History.{Choice, choice_of, hist, entry_of, waiting, jobs, is_open, left_of, is_busy, creates, unsent, replayed}
+use Rattle.loft_history.specs.History.{Choice, choice_of, hist, entry_of, waiting, jobs, is_open, unposted, is_busy, creates, unsent, replayed}
 use Rattle.loft_history.specs.Legal.{of, FitsOne}
 use Rattle.loft_sense.specs.Heads.{scheduler}
 use Rattle.loft_world.specs.State.{State}
@@ -54,7 +54,7 @@ pub record Hand : Type 0 where
 
 -- what the history makes of this worker
 abbrev pub hand_after : Prog → RunOptions → List Entry → ℕ → Hand
-hand_after x o h w = record { left = left_of x o w h; busy = is_busy w h }
+hand_after x o h w = record { left = unposted x o w h; busy = is_busy w h }
 
 -- the hands of the first so many workers
 abbrev pub hands_after : Prog → RunOptions → List Entry → ℕ → List Hand
@@ -85,7 +85,7 @@ pub record IsRun (x : Prog) (o : RunOptions) (c : Course) : Type 0 where
   -- a client has still to give the orders after those that it has given
   pub orders : (k : ℕ) → unsent (heads_of x) k c.world.history ≡ orders_left x k c.world.history (gave c.world.history k)
   -- a worker has a job in hand exactly where something is left of it
-  pub hands : (w : ℕ) → IsHand (heads_of x) (is_busy w c.world.history) (left_of x o w c.world.history)
+  pub hands : (w : ℕ) → IsHand (heads_of x) (is_busy w c.world.history) (unposted x o w c.world.history)
 
 -- the workers of a run are in their range (docs/LANGUAGE.md, "Limits")
 abbrev pub HasWorkers : RunOptions → Type 0

@@ -5,7 +5,7 @@ use Rattle.loft_base.specs.declared.ids.SchedId.{SchedId}
 use Rattle.loft_sense.specs.declared.entry.Entry.{Entry}
 use Rattle.loft_sense.specs.declared.limits.RunOptions.{RunOptions}
 use Rattle.loft_sense.specs.Machine.{Prog, heads}
-use Rattle.loft_history.specs.History.{Choice, TakeBy, PickBy, ClientBy, is_open, jobs, left_of, unsent, replayed, entry_of, HasEnded}
+use Rattle.loft_history.specs.History.{Choice, TakeBy, PickBy, ClientBy, is_open, jobs, unposted, unsent, replayed, entry_of, HasEnded}
 use Rattle.loft_sense.specs.Heads.{scheduler}
 
 -- the instants that the scheduler of this index may still make
@@ -23,7 +23,7 @@ left x o h = sum_by (instants_left x o h) (range_with_len 0 (length (heads x).sc
 -- no scheduler is in an instant, and no worker has a job in hand
 pub record AllRest (x : Prog) (o : RunOptions) (h : List Entry) : Type 0 where
   pub schedulers : (s : SchedId) → is_open s h ≡ false
-  pub workers : (w : ℕ) → left_of x o w h ≡ []
+  pub workers : (w : ℕ) → unposted x o w h ≡ []
 
 -- less is left where one of these choices was allowed; where none was, the history is as before
 abbrev pub Nears : Prog → RunOptions → List Entry → (ℕ → Choice) → ℕ → Bool → List Entry → Type 0

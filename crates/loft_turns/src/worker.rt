@@ -2,7 +2,7 @@
 
 ghost use Rattle.std.specs.Prelude.{◌≡◌, ◌<◌, [], ℕ, false, IfOk, OnOk};
 ghost use Rattle.loft_sense.specs.Machine.{heads as heads_of};
-ghost use Rattle.loft_history.specs.History.{PickBy, PostBy, ends_block, left_of, is_busy};
+ghost use Rattle.loft_history.specs.History.{PickBy, PostBy, ends_block, unposted, is_busy};
 ghost use Rattle.loft_turns.specs.Blocks.{IsHand};
 ghost use Rattle.loft_turns.specs.Course.{Moves, hand_after};
 
@@ -67,7 +67,7 @@ impl<X: Setting, B: BlockEngine> Worker<X, B> {
         requires declared { w < X.options.workers }
         requires hand { self.old ≡ hand_after X.program X.options world.old.history w }
         requires whole { IsHand (heads_of X.program) (is_busy w world.old.history)
-            (left_of X.program X.options w world.old.history) }
+            (unposted X.program X.options w world.old.history) }
         ensures hand { OnOk result
             (self.new ≡ hand_after X.program X.options world.new.history w) }
         ensures moves { IfOk result (λ moved. Moves X.program X.options world.old.history
@@ -95,7 +95,7 @@ impl<X: Setting, B: BlockEngine> Worker<X, B> {
         requires declared { w < X.options.workers }
         requires hand { self.old ≡ hand_after X.program X.options world.old.history w }
         requires whole { IsHand (heads_of X.program) (is_busy w world.old.history)
-            (left_of X.program X.options w world.old.history) }
+            (unposted X.program X.options w world.old.history) }
         ensures hand { OnOk result
             (self.new ≡ hand_after X.program X.options world.new.history w) }
         ensures moves { IfOk result (λ moved. Moves X.program X.options world.old.history

@@ -3,13 +3,13 @@ use Rattle.std.proofs.Common.{◌≡◌, ℕ, ℤ, List, [], ◌∷◌, ◌++◌
 use Rattle.std.specs.Prelude.{reverse}
 use Rattle.std.proofs.lemmas.List.{reverse-append, take_more}
 use Rattle.loft_tree.specs.Resolved.{Body, Empty, Then}
-use Rattle.loft_sense.specs.Tree.{Work, before, counts_in}
+use Rattle.loft_sense.specs.Tree.{Work, body_then, counts_in}
 use Rattle.loft_walk.specs.declared.work.Piece.{Piece}
 use Rattle.loft_walk.specs.declared.work.Piece.TheVariants.{Rest, Again, Turns}
 use Rattle.loft_walk.specs.Pieces.{body_from, piece_before, work_of}
 use Rattle.loft_walk.proofs.Onto.{work_of-push}
 
-counts_before : (b : Body) (w : List Work) → counts_in (before b w) ≡ counts_in w
+counts_before : (b : Body) (w : List Work) → counts_in (body_then b w) ≡ counts_in w
 counts_before Empty w = refl
 counts_before (Then s b) w = counts_before b w
 

@@ -3,7 +3,7 @@ use Rattle.std.proofs.Common.{◌≡◌, ℕ, ◌-◌, ℤ, List, [], ◌∷◌,
 use Rattle.std.proofs.Math.Seq.{drop-cons, take-append_seam, take-length}
 use Rattle.loft_tree.specs.declared.named.NamedStmt.{NamedStmt}
 use Rattle.loft_tree.specs.Resolved.{Step}
-use Rattle.loft_sense.specs.Tree.{Work, before, after_step, after_body, stop_at_step, stop_at, first_some}
+use Rattle.loft_sense.specs.Tree.{Work, body_then, after_step, after_body, stop_at_step, stop_at, first_some}
 use Rattle.loft_walk.specs.declared.work.Piece.{Piece}
 use Rattle.loft_walk.specs.Pieces.{body_from, step_from, piece_before, work_of, IsFound}
 use Rattle.loft_walk.proofs.Onto.{work_of-push}
@@ -40,21 +40,21 @@ module _ (b : List NamedStmt) (i : ℕ) (s : NamedStmt) (within : i < length b) 
   stop_from : stop_at (body_from (drop i b)) k ≡ first_some (stop_at_step (step_from s) k) (stop_at (body_from (drop (i + 1) b)) k)
   stop_from = ap (λ (l : List NamedStmt). stop_at (body_from l) k) cut
 
-  work_from : after_body (body_from (drop i b)) k counts w ≡ first_some (after_step (step_from s) k counts (before (body_from (take (length b - (i + 1)) (drop (i + 1) b))) w)) (after_body (body_from (drop (i + 1) b)) k counts w)
+  work_from : after_body (body_from (drop i b)) k counts w ≡ first_some (after_step (step_from s) k counts (body_then (body_from (take (length b - (i + 1)) (drop (i + 1) b))) w)) (after_body (body_from (drop (i + 1) b)) k counts w)
   work_from =
       ap (λ (l : List NamedStmt). after_body (body_from l) k counts w) cut
-      ∙ ap (λ (l : List NamedStmt). first_some (after_step (step_from s) k counts (before (body_from l) w)) (after_body (body_from (drop (i + 1) b)) k counts w)) (sym (tail_is b (i + 1)))
+      ∙ ap (λ (l : List NamedStmt). first_some (after_step (step_from s) k counts (body_then (body_from l) w)) (after_body (body_from (drop (i + 1) b)) k counts w)) (sym (tail_is b (i + 1)))
 
   -- the stop is in the statement
   pub stop_here : (x : Step) → stop_at_step (step_from s) k ≡ Some x → stop_at (body_from (drop i b)) k ≡ Some x
   stop_here x e = stop_from ∙ ap (λ (o : Option Step). first_some o (stop_at (body_from (drop (i + 1) b)) k)) e
 
-  pub work_here : (v : List Work) → after_step (step_from s) k counts (before (body_from (take (length b - (i + 1)) (drop (i + 1) b))) w) ≡ Some v → after_body (body_from (drop i b)) k counts w ≡ Some v
+  pub work_here : (v : List Work) → after_step (step_from s) k counts (body_then (body_from (take (length b - (i + 1)) (drop (i + 1) b))) w) ≡ Some v → after_body (body_from (drop i b)) k counts w ≡ Some v
   work_here v e = work_from ∙ ap (λ (o : Option (List Work)). first_some o (after_body (body_from (drop (i + 1) b)) k counts w)) e
 
   -- the stop isn't in the statement
   pub stop_later : stop_at_step (step_from s) k ≡ None → stop_at (body_from (drop i b)) k ≡ stop_at (body_from (drop (i + 1) b)) k
   stop_later e = stop_from ∙ ap (λ (o : Option Step). first_some o (stop_at (body_from (drop (i + 1) b)) k)) e
 
-  pub work_later : after_step (step_from s) k counts (before (body_from (take (length b - (i + 1)) (drop (i + 1) b))) w) ≡ None → after_body (body_from (drop i b)) k counts w ≡ after_body (body_from (drop (i + 1) b)) k counts w
+  pub work_later : after_step (step_from s) k counts (body_then (body_from (take (length b - (i + 1)) (drop (i + 1) b))) w) ≡ None → after_body (body_from (drop i b)) k counts w ≡ after_body (body_from (drop (i + 1) b)) k counts w
   work_later e = work_from ∙ ap (λ (o : Option (List Work)). first_some o (after_body (body_from (drop (i + 1) b)) k counts w)) e

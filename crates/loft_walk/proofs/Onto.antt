@@ -1,7 +1,7 @@
 -- Work in pieces.
 use Rattle.std.proofs.Common.{◌≡◌, List, [], ◌∷◌, ◌++◌, refl, length, ◌∙◌, Bor, arith}
 use Rattle.loft_tree.specs.declared.named.NamedStmt.{NamedStmt}
-use Rattle.loft_sense.specs.Tree.{Work, before}
+use Rattle.loft_sense.specs.Tree.{Work, body_then}
 use Rattle.loft_walk.specs.declared.work.Piece.{Piece}
 use Rattle.loft_walk.specs.declared.work.Piece.TheVariants.{Rest}
 use Rattle.loft_walk.specs.Pieces.{body_from, piece_before, work_onto, work_of}
@@ -13,7 +13,7 @@ work_onto-push (q ∷ ps) p w = work_onto-push ps p (piece_before q w)
 pub work_of-push : (ps : List Piece) (p : Piece) → work_of (ps ++ p ∷ []) ≡ piece_before p (work_of ps)
 work_of-push ps p = work_onto-push ps p []
 
-nothing_before : (b : List NamedStmt) (w : List Work) → length b ≡ 0 → before (body_from b) w ≡ w
+nothing_before : (b : List NamedStmt) (w : List Work) → length b ≡ 0 → body_then (body_from b) w ≡ w
 nothing_before [] w e = refl
 nothing_before (s ∷ b) w e = absurd (omega arith)
 

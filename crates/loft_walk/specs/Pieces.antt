@@ -3,7 +3,7 @@ use Rattle.std.specs.Prelude.{◌≡◌, ℕ, zero, suc, ℤ, List, [], ◌∷�
 use Rattle.loft_tree.specs.declared.named.NamedStmt.{NamedStmt}
 use Rattle.loft_tree.specs.NamedView.{term_of, statement_of, statements_of}
 use Rattle.loft_tree.specs.Resolved.{Pause, Step, Body, exp_of, step_of, body_of}
-use Rattle.loft_sense.specs.Tree.{Work, Begin, Again, Turns, before, work_or_none, after_body, stop_at, pause_of}
+use Rattle.loft_sense.specs.Tree.{Work, Begin, Again, Turns, body_then, work_or_none, after_body, stop_at, pause_of_step}
 use Rattle.std.specs.Borrow.{Bor}
 use Rattle.loft_walk.specs.declared.work.Piece.{Piece}
 use Rattle.loft_walk.specs.declared.work.Piece.TheVariants as piece
@@ -19,7 +19,7 @@ step_from s = step_of (statement_of s)
 
 -- a piece, and then the rest
 abbrev pub piece_before : Piece → List Work → List Work
-piece_before (piece.Rest body) w = before (body_from body.now) w
+piece_before (piece.Rest body) w = body_then (body_from body.now) w
 piece_before (piece.Again test body) w = Again (exp_of (term_of test.now)) (body_from body.now) ∷ w
 piece_before (piece.Turns count body) w = Turns count (body_from body.now) ∷ w
 
@@ -48,9 +48,9 @@ IsFound None stop after old new = (stop ≡ None) × (after ≡ None) × (new �
 
 -- what is left of a body after stop k, and what that stop waits for; the begin counts as stop 0
 abbrev pub work_after : Body → ℕ → List ℤ → List Work
-work_after body zero counts = before body []
+work_after body zero counts = body_then body []
 work_after body (suc k) counts = work_or_none (after_body body (suc k) counts [])
 
 abbrev pub pause_after : Body → ℕ → Option Pause
 pause_after body zero = None
-pause_after body (suc k) = pause_of (stop_at body (suc k))
+pause_after body (suc k) = pause_of_step (stop_at body (suc k))

@@ -7,7 +7,7 @@ ghost use Rattle.loft_tree.specs.Resolved.{Resolved, resolved_of, target_of as v
 ghost use Rattle.loft_sense.specs.Around.{Beside};
 ghost use Rattle.loft_sense.specs.Run.{active_of, begun_frame, frame_of};
 ghost use Rattle.loft_sense.specs.Statements.{target_of};
-ghost use Rattle.loft_sense.specs.Tree.{tree, body_at, counts_in as counts_of, pause_of, pause_at};
+ghost use Rattle.loft_sense.specs.Tree.{tree, body_at, counts_in as counts_of, pause_of_step, pause_at};
 ghost use Rattle.loft_walk.specs.Pieces.{work_of, work_after, pause_after, body_from, step_from};
 
 use crate::resume::find_in_body;
@@ -38,7 +38,7 @@ pub fn body(program: &NamedProgram, id: ModuleId) -> &[NamedStmt]
 /// The variable that a stop sets, where it is a `get`.
 #[tactic(auto, using(loft_tree::proofs::NamedTrees::named_statements))]
 fn target_of(stop: &NamedStmt) -> Option<Target>
-    ensures { option_map variable_of result ≡ target_of (pause_of (Some (step_from stop.now))) }
+    ensures { option_map variable_of result ≡ target_of (pause_of_step (Some (step_from stop.now))) }
 {
     match stop {
         NamedStmt::Get { target, .. } => Some(*target),

@@ -1,6 +1,6 @@
 use Rattle.std.proofs.Common.{◌<◌, ◌+◌, Bool, true, length, sym, subst}
 use Rattle.std.specs.Prelude.{if◌then◌else◌}
-use Rattle.loft_history.specs.History.{PickBy, left_of}
+use Rattle.loft_history.specs.History.{PickBy, unposted}
 use Rattle.loft_turns.specs.Course.{Moves}
 use Rattle.loft_turns.proofs.JobLemmas.{picked_one, posted_one}
 use Rattle.loft_turns.proofs.course.Course.job.Goals as goal
@@ -23,7 +23,7 @@ posts-smaller g c =
     let last = c.post.new.self.world.history in
     let moved = c.in_ok-goes_on.goes_on in
     let posted = posted_one x o start h last c.args.w moved c.posts.invariant.posting (c.posts.invariant.run.hands c.args.w) c.in_ok-goes_on.ensures.moves in
-    subst (λ (b : Bool). length (left_of x o c.args.w last) + (if moved then 1 else 0) < length (left_of x o c.args.w h) + (if b then 1 else 0)) (sym c.posts-test.true) posted.less
+    subst (λ (b : Bool). length (unposted x o c.args.w last) + (if moved then 1 else 0) < length (unposted x o c.args.w h) + (if b then 1 else 0)) (sym c.posts-test.true) posted.less
 
 pub posts-preserved : goal.posts-preserved
 posts-preserved g c =

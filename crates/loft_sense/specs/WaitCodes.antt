@@ -34,13 +34,13 @@ wait_sets_code wait.Halt = false
 wait_sets_code w = true
 
 -- the number left in a wait, where it has one
-abbrev pub left_of : Wait → Option ℤ
-left_of (wait.Coop left) = Some left
-left_of (wait.Events events left) = left
-left_of (wait.Join thread left) = left
-left_of w = None
+abbrev pub number_left : Wait → Option ℤ
+number_left (wait.Coop left) = Some left
+number_left (wait.Events events left) = left
+number_left (wait.Join thread left) = left
+number_left w = None
 
 -- a wait that only what it waits for can end in this instant: it isn't marked, and where it has a number, an instant is left
 pub record IsPending (w : Wait) : Type 0 where
   pub unmarked : w ≢ wait.Next
-  pub instants : (n : ℤ) → left_of w ≡ Some n → pos 0 <ℤ n
+  pub instants : (n : ℤ) → number_left w ≡ Some n → pos 0 <ℤ n
