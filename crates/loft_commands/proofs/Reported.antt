@@ -1,6 +1,6 @@
 -- From a run to the promise of its report.
 use Rattle.std.proofs.Common.{◌≡◌, ℕ, List, [], ◌∷◌, ◌++◌, map, refl, sym, ◌∙◌, ap, subst, append_assoc}
-use Rattle.std.specs.Prelude.{◌↔◌}
+use Rattle.std.specs.Prelude.{◌↔◌, Ok}
 use Rattle.loft_tree.specs.declared.heads.Heads.{Heads}
 use Rattle.loft_sense.specs.declared.entry.Entry.{Entry}
 use Rattle.loft_sense.specs.declared.limits.RunOptions.{RunOptions}
@@ -11,7 +11,6 @@ use Rattle.loft_history.specs.History.{Choice, choice_of, hist, HasEnded}
 use Rattle.loft_history.specs.Legal.{IsLegal}
 use Rattle.loft_sense.specs.Lines.{text_of}
 use Rattle.loft_history.specs.Report.{head_lines, report}
-use Rattle.loft_history.proofs.LegalLemmas.{made_is_legal}
 use Rattle.loft_world.specs.declared.results.Finished.{Finished}
 use Rattle.loft_world.specs.Replay.{IsReplayOf}
 use Rattle.loft_turns.specs.Running.{IsWholeRun}
@@ -27,25 +26,29 @@ abbrev pub IsTold : Type 0
 IsTold = (x : Prog) (o : RunOptions) (es : List Entry) (notes : List (List InstantNote)) (finals : List FinalState) → IsReplayOf x o.limits es notes finals
     → world_report (heads x) o es notes finals ≡ report x o es
 
+-- the history of a list of choices is legal
+abbrev pub AreLegal : Type 0
+AreLegal = (x : Prog) (o : RunOptions) (choices : List Choice) (h : List Entry) → hist x o choices ≡ Ok h → IsLegal x o h
+
 -- what is written of a whole run
 abbrev pub text_of_run : Heads → RunOptions → Finished → List ℕ
 text_of_run h o run = world_report h o run.world.history run.notes.of run.finals.of
 
 -- the report of a whole run keeps the promise
-promised : (x : Prog) (o : RunOptions) (run : Finished) → IsTold → IsWholeRun x o run → IsReport x o (text_of_run (heads x) o run)
-promised x o run told whole = record {
+promised : (x : Prog) (o : RunOptions) (run : Finished) → IsTold → AreLegal → IsWholeRun x o run → IsReport x o (text_of_run (heads x) o run)
+promised x o run told made_legal whole = record {
   choices = map choice_of run.world.history;
   history = run.world.history;
   named = (_, text_of-append (head_lines (heads x) o (map choice_of run.world.history)) _);
   made = whole.history;
-  legal = made_is_legal x o (map choice_of run.world.history) run.world.history whole.history;
+  legal = made_legal x o (map choice_of run.world.history) run.world.history whole.history;
   whole = told x o run.world.history run.notes.of run.finals.of whole.replay;
   ended = whole.ended;
 }
 
 -- what is written of it is a report of x, where these are its heads
-pub written_report : (x : Prog) (o : RunOptions) (run : Finished) (h : Heads) → IsTold → h ≡ heads x → IsWholeRun x o run → IsReport x o (text_of_run h o run)
-written_report x o run h told declared is = subst (λ (q : Heads). IsReport x o (text_of_run q o run)) (sym declared) (promised x o run told is)
+pub written_report : (x : Prog) (o : RunOptions) (run : Finished) (h : Heads) → IsTold → AreLegal → h ≡ heads x → IsWholeRun x o run → IsReport x o (text_of_run h o run)
+written_report x o run h told made_legal declared is = subst (λ (q : Heads). IsReport x o (text_of_run q o run)) (sym declared) (promised x o run told made_legal is)
 
 -- nothing that is told of a run tells whether x or y was run
 pub record ToldAlike (x y : Prog) : Type 0 where

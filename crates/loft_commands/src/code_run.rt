@@ -11,6 +11,7 @@ ghost use Rattle.loft_commands.specs.Options.{options_of};
 
 use loft_base::{Gate, NoMemory, Sink, WriteError};
 use loft_code::Code;
+use loft_history::made_histories_are_legal;
 use loft_log::{reports_of_worlds_are_of_histories, write_report};
 use loft_refusal::Stopped;
 use loft_run::run_whole;
@@ -88,6 +89,7 @@ pub fn run_code<R: Threads + Wait + Sync, S: Sink, G: Gate>(
     ensures never_falls { S.faults sink.old ≤ S.faults sink.new }
 {
     reports_of_worlds_are_of_histories();
+    made_histories_are_legal();
     let options = RunOptions { limits: l, workers };
     let run = run_whole(rt, alloc, c, &options, gate)?;
     write_report(

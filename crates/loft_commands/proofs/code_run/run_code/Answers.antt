@@ -20,7 +20,7 @@ returns-clause-report g c =
     let o = options_of c.args.l c.args.workers in
     let declared : c.program.result.now.heads ≡ heads x = ap (λ (q : CodeProgram). q.heads) c.program.ensures.program in
     appends {P = IsReport x o} (text_of_run c.program.result.now.heads o c.in_ok-run.run') c.in_ok-write_report.ensures.ok
-    (written_report x o c.in_ok-run.run' c.program.result.now.heads c.reports_of_worlds_are_of_histories.ensures declared c.in_ok-run.ensures)
+    (written_report x o c.in_ok-run.run' c.program.result.now.heads c.reports_of_worlds_are_of_histories.ensures c.made_histories_are_legal.ensures.legal declared c.in_ok-run.ensures)
 
 pub returns-in_err-write_report-clause-failed : goal.returns-in_err-write_report-clause-failed
 returns-in_err-write_report-clause-failed g c =
@@ -29,4 +29,4 @@ returns-in_err-write_report-clause-failed g c =
     let declared : c.program.result.now.heads ≡ heads x = ap (λ (q : CodeProgram). q.heads) c.program.ensures.program in
     err_holds c.from_residual-in_err-write_report.result
     (begun (IsReport x o) (text_of_run c.program.result.now.heads o c.in_ok-run.run') c.in_err-write_report.ensures.failed
-    (written_report x o c.in_ok-run.run' c.program.result.now.heads c.reports_of_worlds_are_of_histories.ensures declared c.in_ok-run.ensures))
+    (written_report x o c.in_ok-run.run' c.program.result.now.heads c.reports_of_worlds_are_of_histories.ensures c.made_histories_are_legal.ensures.legal declared c.in_ok-run.ensures))
