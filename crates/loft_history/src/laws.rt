@@ -21,6 +21,13 @@ ghost use Rattle.loft_history.specs.History.{Choice, choice_of, entry_of, hist, 
 ghost use Rattle.loft_history.specs.Clients.{outside_of};
 ghost use Rattle.loft_history.specs.Legal.{actor_of, same_actor, of, AtEach, IsFaithful, IsNextOf};
 ghost use Rattle.loft_history.specs.Legal.{IsLegal, HasNoCallers, ComesNext};
+ghost use Rattle.std.specs.Prelude.{true, false};
+ghost use Rattle.loft_base.specs.declared.ids.ThreadId.{ThreadId};
+ghost use Rattle.loft_sense.specs.declared.order.End.{End};
+ghost use Rattle.loft_sense.specs.Heads.{same_scheduler};
+ghost use Rattle.loft_sense.specs.Apply.{tell_end};
+ghost use Rattle.loft_history.specs.History.{is_addressed};
+ghost use Rattle.loft_tree.specs.declared.heads.Place.TheVariants as place;
 
 /// The history that choices make is legal, no caller has an entry in it, and its choices are these:
 /// where every choice is allowed, each batch and each job is what waited, each scheduler takes and
@@ -93,4 +100,16 @@ pub fn blocks_tell_what_is_used()
     ensures gone { (x : Prog) (limits : Limits) (s : SchedId) (batches : List (List Order))
         → let r = replay x limits s batches in
         r.machine.tally.gone ≡ capped (length (jobs_sent (flat_map (λ n. n.sent) r.notes))) }
+{}
+
+/// Where a thread ends at a scheduler, this one knows it and is sent no order of it (`own`), and each
+/// other one is told (`others`); where it ends without being linked, each scheduler is told
+/// (`unlinked`).
+pub fn ends_are_told_elsewhere()
+    ensures own { (s : SchedId) (t : ThreadId) (end : End)
+        → is_addressed s (tell_end (place.Sched s) t end).to ≡ false }
+    ensures others { (s q : SchedId) (t : ThreadId) (end : End) → same_scheduler q s ≡ false
+        → is_addressed q (tell_end (place.Sched s) t end).to ≡ true }
+    ensures unlinked { (q : SchedId) (t : ThreadId) (end : End)
+        → is_addressed q (tell_end place.Unlinked t end).to ≡ true }
 {}

@@ -5,6 +5,6 @@
 mod laws;
 
 pub use laws::{
-    blocks_tell_what_is_used, ended_histories_go_no_further, legal_histories_are_made,
+    ends_are_told_elsewhere, blocks_tell_what_is_used, ended_histories_go_no_further, legal_histories_are_made,
     legal_histories_grow_by_entries, made_histories_are_legal, own_entries_tell, own_lists_grow,
 };
