@@ -5,3 +5,4 @@ pub mod MemSink
 pub mod Lists
 pub mod Streams
 pub mod Writing
+pub mod Options

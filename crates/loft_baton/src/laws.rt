@@ -4,7 +4,7 @@ ghost use Rattle.std.specs.Prelude.{◌≡◌, Some, true};
 ghost use Rattle.std.specs.List.{All};
 ghost use Rattle.loft_code.specs.View.{automata_of};
 ghost use Rattle.loft_code.specs.declared.raw.CodeProgram.{CodeProgram};
-ghost use Rattle.loft_sense.specs.declared.limits.RunOptions.{RunOptions};
+ghost use Rattle.loft_base.specs.declared.options.RunOptions.{RunOptions};
 ghost use Rattle.loft_sense.specs.Machine.{Code};
 ghost use Rattle.loft_history.specs.Legal.{actor_of, IsRouted, IsLegal};
 ghost use Rattle.loft_world.specs.State.{State};

@@ -7,7 +7,7 @@ use Rattle.loft_base.specs.declared.ids.ThreadId.{ThreadId}
 use Rattle.loft_tree.specs.NamedTree.{NamedProgram}
 use Rattle.loft_tree.specs.NamedFits.{NamedFits}
 use Rattle.loft_tree.specs.Resolved.{Resolved, resolved_of}
-use Rattle.loft_sense.specs.declared.limits.Limits.{Limits}
+use Rattle.loft_base.specs.declared.options.Limits.{Limits}
 use Rattle.loft_sense.specs.declared.order.Order.{Order}
 use Rattle.loft_sense.specs.declared.order.Order.TheVariants as order
 use Rattle.loft_sense.specs.declared.order.Sent.{Sent}

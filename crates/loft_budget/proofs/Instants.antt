@@ -11,7 +11,7 @@ use Rattle.loft_tree.specs.declared.heads.Place.{Place}
 use Rattle.loft_tree.specs.declared.heads.Place.TheVariants.{Sched}
 use Rattle.loft_tree.specs.Fits.{Each}
 use Rattle.loft_tree.specs.Resolved.{Resolved}
-use Rattle.loft_sense.specs.declared.limits.Limits.{Limits}
+use Rattle.loft_base.specs.declared.options.Limits.{Limits}
 use Rattle.loft_sense.specs.declared.limits.TheConstants.{MAX_LINKED}
 use Rattle.loft_sense.specs.declared.note.Act.{Act}
 use Rattle.loft_sense.specs.declared.note.Act.TheVariants as act

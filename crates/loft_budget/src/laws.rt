@@ -8,7 +8,7 @@ ghost use Rattle.loft_tree.specs.NamedTree.{NamedProgram};
 ghost use Rattle.loft_tree.specs.Resolved.{Resolved, resolved_of};
 ghost use Rattle.loft_sense.specs.declared.entry.Entry.{Entry};
 ghost use Rattle.loft_sense.specs.declared.entry.Entry.TheVariants.{Pick};
-ghost use Rattle.loft_sense.specs.declared.limits.RunOptions.{RunOptions};
+ghost use Rattle.loft_base.specs.declared.options.RunOptions.{RunOptions};
 ghost use Rattle.loft_sense.specs.declared.order.Order.{Order};
 ghost use Rattle.loft_sense.specs.declared.thread.Thread.{Thread};
 ghost use Rattle.loft_sense.specs.Machine.{Tree};

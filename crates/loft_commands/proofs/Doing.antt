@@ -6,7 +6,7 @@ use Rattle.loft_refusal.specs.declared.refusal.Refusal.{Refusal}
 use Rattle.loft_refusal.specs.declared.refusal.Refusal.TheVariants as refusal
 use Rattle.loft_refusal.specs.declared.refusal.Stopped.{Stopped}
 use Rattle.loft_refusal.specs.declared.refusal.Stopped.TheVariants as stopped
-use Rattle.loft_sense.specs.declared.limits.RunOptions.{RunOptions}
+use Rattle.loft_base.specs.declared.options.RunOptions.{RunOptions}
 use Rattle.loft_words.specs.Command.{Command, Run, Exec, Show, Check, Compile, Bound}
 use Rattle.loft_refusal.specs.Input.{Input, ASource, AListing}
 use Rattle.loft_commands.specs.Written.{Appends, IsPrefix}

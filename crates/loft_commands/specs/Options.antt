@@ -1,7 +1,7 @@
 -- The options of a run of code.
 use Rattle.std.specs.Prelude.{ℕ}
-use Rattle.loft_sense.specs.declared.limits.Limits.{Limits}
-use Rattle.loft_sense.specs.declared.limits.RunOptions.{RunOptions}
+use Rattle.loft_base.specs.declared.options.Limits.{Limits}
+use Rattle.loft_base.specs.declared.options.RunOptions.{RunOptions}
 
 -- these limits, and so many workers
 abbrev pub options_of : Limits → ℕ → RunOptions

@@ -5,7 +5,7 @@ use Rattle.loft_tree.specs.Source.{Source}
 use Rattle.loft_tree.specs.Resolved.{resolved_of}
 use Rattle.loft_numbers.specs.Numbers.{numbered}
 use Rattle.loft_show.specs.Canon.{Canon}
-use Rattle.loft_sense.specs.declared.limits.RunOptions.{RunOptions}
+use Rattle.loft_base.specs.declared.options.RunOptions.{RunOptions}
 use Rattle.loft_code.specs.Operations.{Automata}
 use Rattle.loft_sense.specs.Machine.{Prog, Tree, Code, heads}
 use Rattle.loft_sense.specs.declared.entry.Entry.{Entry}

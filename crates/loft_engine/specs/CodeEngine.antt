@@ -2,7 +2,7 @@
 use Rattle.std.specs.Prelude.{Bool, is_none}
 use Rattle.loft_base.specs.declared.ids.SchedId.{SchedId}
 use Rattle.loft_code.specs.View.{automata_of}
-use Rattle.loft_sense.specs.declared.limits.Limits.{Limits}
+use Rattle.loft_base.specs.declared.options.Limits.{Limits}
 use Rattle.loft_sense.specs.Machine.{Prog, Code, Mach}
 use Rattle.loft_instant.specs.States as state
 use Rattle.loft_engine.specs.declared.engine.CodeEngine.{CodeEngine}

@@ -3,13 +3,13 @@
 ghost use Rattle.std.specs.Prelude.{◌≡◌, false, IfOk};
 ghost use Rattle.loft_code.specs.View.{automata_of};
 ghost use Rattle.loft_sense.specs.Machine.{Code as ByCode};
-ghost use Rattle.loft_sense.specs.Rest.{IsInRange};
+ghost use Rattle.loft_base.specs.Options.{IsInRange};
 
 use crate::stepper::Stepper;
-use loft_base::{NoMemory, SchedId};
+use loft_base::{Limits, NoMemory, SchedId};
 use loft_code::Code;
 use loft_instant::InstantEngine;
-use loft_sense::{Engine, FinalState, InstantNote, Limits, Orders};
+use loft_sense::{Engine, FinalState, InstantNote, Orders};
 use std::alloc::Global;
 
 /// The engine that steps through valid code: an instant changes what the definitions change, and after a failed

@@ -3,8 +3,8 @@
 ghost use Rattle.std.specs.Prelude.{◌≡◌, ℕ, List, Some, IsTrue, IsErrOf, OnOk, IfErr};
 ghost use Rattle.loft_base.specs.Outside.{appended};
 ghost use Rattle.loft_tree.specs.ProgramView.{program_of};
-ghost use Rattle.loft_sense.specs.declared.limits.RunOptions.{RunOptions};
-ghost use Rattle.loft_words.specs.Ranges.{AreInRange};
+ghost use Rattle.loft_base.specs.declared.options.RunOptions.{RunOptions};
+ghost use Rattle.loft_base.specs.Options.{AreInRange};
 ghost use Rattle.loft_words.specs.Words.{words_of};
 ghost use Rattle.loft_follow.specs.Words.{Asks};
 ghost use Rattle.loft_follow.specs.Answer.{Appends, IsReportOf, IsStoppedAt, IsReportFor, CanStopAt, refusal_line};
@@ -13,11 +13,10 @@ use crate::choices::read_choices;
 use crate::failure::Failure;
 use crate::source::read_source;
 use crate::words::read_request;
-use loft_base::{Files, Sink};
+use loft_base::{Files, RunOptions, Sink};
 use loft_log::{Choices, reports_of_worlds_are_of_histories, write_report};
 use loft_place::Placed;
 use loft_replay::follow;
-use loft_sense::RunOptions;
 use std::alloc::Global;
 
 /// Follows choices of a placed program, and writes the report of the history that they make.

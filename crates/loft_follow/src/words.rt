@@ -1,12 +1,12 @@
 //! What the words after the program's name ask for.
 
 ghost use Rattle.std.specs.Prelude.{ℕ, List, IfSome, IsSome};
-ghost use Rattle.loft_sense.specs.declared.limits.RunOptions.{RunOptions};
-ghost use Rattle.loft_words.specs.Ranges.{AreInRange};
+ghost use Rattle.loft_base.specs.declared.options.RunOptions.{RunOptions};
+ghost use Rattle.loft_base.specs.Options.{AreInRange};
 ghost use Rattle.loft_words.specs.Words.{words_of};
 ghost use Rattle.loft_follow.specs.Words.{Asks};
 
-use loft_sense::RunOptions;
+use loft_base::RunOptions;
 use loft_words::{Command, read_words};
 
 /// A file of choices and the file of a source, and the options with which they are followed.

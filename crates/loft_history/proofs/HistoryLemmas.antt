@@ -13,7 +13,7 @@ use Rattle.loft_tree.specs.declared.heads.Heads.{Heads}
 use Rattle.loft_sense.specs.declared.order.Sent.{Sent}
 use Rattle.loft_sense.specs.declared.thread.Thread.{Thread}
 use Rattle.loft_sense.specs.declared.note.InstantNote.{InstantNote}
-use Rattle.loft_sense.specs.declared.limits.RunOptions.{RunOptions}
+use Rattle.loft_base.specs.declared.options.RunOptions.{RunOptions}
 use Rattle.loft_sense.specs.Heads.{same_scheduler}
 use Rattle.loft_sense.specs.Machine.{Prog, heads}
 use Rattle.loft_history.specs.Clients.{orders_from, orders_or_none, outside_of}

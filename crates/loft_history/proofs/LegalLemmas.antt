@@ -9,7 +9,7 @@ use Rattle.loft_sense.specs.declared.entry.Actor.{Actor}
 use Rattle.loft_sense.specs.declared.entry.Actor.TheVariants as actor
 use Rattle.loft_sense.specs.declared.entry.Entry.{Entry}
 use Rattle.loft_sense.specs.declared.entry.Entry.TheVariants.{Take, Give, Pick, Post, Client}
-use Rattle.loft_sense.specs.declared.limits.RunOptions.{RunOptions}
+use Rattle.loft_base.specs.declared.options.RunOptions.{RunOptions}
 use Rattle.loft_sense.specs.Machine.{Prog, heads}
 use Rattle.loft_history.specs.History.{Choice, TakeBy, GiveBy, PickBy, PostBy, ClientBy, choice_of, is_open, waiting, jobs, unposted, unsent, replayed, has_turn, sent_last, entry_of_first, pick_of, entry_of, hist_on, hist}
 use Rattle.loft_history.specs.Legal.{actor_of, same_actor, of, IsFirst, TakesDue, IsFaithful, IsDeclared, IsLegal, IsNoCaller, HasNoCallers, IsCallersEntry, ComesNext, IsNextOf}

@@ -8,8 +8,8 @@ use Rattle.loft_tree.specs.declared.heads.Heads.{Heads}
 use Rattle.loft_sense.specs.declared.order.Order.{Order}
 use Rattle.loft_sense.specs.declared.note.Standing.{Standing}
 use Rattle.loft_sense.specs.declared.note.InstantNote.{InstantNote}
-use Rattle.loft_sense.specs.declared.limits.Limits.{Limits}
-use Rattle.loft_sense.specs.declared.limits.RunOptions.{RunOptions}
+use Rattle.loft_base.specs.declared.options.Limits.{Limits}
+use Rattle.loft_base.specs.declared.options.RunOptions.{RunOptions}
 use Rattle.loft_sense.specs.Machine.{Prog, heads}
 use Rattle.loft_sense.specs.Instant.{Replayed}
 use Rattle.loft_sense.specs.declared.entry.Entry.{Entry}

@@ -2,7 +2,7 @@
 use Rattle.std.proofs.Common.{◌≡◌, ◌+◌, List, ◌++◌, map, ap, ◌∙◌, append_assoc, Result, Ok, Err, IfOk}
 use Rattle.std.specs.Prelude.{filter}
 use Rattle.loft_tree.specs.declared.heads.Place.TheVariants.{Sched}
-use Rattle.loft_sense.specs.declared.limits.Limits.{Limits}
+use Rattle.loft_base.specs.declared.options.Limits.{Limits}
 use Rattle.loft_sense.specs.declared.note.Change.{Change}
 use Rattle.loft_sense.specs.declared.note.InstantNote.{InstantNote}
 use Rattle.loft_sense.specs.declared.note.Standing.{Standing}

@@ -2,16 +2,16 @@
 
 ghost use Rattle.std.specs.Prelude.{◌≡◌, ◌≤◌, false, is_none, IfOk, Some};
 ghost use Rattle.loft_sense.specs.Machine.{empty};
-ghost use Rattle.loft_sense.specs.Rest.{IsInRange};
+ghost use Rattle.loft_base.specs.Options.{IsInRange};
 ghost use Rattle.loft_instant.specs.declared.instant.State.{State as StateOf};
 ghost use Rattle.loft_instant.specs.States.{machine_of, IsReady};
 
 use crate::instant::{Setting, State};
 use crate::rest::{all_rest, standings};
 use crate::shared::own_of;
-use loft_base::{NoMemory, SchedId, Sequence};
+use loft_base::{Limits, NoMemory, SchedId, Sequence};
 use loft_passes::Interpreter;
-use loft_sense::{Engine, FinalState, InstantNote, Limits, Orders};
+use loft_sense::{Engine, FinalState, InstantNote, Orders};
 use std::alloc::Global;
 
 /// The engine of one scheduler: an instant changes what the definitions change, and after a failed allocation it makes no

@@ -15,11 +15,11 @@ use crate::batch::Batch;
 use crate::shared::{changes, keep_values, shared_values};
 use crate::tally::{first_tally, tally_after};
 use crate::told::tell_all;
-use loft_base::{NoMemory, SchedId, Sequence, SharedId, ThreadId};
+use loft_base::{Limits, NoMemory, SchedId, Sequence, SharedId, ThreadId};
 use loft_board::Board;
 use loft_effect::Around;
 use loft_passes::{Interpreter, Runner, begin_all, close_all, passes};
-use loft_sense::{Changes, InstantNote, Limits, Numbers, Order, Orders, Sents, Tally, Threads};
+use loft_sense::{Changes, InstantNote, Numbers, Order, Orders, Sents, Tally, Threads};
 use loft_tree::{Heads, Place};
 use std::alloc::Global;
 

@@ -4,7 +4,7 @@ use Rattle.std.specs.List.{flat_map}
 use Rattle.loft_base.specs.declared.ids.SchedId.{SchedId}
 use Rattle.loft_tree.specs.declared.heads.Heads.{Heads}
 use Rattle.loft_sense.specs.declared.entry.Entry.{Entry}
-use Rattle.loft_sense.specs.declared.limits.RunOptions.{RunOptions}
+use Rattle.loft_base.specs.declared.options.RunOptions.{RunOptions}
 use Rattle.loft_sense.specs.declared.note.FinalState.{FinalState}
 use Rattle.loft_sense.specs.declared.note.InstantNote.{InstantNote}
 use Rattle.loft_history.specs.History.{choice_of, log, waiting}

@@ -4,7 +4,7 @@ ghost use Rattle.std.specs.Prelude.{◌≡◌, List};
 ghost use Rattle.loft_sense.specs.declared.entry.Entry.{Entry};
 ghost use Rattle.loft_sense.specs.declared.note.InstantNote.{InstantNote};
 ghost use Rattle.loft_sense.specs.declared.note.FinalState.{FinalState};
-ghost use Rattle.loft_sense.specs.declared.limits.RunOptions.{RunOptions};
+ghost use Rattle.loft_base.specs.declared.options.RunOptions.{RunOptions};
 ghost use Rattle.loft_sense.specs.Machine.{Prog, heads};
 ghost use Rattle.loft_history.specs.Report.{report};
 ghost use Rattle.loft_world.specs.Replay.{IsReplayOf};

@@ -21,9 +21,9 @@ use self::lines::{
     make_line, make_number_line, make_scheduler_line, make_standing_line, make_text_line,
     make_value_line,
 };
-use loft_base::{NoMemory, SchedId, Sink, WriteError, write_piece};
+use loft_base::{NoMemory, RunOptions, SchedId, Sink, WriteError, write_piece};
 use loft_instant_text::InOneLine;
-use loft_sense::{FinalState, InstantNote, RunOptions, Standing};
+use loft_sense::{FinalState, InstantNote, Standing};
 use loft_text::LineBuffer;
 use loft_tree::Heads;
 use loft_world::{Finals, NoteList, Notes, World};

@@ -10,7 +10,7 @@ use Rattle.loft_base.specs.declared.ids.ThreadId.{ThreadId}
 use Rattle.loft_tree.specs.declared.heads.Start.{Start}
 use Rattle.loft_sense.specs.declared.entry.Entry.{Entry}
 use Rattle.loft_sense.specs.declared.entry.Entry.TheVariants.{Take, Give, Pick, Post, Client}
-use Rattle.loft_sense.specs.declared.limits.RunOptions.{RunOptions}
+use Rattle.loft_base.specs.declared.options.RunOptions.{RunOptions}
 use Rattle.loft_sense.specs.declared.order.Order.{Order}
 use Rattle.loft_sense.specs.declared.order.Order.TheVariants as order
 use Rattle.loft_sense.specs.declared.order.Sent.{Sent}

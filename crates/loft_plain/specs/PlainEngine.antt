@@ -3,7 +3,7 @@ use Rattle.std.specs.Prelude.{Bool, is_none}
 use Rattle.loft_base.specs.declared.ids.SchedId.{SchedId}
 use Rattle.loft_tree.specs.ProgramView.{program_of}
 use Rattle.loft_tree.specs.Resolved.{resolved_of}
-use Rattle.loft_sense.specs.declared.limits.Limits.{Limits}
+use Rattle.loft_base.specs.declared.options.Limits.{Limits}
 use Rattle.loft_sense.specs.Machine.{Prog, Tree, Mach}
 use Rattle.loft_instant.specs.States as state
 use Rattle.loft_plain.specs.declared.engine.PlainEngine.{PlainEngine}

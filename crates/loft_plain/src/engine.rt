@@ -4,13 +4,13 @@ ghost use Rattle.std.specs.Prelude.{◌≡◌, false, IfOk};
 ghost use Rattle.loft_tree.specs.ProgramView.{program_of};
 ghost use Rattle.loft_tree.specs.Resolved.{resolved_of};
 ghost use Rattle.loft_sense.specs.Machine.{Tree};
-ghost use Rattle.loft_sense.specs.Rest.{IsInRange};
+ghost use Rattle.loft_base.specs.Options.{IsInRange};
 
 use crate::walker::Walker;
-use loft_base::{NoMemory, SchedId};
+use loft_base::{Limits, NoMemory, SchedId};
 use loft_instant::InstantEngine;
 use loft_place::Placed;
-use loft_sense::{Engine, FinalState, InstantNote, Limits, Orders};
+use loft_sense::{Engine, FinalState, InstantNote, Orders};
 use std::alloc::Global;
 
 /// The engine that walks the statements of a program: an instant changes what the definitions change, and after a

@@ -18,7 +18,7 @@ use Rattle.loft_history.proofs.LegalLemmas.{same_actor_self}
 use Rattle.loft_sense.specs.declared.order.Order.TheVariants as order
 use Rattle.loft_sense.specs.declared.order.To.TheVariants as to
 use Rattle.loft_sense.specs.declared.order.Sent.{Sent}
-use Rattle.loft_sense.specs.declared.limits.RunOptions.{RunOptions}
+use Rattle.loft_base.specs.declared.options.RunOptions.{RunOptions}
 use Rattle.loft_sense.specs.Machine.{Code, heads}
 use Rattle.loft_history.specs.History.{sent_in}
 use Rattle.loft_history.specs.Legal.{actor_of, same_actor, of, IsRouted, IsDeclared, IsFaithful, IsLegal}

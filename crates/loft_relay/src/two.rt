@@ -4,7 +4,7 @@ ghost use Rattle.std.specs.Prelude.{◌≡◌, ◌==◌, ◌||◌, [], IfOk, tru
 ghost use Rattle.std.specs.List.{All};
 ghost use Rattle.loft_code.specs.View.{automata_of};
 ghost use Rattle.loft_sense.specs.declared.entry.Actor.TheVariants as actor;
-ghost use Rattle.loft_sense.specs.declared.limits.RunOptions.{RunOptions};
+ghost use Rattle.loft_base.specs.declared.options.RunOptions.{RunOptions};
 ghost use Rattle.loft_sense.specs.Machine.{Code as ByCode};
 ghost use Rattle.loft_history.specs.Legal.{actor_of, same_actor, of, IsFaithful, IsLegal};
 ghost use Rattle.loft_relay.specs.Gives.{entries_of, IsOrder, IsOrderFor, HasGiven};

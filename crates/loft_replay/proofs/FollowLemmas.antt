@@ -3,7 +3,7 @@ use Rattle.std.proofs.Common.{◌≡◌, ℕ, ◌+◌, ◌<◌, take, get_or, ap
 use Rattle.std.proofs.lemmas.List.{length-append, take_more, take-append-drop}
 use Rattle.std.specs.Prelude.{MatchOption, drop}
 use Rattle.loft_sense.specs.declared.entry.Entry.{Entry}
-use Rattle.loft_sense.specs.declared.limits.RunOptions.{RunOptions}
+use Rattle.loft_base.specs.declared.options.RunOptions.{RunOptions}
 use Rattle.loft_sense.specs.Machine.{Prog, heads}
 use Rattle.loft_history.specs.History.{with_entry}
 use Rattle.loft_log.specs.declared.choice.Choice.{Choice}

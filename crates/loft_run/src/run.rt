@@ -3,15 +3,15 @@
 ghost use Rattle.std.specs.Prelude.{◌≡◌, [], length, IfOk};
 ghost use Rattle.loft_code.specs.View.{automata_of};
 ghost use Rattle.loft_sense.specs.Machine.{Code as ByCode};
-ghost use Rattle.loft_sense.specs.Rest.{IsInRange};
-ghost use Rattle.loft_turns.specs.Course.{HasWorkers, stands_after, hands_after};
+ghost use Rattle.loft_base.specs.Options.{IsInRange};
+ghost use Rattle.loft_base.specs.Options.{HasWorkers};
+ghost use Rattle.loft_turns.specs.Course.{stands_after, hands_after};
 ghost use Rattle.loft_turns.specs.Running.{IsWholeRun};
 
 use crate::code_blocks::CodeBlocks;
-use loft_base::{Gate, NoMemory, SchedId};
+use loft_base::{Gate, NoMemory, RunOptions, SchedId};
 use loft_code::Code;
 use loft_engine::CodeEngine;
-use loft_sense::RunOptions;
 use loft_turns::{Setting, Station, Worker, run_in_rounds, well_formed_programs_can_run};
 use loft_world::Finished;
 use std::alloc::Global;

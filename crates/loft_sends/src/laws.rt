@@ -4,7 +4,7 @@ ghost use Rattle.std.specs.Prelude.{ℕ, List, All};
 ghost use Rattle.loft_tree.specs.declared.heads.Place.{Place};
 ghost use Rattle.loft_tree.specs.declared.heads.Place.TheVariants.{Unlinked};
 ghost use Rattle.loft_tree.specs.Fits.{Each};
-ghost use Rattle.loft_sense.specs.declared.limits.Limits.{Limits};
+ghost use Rattle.loft_base.specs.declared.options.Limits.{Limits};
 ghost use Rattle.loft_sense.specs.declared.order.Order.{Order};
 ghost use Rattle.loft_sense.specs.declared.thread.Thread.{Thread};
 ghost use Rattle.loft_sense.specs.Machine.{Prog, heads, Mach};

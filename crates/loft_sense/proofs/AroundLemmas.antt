@@ -24,7 +24,7 @@ use Rattle.loft_sense.specs.declared.order.At.{At}
 use Rattle.loft_sense.specs.declared.order.End.{End}
 use Rattle.loft_sense.specs.declared.order.End.TheVariants.{Over, Flood}
 use Rattle.loft_sense.specs.declared.limits.TheConstants.{MAX_FRAMES, MAX_ENTRIES, MAX_LINKED}
-use Rattle.loft_sense.specs.declared.limits.Limits.{Limits}
+use Rattle.loft_base.specs.declared.options.Limits.{Limits}
 use Rattle.loft_sense.specs.declared.order.Order.{Order}
 use Rattle.loft_sense.specs.declared.order.Order.TheVariants as order
 use Rattle.loft_sense.specs.Machine.{Prog, Tree, Code, Mach, heads}

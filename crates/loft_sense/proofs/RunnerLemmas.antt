@@ -11,7 +11,7 @@ use Rattle.loft_sense.specs.declared.order.At.{At}
 use Rattle.loft_sense.specs.declared.order.End.TheVariants.{Over}
 use Rattle.loft_sense.specs.declared.order.Order.{Order}
 use Rattle.loft_sense.specs.declared.note.Standing.{Standing}
-use Rattle.loft_sense.specs.declared.limits.Limits.{Limits}
+use Rattle.loft_base.specs.declared.options.Limits.{Limits}
 use Rattle.loft_sense.specs.Machine.{Prog, Tree, Code, Mach}
 use Rattle.loft_sense.specs.Around.{Around, Beside}
 use Rattle.loft_sense.specs.Run.{Active, Outcome, Held, Left, Ended, ends, no_step, go, here, beside, active_of}

@@ -18,7 +18,7 @@ use Rattle.loft_sense.specs.declared.note.Act.TheVariants as act
 use Rattle.loft_sense.specs.declared.note.Change.{Change}
 use Rattle.loft_sense.specs.declared.note.Standing.{Standing}
 use Rattle.loft_sense.specs.declared.note.InstantNote.{InstantNote}
-use Rattle.loft_sense.specs.declared.limits.Limits.{Limits}
+use Rattle.loft_base.specs.declared.options.Limits.{Limits}
 use Rattle.loft_sense.specs.Heads.{shared_of}
 use Rattle.loft_sense.specs.Tally.{tally_after}
 use Rattle.loft_sense.specs.Machine.{Prog, heads, Mach, empty}

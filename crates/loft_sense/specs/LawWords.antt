@@ -7,7 +7,7 @@ use Rattle.loft_sense.specs.declared.thread.Wait.{Wait}
 use Rattle.loft_sense.specs.declared.thread.Wait.TheVariants as wait
 use Rattle.loft_sense.specs.declared.note.Act.{Act}
 use Rattle.loft_sense.specs.declared.note.Act.TheVariants.{Gen, End}
-use Rattle.loft_sense.specs.declared.limits.Limits.{Limits}
+use Rattle.loft_base.specs.declared.options.Limits.{Limits}
 use Rattle.loft_sense.specs.declared.order.Order.{Order}
 use Rattle.loft_sense.specs.Machine.{Prog, Mach}
 use Rattle.loft_sense.specs.Around.{Around}

@@ -1,11 +1,10 @@
 -- Schedulers that rest, and that have used their bounds up (docs/SEMANTICS.md, "Rest").
-use Rattle.std.specs.Prelude.{◌≤◌, Bool, true, false, ◌||◌, ◌&&◌, not, List, [], ◌∷◌, is_none}
+use Rattle.std.specs.Prelude.{Bool, true, false, ◌||◌, ◌&&◌, not, List, [], ◌∷◌, is_none}
 use Rattle.loft_base.specs.declared.ids.ThreadId.{ThreadId}
 use Rattle.loft_sense.specs.declared.thread.Wait.{Wait}
 use Rattle.loft_sense.specs.declared.thread.Wait.TheVariants.{Events, Join, Halt}
 use Rattle.loft_sense.specs.declared.note.Standing.{Standing}
-use Rattle.loft_sense.specs.declared.limits.Limits.{Limits}
-use Rattle.loft_sense.specs.declared.limits.TheConstants.{MAX_INSTANTS, MAX_BUDGET, MAX_BLOCK}
+use Rattle.loft_base.specs.declared.options.Limits.{Limits}
 use Rattle.loft_sense.specs.Tally.{reaches_bound}
 use Rattle.loft_sense.specs.Machine.{Prog, heads, Mach}
 use Rattle.loft_sense.specs.CanGo.{is_known}
@@ -28,9 +27,3 @@ is_resting m = all_rest m.linked m.known
 -- one of its bounds is reached: its instants, the bytes of its block, the threads that left it by `unlink`
 abbrev pub is_spent : Prog → Limits → Mach → Bool
 is_spent x limits m = reaches_bound (heads x) limits m.tally
-
--- the bounds of a run have their ranges (docs/LANGUAGE.md, "Limits")
-pub record IsInRange (limits : Limits) : Type 0 where
-  pub instants : (1 ≤ limits.instants) × (limits.instants ≤ MAX_INSTANTS)
-  pub budget : (1 ≤ limits.budget) × (limits.budget ≤ MAX_BUDGET)
-  pub block : (1 ≤ limits.block) × (limits.block ≤ MAX_BLOCK)

@@ -8,7 +8,7 @@ ghost use Rattle.loft_base.specs.declared.ids.SchedId.{SchedId};
 ghost use Rattle.loft_base.specs.declared.ids.Value.{Value};
 ghost use Rattle.loft_tree.specs.declared.heads.Heads.{Heads};
 ghost use Rattle.loft_tree.specs.Resolved.{Action, Pause};
-ghost use Rattle.loft_sense.specs.declared.limits.Limits.{Limits};
+ghost use Rattle.loft_base.specs.declared.options.Limits.{Limits};
 ghost use Rattle.loft_sense.specs.declared.order.At.{At};
 ghost use Rattle.loft_sense.specs.declared.order.Order.{Order};
 ghost use Rattle.loft_sense.specs.declared.order.To.{To};

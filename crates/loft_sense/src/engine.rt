@@ -2,7 +2,7 @@
 
 ghost use Rattle.std.specs.Prelude.{◌≡◌, ◌<◌, Bool, true, false, All, IfOk, OnErr, OnOk};
 ghost use Rattle.loft_base.specs.declared.ids.SchedId.{SchedId};
-ghost use Rattle.loft_sense.specs.declared.limits.Limits.{Limits};
+ghost use Rattle.loft_base.specs.declared.options.Limits.{Limits};
 ghost use Rattle.loft_sense.specs.Machine.{Prog, Mach};
 ghost use Rattle.loft_sense.specs.Instant.{instant};
 ghost use Rattle.loft_sense.specs.Rest.{is_resting, is_spent};

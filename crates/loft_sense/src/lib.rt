@@ -23,10 +23,7 @@ pub use code_laws::{
 pub use engine::Engine;
 pub use entry::{Actor, Entry};
 pub use laws::passes_end;
-pub use limits::{
-    Limits, MAX_BLOCK, MAX_BLOCK_ENTRIES, MAX_BUDGET, MAX_ENTRIES, MAX_FRAMES, MAX_INSTANTS,
-    MAX_LINKED, MAX_WORKERS, RunOptions, SPENT_BYTES, SPENT_GONE,
-};
+pub use limits::{MAX_BLOCK_ENTRIES, MAX_ENTRIES, MAX_FRAMES, MAX_LINKED, SPENT_BYTES, SPENT_GONE};
 pub use line::Line;
 pub use note::{
     Act, Acts, BoxedSent, Change, Changes, Ended, Ends, FinalState, InstantNote, Numbers, Standing,

@@ -5,7 +5,7 @@ ghost use Rattle.std.specs.Prelude.{List, [], ◌∷◌, ◌++◌, length, All};
 ghost use Rattle.std.specs.List.{count_by};
 ghost use Rattle.loft_tree.specs.declared.heads.Heads.{Heads};
 ghost use Rattle.loft_base.specs.declared.ids.SchedId.{SchedId};
-ghost use Rattle.loft_sense.specs.declared.limits.Limits.{Limits};
+ghost use Rattle.loft_base.specs.declared.options.Limits.{Limits};
 ghost use Rattle.loft_sense.specs.declared.limits.TheConstants.{MAX_ENTRIES};
 ghost use Rattle.loft_sense.specs.declared.order.At.{At};
 ghost use Rattle.loft_sense.specs.declared.order.End.TheVariants.{Over};

@@ -3,7 +3,8 @@
 ghost use Rattle.std.specs.Prelude.{◌≡◌};
 ghost use Rattle.loft_sense.specs.Tally.{most_bytes as most_bytes_of, most_gone as most_gone_of, reaches_bound as reaches_bound_of};
 
-use crate::limits::{Limits, SPENT_BYTES, SPENT_GONE};
+use crate::limits::{SPENT_BYTES, SPENT_GONE};
+use loft_base::Limits;
 use loft_tree::Heads;
 
 /// What a scheduler has used of its bounds. No thread sees it.

@@ -6,7 +6,7 @@ use Rattle.loft_tree.specs.declared.heads.Place.TheVariants.{Sched, Unlinked}
 use Rattle.loft_tree.specs.declared.heads.Heads.{Heads}
 use Rattle.loft_tree.specs.Fits.{Each}
 use Rattle.loft_board.specs.Board.{no_events}
-use Rattle.loft_sense.specs.declared.limits.Limits.{Limits}
+use Rattle.loft_base.specs.declared.options.Limits.{Limits}
 use Rattle.loft_sense.specs.declared.order.Order.{Order}
 use Rattle.loft_sense.specs.declared.thread.Thread.{Thread}
 use Rattle.loft_sense.specs.Heads.{shared_of}

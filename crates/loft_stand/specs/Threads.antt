@@ -8,7 +8,7 @@ use Rattle.loft_base.specs.declared.ids.Value.{Value}
 use Rattle.loft_tree.specs.declared.heads.Place.{Place}
 use Rattle.loft_tree.specs.declared.heads.Place.TheVariants.{Sched, Unlinked}
 use Rattle.loft_sense.specs.declared.entry.Entry.{Entry}
-use Rattle.loft_sense.specs.declared.limits.RunOptions.{RunOptions}
+use Rattle.loft_base.specs.declared.options.RunOptions.{RunOptions}
 use Rattle.loft_sense.specs.declared.note.Act.{Act}
 use Rattle.loft_sense.specs.declared.note.Act.TheVariants as act
 use Rattle.loft_sense.specs.declared.order.Order.{Order}

@@ -6,8 +6,8 @@ ghost use Rattle.loft_tree.specs.declared.heads.Place.TheVariants.{Sched, Unlink
 ghost use Rattle.loft_tree.specs.Fits.{Each};
 ghost use Rattle.loft_tree.specs.NamedFits.{IsScheduler};
 ghost use Rattle.loft_sense.specs.declared.entry.Entry.{Entry};
-ghost use Rattle.loft_sense.specs.declared.limits.Limits.{Limits};
-ghost use Rattle.loft_sense.specs.declared.limits.RunOptions.{RunOptions};
+ghost use Rattle.loft_base.specs.declared.options.Limits.{Limits};
+ghost use Rattle.loft_base.specs.declared.options.RunOptions.{RunOptions};
 ghost use Rattle.loft_sense.specs.declared.order.Order.{Order};
 ghost use Rattle.loft_sense.specs.Machine.{Prog, heads};
 ghost use Rattle.loft_sense.specs.Fits.{Fits};

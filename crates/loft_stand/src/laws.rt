@@ -18,7 +18,7 @@ ghost use Rattle.loft_code.specs.Operations.{Automata};
 ghost use Rattle.loft_sense.specs.declared.thread.Frame.{Frame};
 ghost use Rattle.loft_sense.specs.declared.thread.Thread.{Thread};
 ghost use Rattle.loft_sense.specs.Heads.{rank};
-ghost use Rattle.loft_sense.specs.declared.limits.Limits.{Limits};
+ghost use Rattle.loft_base.specs.declared.options.Limits.{Limits};
 ghost use Rattle.loft_sense.specs.declared.order.Order.{Order};
 ghost use Rattle.loft_sense.specs.Machine.{Prog, Tree, Code, heads, Mach, empty};
 ghost use Rattle.loft_sense.specs.Around.{Around, Beside};

@@ -11,7 +11,7 @@ ghost use Rattle.loft_tree.specs.declared.heads.Place.TheVariants.{Sched, Unlink
 ghost use Rattle.loft_tree.specs.NamedFits.{IsScheduler};
 ghost use Rattle.loft_sense.specs.declared.entry.Entry.{Entry};
 ghost use Rattle.loft_sense.specs.declared.entry.Entry.TheVariants.{Pick};
-ghost use Rattle.loft_sense.specs.declared.limits.RunOptions.{RunOptions};
+ghost use Rattle.loft_base.specs.declared.options.RunOptions.{RunOptions};
 ghost use Rattle.loft_sense.specs.declared.thread.Thread.{Thread};
 ghost use Rattle.loft_sense.specs.Machine.{Prog, heads};
 ghost use Rattle.loft_history.specs.History.{log, waiting, jobs, unposted, replayed};

@@ -7,7 +7,7 @@ use Rattle.std.specs.Prelude.{if◌then◌else◌, not, ◌&&◌, nat_lt, drop, 
 use Rattle.loft_base.specs.declared.ids.SchedId.{SchedId}
 use Rattle.loft_sense.specs.declared.entry.Entry.{Entry}
 use Rattle.loft_sense.specs.declared.entry.Entry.TheVariants.{Take, Give, Pick, Client}
-use Rattle.loft_sense.specs.declared.limits.RunOptions.{RunOptions}
+use Rattle.loft_base.specs.declared.options.RunOptions.{RunOptions}
 use Rattle.loft_sense.specs.declared.order.Order.{Order}
 use Rattle.loft_sense.specs.declared.order.Sent.{Sent}
 use Rattle.loft_sense.specs.Heads.{same_scheduler}
@@ -18,7 +18,8 @@ use Rattle.loft_sense.specs.Instant.{Replayed, replay}
 use Rattle.loft_history.specs.History.{Choice, TakeBy, GiveBy, ClientBy, in_instant, is_open, jobs, unposted, unsent, replayed, has_turn, waiting, sent_last, entry_of_first, pick_of, entry_of, HasEnded, instant_step, unposted_step, unsent_step}
 use Rattle.loft_sense.proofs.AroundLemmas.{instant_number}
 use Rattle.loft_history.proofs.HistoryLemmas.{unsent_none, on_first}
-use Rattle.loft_turns.specs.Course.{Stand, HasWorkers, Moves}
+use Rattle.loft_base.specs.Options.{HasWorkers}
+use Rattle.loft_turns.specs.Course.{Stand, Moves}
 use Rattle.loft_turns.specs.Rounds.{instants_left, orders_unsent, left, AllRest, Nears, WorksOff, EndsOrNears, turn_of, job_of, order_of}
 use Rattle.loft_steps.proofs.TurnLemmas.{replayed_taken, log_given, opened}
 use Rattle.loft_turns.proofs.CourseLemmas.{give_entry}

@@ -3,8 +3,8 @@ use Rattle.std.proofs.Common.{◌≡◌, Bool, false, List, [], ◌∷◌, ◌++
 use Rattle.loft_base.specs.declared.ids.SchedId.{SchedId}
 use Rattle.loft_sense.specs.declared.entry.Entry.{Entry}
 use Rattle.loft_sense.specs.declared.entry.Entry.TheVariants.{Take}
-use Rattle.loft_sense.specs.declared.limits.Limits.{Limits}
-use Rattle.loft_sense.specs.declared.limits.RunOptions.{RunOptions}
+use Rattle.loft_base.specs.declared.options.Limits.{Limits}
+use Rattle.loft_base.specs.declared.options.RunOptions.{RunOptions}
 use Rattle.loft_sense.specs.declared.note.InstantNote.{InstantNote}
 use Rattle.loft_sense.specs.declared.order.Order.{Order}
 use Rattle.loft_sense.specs.Machine.{Prog, Mach}

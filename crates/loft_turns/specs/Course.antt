@@ -2,13 +2,13 @@
 use Rattle.std.specs.Prelude.{◌≡◌, ℕ, ◌≤◌, Bool, true, false, List, [], ◌∷◌, ◌++◌, map, length, All, Ok, MatchOption}
 use Rattle.std.specs.List.{range_with_len}
 use Rattle.loft_base.specs.declared.ids.SchedId.{SchedId}
+use Rattle.loft_base.specs.Options.{HasWorkers}
 use Rattle.loft_tree.specs.declared.limits.TheConstants.{MAX_SCHEDULERS, MAX_CLIENTS}
 use Rattle.loft_tree.specs.Fits.{Each}
 use Rattle.loft_tree.specs.NamedFits.{IsScheduler}
 use Rattle.loft_sense.specs.declared.entry.Entry.{Entry}
 use Rattle.loft_sense.specs.declared.entry.Actor.TheVariants as actor
-use Rattle.loft_sense.specs.declared.limits.RunOptions.{RunOptions}
-use Rattle.loft_sense.specs.declared.limits.TheConstants.{MAX_WORKERS}
+use Rattle.loft_base.specs.declared.options.RunOptions.{RunOptions}
 use Rattle.loft_sense.specs.declared.note.InstantNote.{InstantNote}
 use Rattle.loft_sense.specs.declared.note.FinalState.{FinalState}
 use Rattle.loft_sense.specs.declared.order.Sent.{Sent}
@@ -86,10 +86,6 @@ pub record IsRun (x : Prog) (o : RunOptions) (c : Course) : Type 0 where
   pub orders : (k : ℕ) → unsent (heads_of x) k c.world.history ≡ orders_left x k c.world.history (gave c.world.history k)
   -- a worker has a job in hand exactly where something is left of it
   pub hands : (w : ℕ) → IsHand (heads_of x) (is_busy w c.world.history) (unposted x o w c.world.history)
-
--- the workers of a run are in their range (docs/LANGUAGE.md, "Limits")
-abbrev pub HasWorkers : RunOptions → Type 0
-HasWorkers o = (1 ≤ o.workers) × (o.workers ≤ MAX_WORKERS)
 
 -- what runs so far ask of a program: whatever has happened, what waits for each scheduler fits there, and the block of each thread
 -- that waits for a worker comes to its end; and what a client of the source gives fits the one scheduler to which it goes

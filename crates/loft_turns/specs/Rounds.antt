@@ -3,7 +3,7 @@ use Rattle.std.specs.Prelude.{◌≡◌, ℕ, ◌+◌, ◌-◌, ◌<◌, Bool, t
 use Rattle.std.specs.List.{range_with_len}
 use Rattle.loft_base.specs.declared.ids.SchedId.{SchedId}
 use Rattle.loft_sense.specs.declared.entry.Entry.{Entry}
-use Rattle.loft_sense.specs.declared.limits.RunOptions.{RunOptions}
+use Rattle.loft_base.specs.declared.options.RunOptions.{RunOptions}
 use Rattle.loft_sense.specs.Machine.{Prog, heads}
 use Rattle.loft_history.specs.History.{Choice, TakeBy, PickBy, ClientBy, is_open, jobs, unposted, unsent, replayed, entry_of, HasEnded}
 use Rattle.loft_sense.specs.Heads.{scheduler}

@@ -1,6 +1,6 @@
 -- Whole runs (docs/SEMANTICS.md, "History").
 use Rattle.std.specs.Prelude.{◌≡◌, map, Ok}
-use Rattle.loft_sense.specs.declared.limits.RunOptions.{RunOptions}
+use Rattle.loft_base.specs.declared.options.RunOptions.{RunOptions}
 use Rattle.loft_sense.specs.Machine.{Prog, heads}
 use Rattle.loft_history.specs.History.{choice_of, hist, HasEnded}
 use Rattle.loft_world.specs.declared.results.Finished.{Finished}

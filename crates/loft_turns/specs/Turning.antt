@@ -1,7 +1,7 @@
 -- A scheduler in the midst of a turn (docs/SEMANTICS.md, "Turns").
 use Rattle.std.specs.Prelude.{◌≡◌, Bool, true, false, List, All}
 use Rattle.loft_base.specs.declared.ids.SchedId.{SchedId}
-use Rattle.loft_sense.specs.declared.limits.Limits.{Limits}
+use Rattle.loft_base.specs.declared.options.Limits.{Limits}
 use Rattle.loft_sense.specs.declared.note.InstantNote.{InstantNote}
 use Rattle.loft_sense.specs.Fits.{Fits}
 use Rattle.loft_sense.specs.Machine.{Prog, Mach}

@@ -1,9 +1,10 @@
 //! Laws of runs. Each is what the contract of an empty function says.
 
-ghost use Rattle.loft_sense.specs.declared.limits.RunOptions.{RunOptions};
+ghost use Rattle.loft_base.specs.declared.options.RunOptions.{RunOptions};
 ghost use Rattle.loft_sense.specs.Machine.{Prog};
 ghost use Rattle.loft_stand.specs.WellFormed.{IsWellFormed};
-ghost use Rattle.loft_turns.specs.Course.{CanRun, HasWorkers};
+ghost use Rattle.loft_base.specs.Options.{HasWorkers};
+ghost use Rattle.loft_turns.specs.Course.{CanRun};
 
 use loft_history::made_histories_are_legal;
 use loft_sends::blocks_keep_their_thread;

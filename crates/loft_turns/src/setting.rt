@@ -1,6 +1,6 @@
 //! What a run is of, for proofs alone.
 
-ghost use Rattle.loft_sense.specs.declared.limits.RunOptions.{RunOptions};
+ghost use Rattle.loft_base.specs.declared.options.RunOptions.{RunOptions};
 ghost use Rattle.loft_sense.specs.Machine.{Prog};
 
 use std::marker::Brand;

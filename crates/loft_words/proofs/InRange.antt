@@ -5,13 +5,14 @@ use Rattle.std.specs.Option.{option_map}
 use Rattle.std.specs.Str.{bytes_eq}
 use Rattle.std.specs.Str.Parse.{digits_value}
 use Rattle.std.proofs.lemmas.Bool.Decides.{nat_tests}
-use Rattle.loft_sense.specs.declared.limits.RunOptions.{RunOptions}
-use Rattle.loft_sense.specs.declared.limits.TheConstants.{MAX_INSTANTS, MAX_BUDGET, MAX_BLOCK, MAX_WORKERS}
+use Rattle.loft_base.specs.declared.options.RunOptions.{RunOptions}
+use Rattle.loft_base.specs.declared.options.TheConstants.{MAX_INSTANTS, MAX_BUDGET, MAX_BLOCK, MAX_WORKERS}
 use Rattle.loft_words.specs.declared.defaults.TheConstants.{DEFAULT_INSTANTS, DEFAULT_BUDGET, DEFAULT_BLOCK, DEFAULT_WORKERS}
 use Rattle.loft_words.specs.Words.{is_number, number_in}
 use Rattle.loft_words.specs.Arguments.{Argument, arguments, plain_words, values, has_only}
 use Rattle.loft_words.specs.Command.{Command, Run, Exec, Show, Check, Compile, Bound, only_file, number_of, options_from, run_names, run_options, run_of, file_alone, command_named, command}
-use Rattle.loft_words.specs.Ranges.{AreInRange, KeepsRanges}
+use Rattle.loft_base.specs.Options.{AreInRange}
+use Rattle.loft_words.specs.Ranges.{KeepsRanges}
 
 number_in_range : (most n : ℕ) (word : List ℕ) → number_in most word ≡ Some n → (1 ≤ n) × (n ≤ most)
 number_in_range most n word is = go (is_number word) (nat_le 1 (digits_value 10 word)) (nat_le (digits_value 10 word) most) refl refl is

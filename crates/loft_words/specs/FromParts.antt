@@ -2,8 +2,8 @@
 use Rattle.std.specs.Prelude.{ℕ, List, [], ◌∷◌, codes, Option, Some, None, if◌then◌else◌, option_and_then}
 use Rattle.std.specs.Option.{option_map}
 use Rattle.std.specs.Str.{bytes_eq}
-use Rattle.loft_sense.specs.declared.limits.RunOptions.{RunOptions}
-use Rattle.loft_sense.specs.declared.limits.TheConstants.{MAX_INSTANTS, MAX_BUDGET, MAX_BLOCK, MAX_WORKERS}
+use Rattle.loft_base.specs.declared.options.RunOptions.{RunOptions}
+use Rattle.loft_base.specs.declared.options.TheConstants.{MAX_INSTANTS, MAX_BUDGET, MAX_BLOCK, MAX_WORKERS}
 use Rattle.loft_words.specs.declared.defaults.TheConstants.{DEFAULT_INSTANTS, DEFAULT_BUDGET, DEFAULT_BLOCK, DEFAULT_WORKERS}
 use Rattle.loft_words.specs.Command.{Command, Run, Exec, Show, Check, Compile, Bound, only_file, number_of, options_from}
 use Rattle.loft_words.specs.Parts.{Parts, has_no_options}

@@ -2,20 +2,20 @@
 
 ghost use Rattle.std.specs.Prelude.{◌≡◌, Some};
 ghost use Rattle.std.specs.Option.{option_copied, option_map};
-ghost use Rattle.loft_sense.specs.declared.limits.RunOptions.{RunOptions};
+ghost use Rattle.loft_base.specs.declared.options.RunOptions.{RunOptions};
 ghost use Rattle.loft_words.specs.Words.{words_of, is_file_name};
 ghost use Rattle.loft_words.specs.Ranges.{KeepsRanges};
 ghost use Rattle.loft_words.specs.Command.{Command as PlainCommand, Exec, Run, Show, Check, Compile, Bound, command, file_of, only_file, number_of};
 ghost use Rattle.loft_words.specs.CommandView.{meant, command_of};
 ghost use Rattle.loft_words.specs.Parts.{parts_of};
 ghost use Rattle.loft_words.specs.FromParts.{option_list, run_from, run_options_from, file_from, command_from};
-ghost use Rattle.loft_sense.specs.declared.limits.TheConstants.{MAX_WORKERS};
+ghost use Rattle.loft_base.specs.declared.options.TheConstants.{MAX_WORKERS};
 ghost use Rattle.loft_words.specs.declared.defaults.TheConstants.{DEFAULT_WORKERS};
 
+use loft_base::{Limits, MAX_BLOCK, MAX_BUDGET, MAX_INSTANTS, MAX_WORKERS, RunOptions};
 use crate::defaults::{DEFAULT_BLOCK, DEFAULT_BUDGET, DEFAULT_INSTANTS, DEFAULT_WORKERS};
 use crate::number::number_in;
 use crate::parts::Parts;
-use loft_sense::{Limits, MAX_BLOCK, MAX_BUDGET, MAX_INSTANTS, MAX_WORKERS, RunOptions};
 
 /// A command, and the file that it reads.
 #[derive(Clone, Copy)]

@@ -1,7 +1,7 @@
 -- What was kept of a history's instants: the notes of each scheduler, and how it stands in the end (docs/SEMANTICS.md, "World").
 use Rattle.std.specs.Prelude.{◌≡◌, List, map}
 use Rattle.loft_sense.specs.declared.entry.Entry.{Entry}
-use Rattle.loft_sense.specs.declared.limits.Limits.{Limits}
+use Rattle.loft_base.specs.declared.options.Limits.{Limits}
 use Rattle.loft_sense.specs.declared.note.InstantNote.{InstantNote}
 use Rattle.loft_sense.specs.declared.note.FinalState.{FinalState}
 use Rattle.loft_sense.specs.Machine.{Prog, Mach}

@@ -1,13 +1,12 @@
 //! `run_code` by itself: it is given code, and no source.
 
-ghost use Rattle.loft_words.specs.Ranges.{AreInRange};
+ghost use Rattle.loft_base.specs.Options.{AreInRange};
 ghost use Rattle.loft_commands.specs.Options.{options_of};
 
-use loft_base::{MemSink, OpenGate};
+use loft_base::{Limits, MemSink, OpenGate};
 use loft_code::{Code, validate};
 use loft_commands::run_code;
 use loft_reading::read;
-use loft_sense::Limits;
 use std::sync::Wait;
 use std::test::Fail;
 use std::thread::Threads;

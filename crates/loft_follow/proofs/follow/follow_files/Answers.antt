@@ -1,7 +1,7 @@
 use Rattle.std.proofs.Common.{◌∙◌, ap, subst}
 use Rattle.std.specs.Prelude.{OnOk}
 use Rattle.loft_tree.specs.ProgramView.{program_of}
-use Rattle.loft_sense.specs.declared.limits.RunOptions.{RunOptions}
+use Rattle.loft_base.specs.declared.options.RunOptions.{RunOptions}
 use Rattle.loft_words.specs.Words.{words_of}
 use Rattle.loft_follow.specs.Answer.{Appends, IsReportFor, CanStopAt}
 use Rattle.loft_follow.proofs.Followed.{report_for, one_request}

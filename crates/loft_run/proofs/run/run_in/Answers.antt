@@ -1,6 +1,6 @@
 use Rattle.std.proofs.Common.{sym, subst}
 use Rattle.loft_code.specs.View.{automata_of}
-use Rattle.loft_sense.specs.declared.limits.RunOptions.{RunOptions}
+use Rattle.loft_base.specs.declared.options.RunOptions.{RunOptions}
 use Rattle.loft_sense.specs.Machine.{Prog, Code}
 use Rattle.loft_stand.specs.WellFormed.{IsValidCode}
 use Rattle.loft_turns.specs.Course.{CanRun}
