@@ -15,7 +15,7 @@ use loft_base::NoMemory;
 use loft_code::Code;
 use loft_effect::{Around, Gone, Outcome};
 use loft_place::Placed;
-use loft_sense::{Stop, Thread};
+use loft_orders::{Stop, Thread};
 use loft_step::{Steps, go as step};
 use loft_translation::compiled_code_implements;
 use loft_walk::go as walk;

@@ -6,9 +6,9 @@ use Rattle.std.proofs.lemmas.Grind.{flat_map-append}
 use Rattle.std.proofs.lemmas.List.Elements.{All-head, All-tail, filter-append}
 use Rattle.std.proofs.lemmas.List.Folds.{list_any-append, Any-from_list_any}
 use Rattle.std.proofs.lemmas.List.Prefix.{front_rest}
-use Rattle.loft_sense.specs.declared.entry.Actor.{Actor}
-use Rattle.loft_sense.specs.declared.entry.Actor.TheVariants.{Sched, Worker, Client}
-use Rattle.loft_sense.specs.declared.entry.Entry.{Entry}
+use Rattle.loft_orders.specs.declared.entry.Actor.{Actor}
+use Rattle.loft_orders.specs.declared.entry.Actor.TheVariants.{Sched, Worker, Client}
+use Rattle.loft_orders.specs.declared.entry.Entry.{Entry}
 use Rattle.loft_history.specs.History.{sends, sent_in}
 use Rattle.loft_history.specs.Legal.{actor_of, same_actor, of}
 use Rattle.loft_history.proofs.HistoryLemmas.{is_same}

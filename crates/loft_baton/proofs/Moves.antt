@@ -6,9 +6,9 @@ use mathlib.Core.Option.{Option, some, none, some-injective, some-ne-none}
 use lib.ListN.{get_elem?}
 use Rattle.crossbeam_queue.specs.Fifo.{Pushes, Pops, Learns}
 use Rattle.std.proofs.lemmas.List.Elements.{All-nil, All-weaker, All-append, All-map}
-use Rattle.loft_sense.specs.declared.entry.Actor.{Actor}
-use Rattle.loft_sense.specs.declared.entry.Entry.{Entry}
-use Rattle.loft_sense.specs.declared.order.Sent.{Sent}
+use Rattle.loft_orders.specs.declared.entry.Actor.{Actor}
+use Rattle.loft_orders.specs.declared.entry.Entry.{Entry}
+use Rattle.loft_orders.specs.declared.order.Sent.{Sent}
 use Rattle.loft_sense.specs.Machine.{Code}
 use Rattle.std.specs.Prelude.{Some, unwrap_or}
 use Rattle.loft_code.specs.View.{automata_of}

@@ -9,8 +9,8 @@ use lib.ListN.{get_elem?}
 use Rattle.crossbeam_queue.specs.Fifo.{Forks, Merges}
 use Rattle.crossbeam_queue.proofs.Lists.{at_set, at_last}
 use Rattle.std.proofs.lemmas.List.Elements.{All-nil, All-cons, All-weaker, All-append}
-use Rattle.loft_sense.specs.declared.entry.Actor.{Actor}
-use Rattle.loft_sense.specs.declared.entry.Entry.{Entry}
+use Rattle.loft_orders.specs.declared.entry.Actor.{Actor}
+use Rattle.loft_orders.specs.declared.entry.Entry.{Entry}
 use Rattle.loft_baton.specs.declared.knows.Own.{Own}
 use Rattle.loft_baton.specs.declared.knows.Knows.{Knows}
 use Rattle.loft_baton.specs.declared.knows.Stage.TheVariants.{Fresh, Live, Spent}

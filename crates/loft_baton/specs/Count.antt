@@ -1,6 +1,6 @@
 -- How many actors a pass has.
 use Rattle.std.specs.Prelude.{List, [], ◌∷◌, Option, Some, None}
-use Rattle.loft_sense.specs.declared.entry.Actor.{Actor}
+use Rattle.loft_orders.specs.declared.entry.Actor.{Actor}
 use Rattle.loft_baton.specs.declared.knows.Own.{Own}
 use Rattle.loft_baton.specs.declared.actor_count.ActorCount.{ActorCount}
 use Rattle.loft_baton.specs.declared.actor_count.ActorCount.TheVariants.{Nobody, One, Several}

@@ -4,8 +4,8 @@ use Rattle.std.specs.List.{All, list_any}
 use mathlib.Core.List.{IsPrefix}
 use Rattle.loft_code.specs.View.{automata_of}
 use Rattle.loft_code.specs.declared.raw.CodeProgram.{CodeProgram}
-use Rattle.loft_sense.specs.declared.entry.Actor.{Actor}
-use Rattle.loft_sense.specs.declared.entry.Entry.{Entry}
+use Rattle.loft_orders.specs.declared.entry.Actor.{Actor}
+use Rattle.loft_orders.specs.declared.entry.Entry.{Entry}
 use Rattle.loft_sense.specs.Machine.{Code}
 use Rattle.loft_history.specs.History.{sent_in}
 use Rattle.loft_history.specs.Legal.{actor_of, same_actor, of}

@@ -5,8 +5,8 @@ use mathlib.Core.List.{IsPrefix}
 use mathlib.Core.Option.{Option, some, none}
 use lib.ListN.{get_elem?}
 use Rattle.loft_code.specs.declared.raw.CodeProgram.{CodeProgram}
-use Rattle.loft_sense.specs.declared.entry.Actor.{Actor}
-use Rattle.loft_sense.specs.declared.entry.Entry.{Entry}
+use Rattle.loft_orders.specs.declared.entry.Actor.{Actor}
+use Rattle.loft_orders.specs.declared.entry.Entry.{Entry}
 use Rattle.loft_history.specs.Legal.{actor_of, of}
 use Rattle.loft_world.specs.State.{State}
 use Rattle.loft_baton.specs.declared.knows.Own.{Own}

@@ -1,6 +1,6 @@
 //! How many actors a pass has.
 
-use loft_sense::Actor;
+use loft_orders::Actor;
 
 /// How many actors a pass has, and which where it has one.
 #[derive(Clone, Copy)]

@@ -15,7 +15,7 @@ use crate::rule::{Argument, Begun, Gave, Joined, OneWorld, Released, Taken};
 use crossbeam_queue::RuledArrayQueue;
 use loft_base::NoMemory;
 use loft_code::Code;
-use loft_sense::Actor;
+use loft_orders::Actor;
 use loft_world::World;
 use std::alloc::Global;
 use std::marker::{Brand, Model};

@@ -2,7 +2,7 @@
 //! for proofs alone.
 
 use loft_code::CodeProgram;
-use loft_sense::{Actor, Entry};
+use loft_orders::{Actor, Entry};
 use std::collections::LinkedList;
 
 /// The entries of one actor, in order.

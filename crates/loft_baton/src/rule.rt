@@ -22,7 +22,7 @@ impl Protocol<World, Knows> for OneWorld {
 pub(crate) trait Argument {
     ghost use Rattle.std.specs.Prelude.{Option};
     ghost use Rattle.loft_code.specs.declared.raw.CodeProgram.{CodeProgram};
-    ghost use Rattle.loft_sense.specs.declared.entry.Actor.{Actor};
+    ghost use Rattle.loft_orders.specs.declared.entry.Actor.{Actor};
 
     ghost code: { Option CodeProgram };
 
@@ -31,7 +31,7 @@ pub(crate) trait Argument {
 
 impl Argument for Brand {
     ghost use Rattle.std.specs.Prelude.{None};
-    ghost use Rattle.loft_sense.specs.declared.entry.Actor.TheVariants.{Client};
+    ghost use Rattle.loft_orders.specs.declared.entry.Actor.TheVariants.{Client};
 
     ghost code = { None };
 

@@ -1,6 +1,6 @@
 -- What a block of an unlinked thread has still to send (docs/SEMANTICS.md, "Unlinked blocks").
 use Rattle.std.specs.Prelude.{◌≡◌, Bool, true, false, List, [], ◌∷◌, ◌++◌, Option, Some, None}
-use Rattle.loft_sense.specs.declared.order.Sent.{Sent}
+use Rattle.loft_orders.specs.declared.order.Sent.{Sent}
 use Rattle.loft_sense.specs.Machine.{Prog}
 use Rattle.loft_sense.specs.Async.{async}
 use Rattle.loft_block.specs.declared.block.Block.{Block}

@@ -1,7 +1,7 @@
 -- Runs before which something was done: what stands around the thread, and how its run ends, with these acts before the others
 -- (docs/SEMANTICS.md, "Run").
 use Rattle.std.specs.Prelude.{List, ◌++◌}
-use Rattle.loft_sense.specs.declared.note.Act.{Act}
+use Rattle.loft_orders.specs.declared.note.Act.{Act}
 use Rattle.loft_sense.specs.Around.{Around, Beside}
 use Rattle.loft_sense.specs.Run.{Outcome, Held, Left, Ended}
 

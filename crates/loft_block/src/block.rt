@@ -6,7 +6,7 @@ ghost use Rattle.loft_block.specs.Blocks.{sent_if, left_of, has_failed, Gives};
 
 use crate::pieces::Pieces;
 use loft_base::{NoMemory, Sequence};
-use loft_sense::{Sent, Sents, Thread};
+use loft_orders::{Sent, Sents, Thread};
 use std::alloc::Global;
 use std::mem;
 

@@ -1,13 +1,13 @@
 //! Whatever runs unlinked threads of a program in pieces.
 
 ghost use Rattle.std.specs.Prelude.{◌≡◌, ◌<◌, ◌++◌, ℕ, List, IfOk, IfSome};
-ghost use Rattle.loft_sense.specs.declared.order.Sent.{Sent};
+ghost use Rattle.loft_orders.specs.declared.order.Sent.{Sent};
 ghost use Rattle.loft_sense.specs.Machine.{Prog};
 ghost use Rattle.loft_sense.specs.Async.{async};
 ghost use Rattle.loft_block.specs.Blocks.{sent_if};
 
 use loft_base::NoMemory;
-use loft_sense::{Sents, Thread};
+use loft_orders::{Sents, Thread};
 use std::alloc::Global;
 
 /// Runs unlinked threads of one program in pieces. A piece ends where something was done, and

@@ -3,7 +3,7 @@
 ghost use Rattle.std.specs.Prelude.{◌≡◌, ◌≤◌, ◌++◌, [], ◌∷◌, length, IfOk, OnOk};
 ghost use Rattle.loft_tree.specs.declared.heads.Place.TheVariants.{Unlinked};
 ghost use Rattle.loft_tree.specs.declared.limits.TheConstants.{MAX_EVENTS};
-ghost use Rattle.loft_sense.specs.declared.order.Order.TheVariants.{Arrive};
+ghost use Rattle.loft_orders.specs.declared.order.Order.TheVariants.{Arrive};
 ghost use Rattle.loft_sense.specs.Machine.{Prog, heads as heads_of};
 ghost use Rattle.loft_sense.specs.Instant.{sent_by};
 ghost use Rattle.loft_sense.specs.Async.{alone as alone_in, block_sent};
@@ -13,7 +13,7 @@ ghost use Rattle.loft_effect.specs.Outcomes.{gone_of};
 use loft_base::{NoMemory, Sequence, TryClone};
 use loft_board::Board;
 use loft_effect::{Around, Gone, Outcome};
-use loft_sense::{Act, Order, Sent, Sents, SharedThread, Thread, To};
+use loft_orders::{Act, Order, Sent, Sents, SharedThread, Thread, To};
 use loft_tree::{Heads, Place};
 use std::alloc::Global;
 

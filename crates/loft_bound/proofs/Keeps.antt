@@ -8,9 +8,9 @@ use Rattle.loft_tree.specs.NamedTree.{NamedProgram}
 use Rattle.loft_tree.specs.NamedFits.{NamedFits}
 use Rattle.loft_tree.specs.Resolved.{Resolved, resolved_of}
 use Rattle.loft_base.specs.declared.options.Limits.{Limits}
-use Rattle.loft_sense.specs.declared.order.Order.{Order}
-use Rattle.loft_sense.specs.declared.order.Order.TheVariants as order
-use Rattle.loft_sense.specs.declared.order.Sent.{Sent}
+use Rattle.loft_orders.specs.declared.order.Order.{Order}
+use Rattle.loft_orders.specs.declared.order.Order.TheVariants as order
+use Rattle.loft_orders.specs.declared.order.Sent.{Sent}
 use Rattle.loft_history.specs.History.{starts_of}
 use Rattle.loft_history.specs.History.{sent_in}
 use Rattle.loft_stand.proofs.ListLemmas.{each_map, all_of, each_of}

@@ -4,8 +4,8 @@ use Rattle.std.specs.Fmt.{decimal}
 use Rattle.loft_base.specs.declared.ids.ModuleId.{ModuleId}
 use Rattle.loft_tree.specs.declared.heads.Heads.{Heads}
 use Rattle.loft_tree.specs.NamedTree.{NamedProgram}
-use Rattle.loft_sense.specs.Text.{module_name}
-use Rattle.loft_sense.specs.Lines.{text_of}
+use Rattle.loft_orders.specs.Text.{module_name}
+use Rattle.loft_orders.specs.Lines.{text_of}
 use Rattle.loft_budget.specs.Verdicts.{AreVerdicts}
 use Rattle.loft_budget.specs.declared.verdict.Verdict.{Verdict}
 use Rattle.loft_budget.specs.declared.verdict.Verdict.TheVariants.{Bound, Recursive, Runs, Endless, Large}

@@ -2,7 +2,7 @@
 
 ghost use Rattle.std.specs.Prelude.{◌<◌, ◌^◌, length, IfOk};
 ghost use Rattle.loft_tree.specs.ProgramView.{program_of};
-ghost use Rattle.loft_sense.specs.Lines.{text_of};
+ghost use Rattle.loft_orders.specs.Lines.{text_of};
 ghost use Rattle.loft_text.specs.Buffer.{Adds};
 ghost use Rattle.loft_bound.specs.BoundText.{place_line, verdict_line, verdict_lines, IsBoundText};
 

@@ -13,17 +13,17 @@ use Rattle.loft_tree.specs.Fits.{Each}
 use Rattle.loft_tree.specs.Resolved.{Resolved}
 use Rattle.loft_base.specs.declared.options.Limits.{Limits}
 use Rattle.loft_sense.specs.declared.limits.TheConstants.{MAX_LINKED}
-use Rattle.loft_sense.specs.declared.note.Act.{Act}
-use Rattle.loft_sense.specs.declared.note.Act.TheVariants as act
-use Rattle.loft_sense.specs.declared.note.Standing.{Standing}
-use Rattle.loft_sense.specs.declared.order.End.{End}
-use Rattle.loft_sense.specs.declared.order.End.TheVariants as end
-use Rattle.loft_sense.specs.declared.order.Order.{Order}
-use Rattle.loft_sense.specs.declared.order.Order.TheVariants as order
-use Rattle.loft_sense.specs.declared.order.Sent.{Sent}
-use Rattle.loft_sense.specs.declared.order.To.{To}
-use Rattle.loft_sense.specs.declared.thread.Thread.{Thread}
-use Rattle.loft_sense.specs.declared.thread.Wait.TheVariants as wait
+use Rattle.loft_orders.specs.declared.note.Act.{Act}
+use Rattle.loft_orders.specs.declared.note.Act.TheVariants as act
+use Rattle.loft_orders.specs.declared.note.Standing.{Standing}
+use Rattle.loft_orders.specs.declared.order.End.{End}
+use Rattle.loft_orders.specs.declared.order.End.TheVariants as end
+use Rattle.loft_orders.specs.declared.order.Order.{Order}
+use Rattle.loft_orders.specs.declared.order.Order.TheVariants as order
+use Rattle.loft_orders.specs.declared.order.Sent.{Sent}
+use Rattle.loft_orders.specs.declared.order.To.{To}
+use Rattle.loft_orders.specs.declared.thread.Thread.{Thread}
+use Rattle.loft_orders.specs.declared.thread.Wait.TheVariants as wait
 use Rattle.loft_sense.specs.Machine.{Tree, Mach}
 use Rattle.loft_sense.specs.Around.{Around}
 use Rattle.loft_sense.specs.CanGo.{same_thread, count_of, is_over, can_go}

@@ -5,10 +5,10 @@ use Rattle.std.proofs.lemmas.List.{reverse-append, reverse-reverse}
 use Rattle.loft_base.specs.declared.ids.ModuleId.{ModuleId}
 use Rattle.loft_base.specs.declared.ids.Value.{Value}
 use Rattle.loft_sense.specs.declared.limits.TheConstants.{MAX_FRAMES}
-use Rattle.loft_sense.specs.declared.thread.Frame.{Frame}
-use Rattle.loft_sense.specs.declared.thread.Thread.{Thread}
-use Rattle.loft_sense.specs.declared.thread.Wait.{Wait}
-use Rattle.loft_sense.specs.declared.thread.Wait.TheVariants.{New}
+use Rattle.loft_orders.specs.declared.thread.Frame.{Frame}
+use Rattle.loft_orders.specs.declared.thread.Thread.{Thread}
+use Rattle.loft_orders.specs.declared.thread.Wait.{Wait}
+use Rattle.loft_orders.specs.declared.thread.Wait.TheVariants.{New}
 use Rattle.loft_sense.specs.Machine.{Prog, Tree, Code}
 use Rattle.loft_sense.specs.Around.{Around, Beside}
 use Rattle.loft_sense.specs.Eval.{eval, eval_all, number_of, is_true}

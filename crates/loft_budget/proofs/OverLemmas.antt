@@ -7,18 +7,18 @@ use Rattle.loft_base.specs.declared.ids.ModuleId.{ModuleId}
 use Rattle.loft_base.specs.declared.ids.ThreadId.{ThreadId}
 use Rattle.loft_tree.specs.Fits.{Each}
 use Rattle.loft_tree.specs.Resolved.{Resolved}
-use Rattle.loft_sense.specs.declared.entry.Entry.{Entry}
-use Rattle.loft_sense.specs.declared.entry.Entry.TheVariants.{Pick}
+use Rattle.loft_orders.specs.declared.entry.Entry.{Entry}
+use Rattle.loft_orders.specs.declared.entry.Entry.TheVariants.{Pick}
 use Rattle.loft_base.specs.declared.options.RunOptions.{RunOptions}
-use Rattle.loft_sense.specs.declared.note.Act.{Act}
-use Rattle.loft_sense.specs.declared.note.Act.TheVariants as act
-use Rattle.loft_sense.specs.declared.note.InstantNote.{InstantNote}
-use Rattle.loft_sense.specs.declared.order.End.{End}
-use Rattle.loft_sense.specs.declared.order.End.TheVariants as end
-use Rattle.loft_sense.specs.declared.order.Order.{Order}
-use Rattle.loft_sense.specs.declared.order.Order.TheVariants as order
-use Rattle.loft_sense.specs.declared.order.Sent.{Sent}
-use Rattle.loft_sense.specs.declared.thread.Thread.{Thread}
+use Rattle.loft_orders.specs.declared.note.Act.{Act}
+use Rattle.loft_orders.specs.declared.note.Act.TheVariants as act
+use Rattle.loft_orders.specs.declared.note.InstantNote.{InstantNote}
+use Rattle.loft_orders.specs.declared.order.End.{End}
+use Rattle.loft_orders.specs.declared.order.End.TheVariants as end
+use Rattle.loft_orders.specs.declared.order.Order.{Order}
+use Rattle.loft_orders.specs.declared.order.Order.TheVariants as order
+use Rattle.loft_orders.specs.declared.order.Sent.{Sent}
+use Rattle.loft_orders.specs.declared.thread.Thread.{Thread}
 use Rattle.loft_sense.specs.Machine.{Tree}
 use Rattle.loft_sense.specs.Apply.{apply}
 use Rattle.loft_sense.specs.Instant.{instant, replay}

@@ -4,7 +4,7 @@ ghost use Rattle.loft_history.specs.History.{choice_of};
 ghost use Rattle.loft_history.specs.Report.{choice_line};
 ghost use Rattle.loft_text.specs.Buffer.{Holds};
 
-use loft_sense::Entry;
+use loft_orders::Entry;
 use loft_text::{LineBuffer, push_client_name, push_scheduler_name};
 use loft_tree::Heads;
 

@@ -8,10 +8,10 @@ use Rattle.loft_show.specs.Canon.{Canon}
 use Rattle.loft_base.specs.declared.options.RunOptions.{RunOptions}
 use Rattle.loft_code.specs.Operations.{Automata}
 use Rattle.loft_sense.specs.Machine.{Prog, Tree, Code, heads}
-use Rattle.loft_sense.specs.declared.entry.Entry.{Entry}
+use Rattle.loft_orders.specs.declared.entry.Entry.{Entry}
 use Rattle.loft_history.specs.History.{Choice, hist, HasEnded}
 use Rattle.loft_history.specs.Legal.{IsLegal}
-use Rattle.loft_sense.specs.Lines.{text_of}
+use Rattle.loft_orders.specs.Lines.{text_of}
 use Rattle.loft_history.specs.Report.{head_lines, report}
 use Rattle.loft_translation.specs.Compiled.{compiled}
 use Rattle.loft_listing.specs.Listing.{listing_text}

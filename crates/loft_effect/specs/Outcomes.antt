@@ -1,8 +1,8 @@
 -- How runs of threads in memory end.
 use Rattle.std.specs.Prelude.{ℕ}
-use Rattle.loft_sense.specs.declared.order.Stop.{Stop}
-use Rattle.loft_sense.specs.declared.order.Stop.TheVariants.{Holds, Leaves, Ends}
-use Rattle.loft_sense.specs.declared.thread.Thread.{Thread}
+use Rattle.loft_orders.specs.declared.order.Stop.{Stop}
+use Rattle.loft_orders.specs.declared.order.Stop.TheVariants.{Holds, Leaves, Ends}
+use Rattle.loft_orders.specs.declared.thread.Thread.{Thread}
 use Rattle.loft_sense.specs.Around.{Around}
 use Rattle.loft_sense.specs.Run.{Outcome, Held, Left, Ended}
 use Rattle.loft_effect.specs.declared.around.Around.{Around as AroundInMemory}

@@ -8,7 +8,8 @@ ghost use Rattle.loft_sense.specs.Statements.{indexed, most_entries as most_entr
 
 use loft_base::{EventId, Maker, NoMemory, Sequence, ThreadId};
 use loft_board::Board;
-use loft_sense::{Act, Acts, MAX_BLOCK_ENTRIES, MAX_ENTRIES, Numbers};
+use loft_orders::{Act, Acts, Numbers};
+use loft_sense::{MAX_BLOCK_ENTRIES, MAX_ENTRIES};
 use loft_tree::Place;
 use std::alloc::Global;
 

@@ -1,6 +1,6 @@
 //! What becomes of a thread by a statement.
 
-use loft_sense::{End, To, Wait};
+use loft_orders::{End, To, Wait};
 
 /// What becomes of a thread by a statement (docs/SEMANTICS.md, "Statements").
 #[derive(Drop)]

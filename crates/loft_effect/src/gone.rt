@@ -3,7 +3,7 @@
 ghost use Rattle.std.specs.Prelude.{◌≡◌};
 
 use crate::around::Around;
-use loft_sense::{End, Stop, Thread, To};
+use loft_orders::{End, Stop, Thread, To};
 
 /// How a run of a thread ends, with the thread where it goes on later.
 #[derive(Drop)]

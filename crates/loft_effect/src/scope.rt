@@ -12,7 +12,7 @@ use crate::around::Around;
 use crate::sight::{Sight, rank};
 use crate::value::number_of;
 use loft_base::{Div, NoMemory, ThreadId, Value, Values};
-use loft_sense::{Act, At, BoxedSent, End, Order, Sent, To};
+use loft_orders::{Act, At, BoxedSent, End, Order, Sent, To};
 use loft_tree::{Heads, NamedExpr, Target};
 use std::alloc::Global;
 

@@ -15,7 +15,7 @@ use crate::effect::Effect;
 use crate::scope::{Beside, Scope, number_if};
 use crate::value::{number_of, thread_or};
 use loft_base::{EventId, NoMemory, Sequence, Value, add, mul};
-use loft_sense::{End, Wait};
+use loft_orders::{End, Wait};
 use loft_tree::{Heads, NamedExpr, Target};
 use std::alloc::Global;
 

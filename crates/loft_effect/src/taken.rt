@@ -5,7 +5,7 @@ ghost use Rattle.std.specs.Prelude.{◌≡◌, IfOk};
 use crate::around::Around;
 use loft_base::{NoMemory, Sequence};
 use loft_board::Board;
-use loft_sense::{Thread, Wait};
+use loft_orders::{Thread, Wait};
 use loft_tree::Place;
 use std::alloc::Global;
 use std::mem;

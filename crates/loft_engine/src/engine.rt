@@ -9,7 +9,8 @@ use crate::stepper::Stepper;
 use loft_base::{Limits, NoMemory, SchedId};
 use loft_code::Code;
 use loft_instant::InstantEngine;
-use loft_sense::{Engine, FinalState, InstantNote, Orders};
+use loft_orders::{FinalState, InstantNote, Orders};
+use loft_sense::Engine;
 use std::alloc::Global;
 
 /// The engine that steps through valid code: an instant changes what the definitions change, and after a failed

@@ -11,7 +11,7 @@ use loft_base::NoMemory;
 use loft_code::Code;
 use loft_effect::Around;
 use loft_passes::Interpreter;
-use loft_sense::{Stop, Thread};
+use loft_orders::{Stop, Thread};
 use loft_step::{Steps, go};
 use loft_tree::Heads;
 use std::alloc::Global;

@@ -5,10 +5,10 @@ use Rattle.loft_base.specs.Outside.{appended}
 use Rattle.loft_tree.specs.declared.heads.Heads.{Heads}
 use Rattle.loft_tree.specs.NamedTree.{NamedProgram}
 use Rattle.loft_tree.specs.Resolved.{resolved_of}
-use Rattle.loft_sense.specs.declared.entry.Entry.{Entry}
+use Rattle.loft_orders.specs.declared.entry.Entry.{Entry}
 use Rattle.loft_base.specs.declared.options.RunOptions.{RunOptions}
-use Rattle.loft_sense.specs.declared.note.FinalState.{FinalState}
-use Rattle.loft_sense.specs.declared.note.InstantNote.{InstantNote}
+use Rattle.loft_orders.specs.declared.note.FinalState.{FinalState}
+use Rattle.loft_orders.specs.declared.note.InstantNote.{InstantNote}
 use Rattle.loft_sense.specs.Machine.{Prog, Tree, heads}
 use Rattle.loft_history.specs.Report.{report}
 use Rattle.loft_world.specs.declared.results.Finished.{Finished}

@@ -4,11 +4,11 @@ use Rattle.std.proofs.lemmas.Bool.{eqb-true, ltb-true, ltb-false}
 use Rattle.std.proofs.lemmas.List.Elements.{filter-append}
 use Rattle.std.specs.Prelude.{if◌then◌else◌, not, ◌&&◌, nat_lt}
 use Rattle.loft_tree.specs.declared.heads.Heads.{Heads}
-use Rattle.loft_sense.specs.declared.order.Sent.{Sent}
-use Rattle.loft_sense.specs.declared.entry.Actor.{Actor}
-use Rattle.loft_sense.specs.declared.entry.Actor.TheVariants as actor
-use Rattle.loft_sense.specs.declared.entry.Entry.{Entry}
-use Rattle.loft_sense.specs.declared.entry.Entry.TheVariants.{Take, Give, Pick, Post, Client}
+use Rattle.loft_orders.specs.declared.order.Sent.{Sent}
+use Rattle.loft_orders.specs.declared.entry.Actor.{Actor}
+use Rattle.loft_orders.specs.declared.entry.Actor.TheVariants as actor
+use Rattle.loft_orders.specs.declared.entry.Entry.{Entry}
+use Rattle.loft_orders.specs.declared.entry.Entry.TheVariants.{Take, Give, Pick, Post, Client}
 use Rattle.loft_base.specs.declared.options.RunOptions.{RunOptions}
 use Rattle.loft_sense.specs.Machine.{Prog, heads}
 use Rattle.loft_history.specs.History.{Choice, TakeBy, GiveBy, PickBy, PostBy, ClientBy, choice_of, is_open, waiting, jobs, unposted, unsent, replayed, has_turn, sent_last, entry_of_first, pick_of, entry_of, hist_on, hist}

@@ -5,18 +5,18 @@ use Rattle.std.specs.Fmt.{decimal}
 use Rattle.loft_base.specs.declared.ids.SchedId.{SchedId}
 use Rattle.loft_base.specs.declared.ids.SharedId.{SharedId}
 use Rattle.loft_tree.specs.declared.heads.Heads.{Heads}
-use Rattle.loft_sense.specs.declared.order.Order.{Order}
-use Rattle.loft_sense.specs.declared.note.Standing.{Standing}
-use Rattle.loft_sense.specs.declared.note.InstantNote.{InstantNote}
+use Rattle.loft_orders.specs.declared.order.Order.{Order}
+use Rattle.loft_orders.specs.declared.note.Standing.{Standing}
+use Rattle.loft_orders.specs.declared.note.InstantNote.{InstantNote}
 use Rattle.loft_base.specs.declared.options.Limits.{Limits}
 use Rattle.loft_base.specs.declared.options.RunOptions.{RunOptions}
 use Rattle.loft_sense.specs.Machine.{Prog, heads}
 use Rattle.loft_sense.specs.Instant.{Replayed}
-use Rattle.loft_sense.specs.declared.entry.Entry.{Entry}
+use Rattle.loft_orders.specs.declared.entry.Entry.{Entry}
 use Rattle.loft_sense.specs.Heads.{shared_of}
 use Rattle.loft_history.specs.History.{Choice, TakeBy, GiveBy, PickBy, PostBy, ClientBy, choice_of, log, waiting, replayed}
-use Rattle.loft_sense.specs.Text.{client_name, space, scheduler_name, thread_text, order_text}
-use Rattle.loft_sense.specs.Lines.{text_of, scheduler_line, shared_line, instant_lines}
+use Rattle.loft_orders.specs.Text.{client_name, space, scheduler_name, thread_text, order_text}
+use Rattle.loft_orders.specs.Lines.{text_of, scheduler_line, shared_line, instant_lines}
 
 abbrev pub choice_line : Heads → Choice → List ℕ
 choice_line h (TakeBy s) = codes "take " ++ scheduler_name h s

@@ -3,7 +3,7 @@ use Rattle.std.proofs.Common.{◌≡◌, ℕ, false, List, sym, ap, ◌∙◌, s
 use Rattle.loft_base.specs.declared.ids.SchedId.{SchedId}
 use Rattle.loft_board.specs.Board.{Board, no_events}
 use Rattle.loft_base.specs.declared.options.Limits.{Limits}
-use Rattle.loft_sense.specs.declared.order.Order.{Order}
+use Rattle.loft_orders.specs.declared.order.Order.{Order}
 use Rattle.loft_sense.specs.Machine.{Prog, heads, Mach}
 use Rattle.loft_sense.specs.Apply.{Applied, apply}
 use Rattle.loft_sense.specs.Around.{Around}

@@ -3,8 +3,8 @@ use Rattle.std.proofs.Common.{◌≡◌, ℕ, zero, suc, ◌<◌, ◌+◌, Bool,
 use Rattle.std.specs.Prelude.{◌||◌, if◌then◌else◌, slice_set}
 use Rattle.std.proofs.lemmas.Option.{slice_get_read}
 use Rattle.loft_base.specs.declared.ids.ThreadId.{ThreadId}
-use Rattle.loft_sense.specs.declared.note.Standing.{Standing}
-use Rattle.loft_sense.specs.declared.order.Mark.TheVariants as mark
+use Rattle.loft_orders.specs.declared.note.Standing.{Standing}
+use Rattle.loft_orders.specs.declared.order.Mark.TheVariants as mark
 use Rattle.loft_sense.specs.Apply.{Applied, marked, is_linked, without_first, suspend}
 use Rattle.loft_sense.specs.CanGo.{same_thread}
 use Rattle.loft_passes.specs.declared.runner.Runner.{Runner}

@@ -1,7 +1,7 @@
 -- A scheduler that applies a batch, as a plain value.
 use Rattle.std.specs.Prelude.{Bool, if◌then◌else◌}
 use Rattle.loft_base.specs.declared.ids.ThreadId.{ThreadId}
-use Rattle.loft_sense.specs.declared.order.Mark.TheVariants as mark
+use Rattle.loft_orders.specs.declared.order.Mark.TheVariants as mark
 use Rattle.loft_sense.specs.Apply.{Applied, marked, is_linked, suspend}
 use Rattle.loft_instant.specs.declared.batch.Batch.{Batch}
 use Rattle.loft_passes.specs.View.{standings_of}

@@ -2,7 +2,7 @@
 
 ghost use Rattle.std.specs.Prelude.{◌≡◌, [], length, IfOk, OnOk};
 ghost use Rattle.loft_board.specs.Board.{no_events, generate as generate_on};
-ghost use Rattle.loft_sense.specs.declared.order.Mark.TheVariants as mark;
+ghost use Rattle.loft_orders.specs.declared.order.Mark.TheVariants as mark;
 ghost use Rattle.loft_sense.specs.Apply.{marked, with_last, ended_by, apply_order, apply_orders, new_thread as new_thread_of};
 ghost use Rattle.loft_instant.specs.Positions.{IsPosition};
 
@@ -11,7 +11,8 @@ use loft_base::{EventId, ModuleId, NoMemory, SchedId, Sequence, ThreadId, TryClo
 use loft_board::Board;
 use loft_effect::{first_values, same_thread};
 use loft_passes::Runner;
-use loft_sense::{End, Ended, Ends, Frame, MAX_LINKED, Mark, Marks, Order, Sents, Thread, Wait};
+use loft_orders::{End, Ended, Ends, Frame, Mark, Marks, Order, Sents, Thread, Wait};
+use loft_sense::MAX_LINKED;
 use loft_tree::Heads;
 use std::alloc::Global;
 
@@ -72,7 +73,7 @@ fn new_thread(
 impl Batch {
     ghost use Rattle.loft_passes.specs.View.{standings_of};
     ghost use Rattle.loft_instant.specs.Batches.{applied_of, suspended_by};
-    ghost use Rattle.loft_sense.specs.declared.order.Order.TheVariants as order;
+    ghost use Rattle.loft_orders.specs.declared.order.Order.TheVariants as order;
 
     /// A scheduler with these threads, before the first order.
     pub fn new(

@@ -11,7 +11,8 @@ use crate::rest::{all_rest, standings};
 use crate::shared::own_of;
 use loft_base::{Limits, NoMemory, SchedId, Sequence};
 use loft_passes::Interpreter;
-use loft_sense::{Engine, FinalState, InstantNote, Orders};
+use loft_orders::{FinalState, InstantNote, Orders};
+use loft_sense::Engine;
 use std::alloc::Global;
 
 /// The engine of one scheduler: an instant changes what the definitions change, and after a failed allocation it makes no

@@ -19,7 +19,8 @@ use loft_base::{Limits, NoMemory, SchedId, Sequence, SharedId, ThreadId};
 use loft_board::Board;
 use loft_effect::Around;
 use loft_passes::{Interpreter, Runner, begin_all, close_all, passes};
-use loft_sense::{Changes, InstantNote, Numbers, Order, Orders, Sents, Tally, Threads};
+use loft_orders::{Changes, InstantNote, Numbers, Order, Orders, Sents, Threads};
+use loft_sense::Tally;
 use loft_tree::{Heads, Place};
 use std::alloc::Global;
 

@@ -5,7 +5,7 @@ ghost use Rattle.loft_sense.specs.Heads.{is_at, shared_from};
 ghost use Rattle.loft_sense.specs.Instant.{changes as changes_in};
 
 use loft_base::{NoMemory, SchedId, Sequence, SharedId};
-use loft_sense::{Change, Changes, Numbers};
+use loft_orders::{Change, Changes, Numbers};
 use loft_tree::SharedHead;
 use std::alloc::Global;
 

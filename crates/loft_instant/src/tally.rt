@@ -6,7 +6,8 @@ ghost use Rattle.loft_sense.specs.Tally.{unlinks as unlinks_in, unlinked_in as u
 
 use loft_base::SchedId;
 use loft_instant_text::note_length;
-use loft_sense::{InstantNote, Order, Orders, Sent, Tally, To};
+use loft_orders::{InstantNote, Order, Orders, Sent, To};
+use loft_sense::Tally;
 use loft_text::{TextLength, TextWriter, push_scheduler_name};
 use loft_tree::Heads;
 

@@ -6,7 +6,7 @@ ghost use Rattle.loft_sense.specs.Apply.{tell_end as tell_end_of};
 ghost use Rattle.loft_sense.specs.Instant.{sent_by};
 
 use loft_base::{NoMemory, SchedId, ThreadId, TryClone};
-use loft_sense::{Act, End, Order, Sent, Sents, To};
+use loft_orders::{Act, End, Order, Sent, Sents, To};
 use std::alloc::Global;
 
 /// The order by which the other schedulers learn of an end.

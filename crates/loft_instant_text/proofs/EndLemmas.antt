@@ -5,8 +5,8 @@ use Rattle.std.proofs.lemmas.Map.Views.{exact_unsigned_eq}
 use Rattle.std.proofs.lemmas.Grind.{common_steps, flat_map-append}
 use Rattle.loft_instant_text.proofs.Lists.{drop-at}
 use Rattle.loft_tree.specs.declared.heads.Heads.{Heads}
-use Rattle.loft_sense.specs.declared.note.Ended.{Ended}
-use Rattle.loft_sense.specs.Lines.{text_of, end_line, ends_at}
+use Rattle.loft_orders.specs.declared.note.Ended.{Ended}
+use Rattle.loft_orders.specs.Lines.{text_of, end_line, ends_at}
 use Rattle.loft_instant_text.specs.Ends.{InOrderFrom, AreLeft, leading}
 
 -- the line of an end is told where its index is that one

@@ -2,8 +2,8 @@
 use Rattle.std.specs.Prelude.{ℕ, ◌≡◌, ◌≤◌, ◌==◌, Bool, true, List, [], ◌∷◌, ⊤}
 use Rattle.std.specs.List.{prefix_len}
 use Rattle.loft_tree.specs.declared.heads.Heads.{Heads}
-use Rattle.loft_sense.specs.declared.note.Ended.{Ended}
-use Rattle.loft_sense.specs.Lines.{ends_at}
+use Rattle.loft_orders.specs.declared.note.Ended.{Ended}
+use Rattle.loft_orders.specs.Lines.{ends_at}
 
 -- no index is below k, and none is below that of an end in front of it
 abbrev pub InOrderFrom : ℕ → List Ended → Type 0

@@ -2,13 +2,13 @@
 
 ghost use Rattle.std.specs.Prelude.{◌≡◌, ◌+◌, List, [], ◌∷◌, true};
 ghost use Rattle.loft_tree.specs.declared.heads.Heads.{Heads};
-ghost use Rattle.loft_sense.specs.declared.note.Ended.{Ended};
-ghost use Rattle.loft_sense.specs.Lines.{text_of, ends_at};
+ghost use Rattle.loft_orders.specs.declared.note.Ended.{Ended};
+ghost use Rattle.loft_orders.specs.Lines.{text_of, ends_at};
 ghost use Rattle.loft_text.specs.Appending.{Appends};
 ghost use Rattle.loft_instant_text.specs.Ends.{InOrderFrom, AreLeft, leading};
 
 use crate::lines::push_end_line;
-use loft_sense::Ended;
+use loft_orders::Ended;
 use loft_text::TextWriter;
 use loft_tree::Heads;
 

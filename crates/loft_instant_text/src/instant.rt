@@ -2,12 +2,12 @@
 
 ghost use Rattle.std.specs.Prelude.{◌≡◌, ◌-◌, ◌^◌, map, min, length};
 ghost use Rattle.loft_text.specs.Appending.{Appends};
-ghost use Rattle.loft_sense.specs.Lines.{text_of, batch_lines, leave_line, leave_lines, instant_lines};
+ghost use Rattle.loft_orders.specs.Lines.{text_of, batch_lines, leave_line, leave_lines, instant_lines};
 
 use crate::ends::{are_in_order, ends_from, push_ends};
 use crate::lines::{InOneLine, push_leave_line, push_order_line};
 use loft_base::SchedId;
-use loft_sense::{Ended, InstantNote, Mark, Order, Orders, Sent};
+use loft_orders::{Ended, InstantNote, Mark, Order, Orders, Sent};
 use loft_text::{TextLength, TextWriter};
 use loft_tree::Heads;
 

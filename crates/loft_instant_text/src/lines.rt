@@ -3,13 +3,13 @@
 ghost use Rattle.std.specs.Prelude.{◌++◌, ℕ, List, codes};
 ghost use Rattle.loft_text.specs.Appending.{Appends};
 ghost use Rattle.loft_tree.specs.declared.heads.Heads.{Heads};
-ghost use Rattle.loft_sense.specs.Text.{space, event_name, sent_value, id_text, order_text};
-ghost use Rattle.loft_sense.specs.Lines.{end_line, mark_word, receiver_name, leave_place, act_line, at_line, shared_line};
+ghost use Rattle.loft_orders.specs.Text.{space, event_name, sent_value, id_text, order_text};
+ghost use Rattle.loft_orders.specs.Lines.{end_line, mark_word, receiver_name, leave_place, act_line, at_line, shared_line};
 
 use crate::order_text::{push_order, push_sent_value};
 use crate::thread_text::push_thread;
 use loft_base::{EventId, ThreadId};
-use loft_sense::{Act, Change, End, Mark, Order, Sent, Thread, To};
+use loft_orders::{Act, Change, End, Mark, Order, Sent, Thread, To};
 use loft_text::{
     TextWriter, push_end, push_event_name, push_id, push_scheduler_name, push_shared_name,
 };

@@ -2,11 +2,11 @@
 
 ghost use Rattle.std.specs.Prelude.{◌++◌, codes};
 ghost use Rattle.loft_text.specs.Appending.{Appends};
-ghost use Rattle.loft_sense.specs.Text.{space, separated, module_name, event_name, id_text, value_text, end_text, sent_value, order_text};
+ghost use Rattle.loft_orders.specs.Text.{space, separated, module_name, event_name, id_text, value_text, end_text, sent_value, order_text};
 
 use crate::thread_text::push_thread;
 use loft_base::{EventId, ModuleId, ThreadId, Value};
-use loft_sense::{End, Order};
+use loft_orders::{End, Order};
 use loft_text::{TextWriter, push_end, push_event_name, push_id, push_module_name, push_separated};
 use loft_tree::Heads;
 

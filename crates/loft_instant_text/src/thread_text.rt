@@ -3,11 +3,11 @@
 ghost use Rattle.std.specs.Prelude.{◌++◌, codes};
 ghost use Rattle.std.specs.Fmt.{signed_decimal};
 ghost use Rattle.loft_text.specs.Appending.{Appends};
-ghost use Rattle.loft_sense.specs.declared.thread.Wait.TheVariants.{Events};
-ghost use Rattle.loft_sense.specs.Text.{space, colon, id_text, left_text, events_word, wait_text, thread_text};
+ghost use Rattle.loft_orders.specs.declared.thread.Wait.TheVariants.{Events};
+ghost use Rattle.loft_orders.specs.Text.{space, colon, id_text, left_text, events_word, wait_text, thread_text};
 
 use loft_base::{EventId, ThreadId};
-use loft_sense::{Thread, Wait};
+use loft_orders::{Thread, Wait};
 use loft_text::{TextWriter, push_id, push_separated, push_separated_by};
 use loft_tree::Heads;
 

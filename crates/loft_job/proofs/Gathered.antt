@@ -4,8 +4,8 @@ use Rattle.std.specs.Prelude.{IfOk}
 use Rattle.loft_base.specs.declared.errors.NoMemory.{NoMemory}
 use Rattle.loft_tree.specs.declared.heads.Place.TheVariants.{Unlinked}
 use Rattle.loft_code.specs.Operations.{Automata}
-use Rattle.loft_sense.specs.declared.note.Act.{Act}
-use Rattle.loft_sense.specs.declared.order.Sent.{Sent}
+use Rattle.loft_orders.specs.declared.note.Act.{Act}
+use Rattle.loft_orders.specs.declared.order.Sent.{Sent}
 use Rattle.loft_sense.specs.Code.{code}
 use Rattle.loft_sense.specs.Run.{Outcome}
 use Rattle.loft_sense.specs.Instant.{sent_by}

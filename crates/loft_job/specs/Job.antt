@@ -1,7 +1,7 @@
 -- What a job has still to send (docs/SEMANTICS.md, "Unlinked blocks").
 use Rattle.std.specs.Prelude.{Bool, List, Option, Some, None}
 use Rattle.loft_code.specs.Operations.{Automata}
-use Rattle.loft_sense.specs.declared.order.Sent.{Sent}
+use Rattle.loft_orders.specs.declared.order.Sent.{Sent}
 use Rattle.loft_sense.specs.Machine.{Code}
 use Rattle.loft_sense.specs.Async.{block_sent}
 use Rattle.loft_step.specs.declared.midst.Paused.{Paused}

@@ -11,7 +11,7 @@ use crate::stepping::Stepping;
 use loft_base::NoMemory;
 use loft_block::Block;
 use loft_code::Code;
-use loft_sense::{Sent as SentOrder, Thread};
+use loft_orders::{Sent as SentOrder, Thread};
 use loft_step::Paused;
 use std::alloc::Global;
 

@@ -12,7 +12,7 @@ ghost use Rattle.loft_job.specs.Job.{paused_sent};
 use loft_base::NoMemory;
 use loft_block::{Pieces, alone, tell, tell_gone};
 use loft_code::Code;
-use loft_sense::{Sents, Thread};
+use loft_orders::{Sents, Thread};
 use loft_step::{Paused, Progress, begin, go_on};
 use std::alloc::Global;
 

@@ -10,21 +10,21 @@ use Rattle.loft_base.specs.declared.ids.SchedId.{SchedId}
 use Rattle.loft_base.specs.declared.ids.SharedId.{SharedId}
 use Rattle.loft_tree.specs.declared.heads.SharedHead.{SharedHead}
 use Rattle.loft_tree.specs.declared.heads.Heads.{Heads}
-use Rattle.loft_sense.specs.declared.order.Order.{Order}
-use Rattle.loft_sense.specs.declared.order.Order.TheVariants.{Arrive}
-use Rattle.loft_sense.specs.declared.order.To.{To}
-use Rattle.loft_sense.specs.declared.thread.Thread.{Thread}
-use Rattle.loft_sense.specs.declared.order.Mark.{Mark}
-use Rattle.loft_sense.specs.declared.order.Sent.{Sent}
-use Rattle.loft_sense.specs.declared.note.Ended.{Ended}
+use Rattle.loft_orders.specs.declared.order.Order.{Order}
+use Rattle.loft_orders.specs.declared.order.Order.TheVariants.{Arrive}
+use Rattle.loft_orders.specs.declared.order.To.{To}
+use Rattle.loft_orders.specs.declared.thread.Thread.{Thread}
+use Rattle.loft_orders.specs.declared.order.Mark.{Mark}
+use Rattle.loft_orders.specs.declared.order.Sent.{Sent}
+use Rattle.loft_orders.specs.declared.note.Ended.{Ended}
 use Rattle.loft_sense.specs.Heads.{scheduler, shared_from}
 use Rattle.loft_history.specs.History.{choice_of, log, waiting}
-use Rattle.loft_sense.specs.Text.{space, name_or_none, id_text, order_text}
-use Rattle.loft_sense.specs.Lines.{text_of, end_line, mark_word, ends_at, batch_lines, leave_line, leave_lines, leave_place, instant_lines}
+use Rattle.loft_orders.specs.Text.{space, name_or_none, id_text, order_text}
+use Rattle.loft_orders.specs.Lines.{text_of, end_line, mark_word, ends_at, batch_lines, leave_line, leave_lines, leave_place, instant_lines}
 use Rattle.loft_history.specs.Report.{choice_line, instants_lines, shared_lines, left_line, schedulers_from}
-use Rattle.loft_sense.specs.declared.entry.Entry.{Entry}
-use Rattle.loft_sense.specs.declared.note.FinalState.{FinalState}
-use Rattle.loft_sense.specs.declared.note.InstantNote.{InstantNote}
+use Rattle.loft_orders.specs.declared.entry.Entry.{Entry}
+use Rattle.loft_orders.specs.declared.note.FinalState.{FinalState}
+use Rattle.loft_orders.specs.declared.note.InstantNote.{InstantNote}
 use Rattle.loft_history.proofs.HistoryLemmas.{log-append}
 use Rattle.loft_log.specs.WorldReport.{world_block, world_blocks, left_of_each}
 use Rattle.loft_log.proofs.LineLemmas.{text_of-append, text_of-one, drop-at}

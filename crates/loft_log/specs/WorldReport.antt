@@ -3,14 +3,14 @@ use Rattle.std.specs.Prelude.{List, [], ◌∷◌, ◌++◌, ℕ, map, codes}
 use Rattle.std.specs.List.{flat_map}
 use Rattle.loft_base.specs.declared.ids.SchedId.{SchedId}
 use Rattle.loft_tree.specs.declared.heads.Heads.{Heads}
-use Rattle.loft_sense.specs.declared.entry.Entry.{Entry}
+use Rattle.loft_orders.specs.declared.entry.Entry.{Entry}
 use Rattle.loft_base.specs.declared.options.RunOptions.{RunOptions}
-use Rattle.loft_sense.specs.declared.note.FinalState.{FinalState}
-use Rattle.loft_sense.specs.declared.note.InstantNote.{InstantNote}
+use Rattle.loft_orders.specs.declared.note.FinalState.{FinalState}
+use Rattle.loft_orders.specs.declared.note.InstantNote.{InstantNote}
 use Rattle.loft_history.specs.History.{choice_of, log, waiting}
-use Rattle.loft_sense.specs.Lines.{text_of}
+use Rattle.loft_orders.specs.Lines.{text_of}
 use Rattle.loft_history.specs.Report.{head_lines, instants_lines, final_lines, left_line, left_part, schedulers_from}
-use Rattle.loft_sense.specs.Text.{scheduler_name}
+use Rattle.loft_orders.specs.Text.{scheduler_name}
 
 -- a scheduler's block: the batches that it took with the notes of its instants, and how it stands in the end
 abbrev pub world_block : Heads → List Entry → SchedId → List InstantNote → FinalState → List (List ℕ)

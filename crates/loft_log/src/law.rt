@@ -1,9 +1,9 @@
 //! The law of reports.
 
 ghost use Rattle.std.specs.Prelude.{◌≡◌, List};
-ghost use Rattle.loft_sense.specs.declared.entry.Entry.{Entry};
-ghost use Rattle.loft_sense.specs.declared.note.InstantNote.{InstantNote};
-ghost use Rattle.loft_sense.specs.declared.note.FinalState.{FinalState};
+ghost use Rattle.loft_orders.specs.declared.entry.Entry.{Entry};
+ghost use Rattle.loft_orders.specs.declared.note.InstantNote.{InstantNote};
+ghost use Rattle.loft_orders.specs.declared.note.FinalState.{FinalState};
 ghost use Rattle.loft_base.specs.declared.options.RunOptions.{RunOptions};
 ghost use Rattle.loft_sense.specs.Machine.{Prog, heads};
 ghost use Rattle.loft_history.specs.Report.{report};

@@ -1,11 +1,11 @@
 -- What leaving threads send, one after the other.
 use Rattle.std.proofs.Common.{◌≡◌, ℕ, ◌+◌, ◌<◌, List, [], ◌∷◌, ◌++◌, length, drop, get_or, append_assoc, refl, sym, ap, ◌∙◌, subst}
 use Rattle.std.proofs.lemmas.List.{drop_more}
-use Rattle.loft_sense.specs.declared.order.Order.TheVariants.{Arrive}
-use Rattle.loft_sense.specs.declared.order.Sent.{Sent}
-use Rattle.loft_sense.specs.declared.order.To.{To}
-use Rattle.loft_sense.specs.declared.thread.Thread.{Thread}
-use Rattle.loft_sense.specs.Group.{member, no_thread}
+use Rattle.loft_orders.specs.declared.order.Order.TheVariants.{Arrive}
+use Rattle.loft_orders.specs.declared.order.Sent.{Sent}
+use Rattle.loft_orders.specs.declared.order.To.{To}
+use Rattle.loft_orders.specs.declared.thread.Thread.{Thread}
+use Rattle.loft_orders.specs.Group.{member, no_thread}
 use Rattle.loft_passes.specs.Leavers.{sends_of}
 
 abbrev pub sends : To → Thread → Sent

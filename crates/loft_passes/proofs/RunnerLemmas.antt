@@ -1,9 +1,9 @@
 -- A run of a thread takes a step.
 use Rattle.std.proofs.Common.{◌≡◌, ℕ, ◌<◌, ◌≤◌, ◌⊎◌, inl, inr, sym, subst, arith}
-use Rattle.loft_sense.specs.declared.order.Stop.{Stop}
-use Rattle.loft_sense.specs.declared.order.Stop.TheVariants.{Holds, Leaves, Ends}
-use Rattle.loft_sense.specs.declared.order.To.{To}
-use Rattle.loft_sense.specs.declared.thread.Thread.{Thread}
+use Rattle.loft_orders.specs.declared.order.Stop.{Stop}
+use Rattle.loft_orders.specs.declared.order.Stop.TheVariants.{Holds, Leaves, Ends}
+use Rattle.loft_orders.specs.declared.order.To.{To}
+use Rattle.loft_orders.specs.declared.thread.Thread.{Thread}
 use Rattle.loft_sense.specs.Machine.{Prog}
 use Rattle.loft_sense.specs.Around.{Around}
 use Rattle.loft_sense.specs.Run.{Outcome}

@@ -1,10 +1,10 @@
 -- What the engine keeps in memory during an instant, as plain values.
 use Rattle.std.specs.Prelude.{◌-◌, Bool, true, false, ◌&&◌, List, [], ◌∷◌, map, Option, Some, None}
 use Rattle.std.specs.List.{flat_map}
-use Rattle.loft_sense.specs.declared.note.Standing.{Standing}
-use Rattle.loft_sense.specs.declared.order.Stop.{Stop}
-use Rattle.loft_sense.specs.declared.order.Stop.TheVariants.{Holds, Leaves, Ends}
-use Rattle.loft_sense.specs.declared.order.To.{To}
+use Rattle.loft_orders.specs.declared.note.Standing.{Standing}
+use Rattle.loft_orders.specs.declared.order.Stop.{Stop}
+use Rattle.loft_orders.specs.declared.order.Stop.TheVariants.{Holds, Leaves, Ends}
+use Rattle.loft_orders.specs.declared.order.To.{To}
 use Rattle.loft_sense.specs.Around.{Around}
 use Rattle.loft_sense.specs.CanGo.{can_go}
 use Rattle.loft_sense.specs.Passes.{Runner, Walk}

@@ -8,7 +8,7 @@ use crate::leavers::Leavers;
 use crate::runner::Runner;
 use loft_base::{NoMemory, Sequence, TryClone};
 use loft_effect::take_thread;
-use loft_sense::{Sents, Stop, Threads, Wait};
+use loft_orders::{Sents, Stop, Threads, Wait};
 use std::alloc::Global;
 
 /// A number left in a wait, one lower where it is positive.

@@ -9,7 +9,7 @@ ghost use Rattle.loft_effect.specs.Outcomes.{outcome_of};
 
 use loft_base::NoMemory;
 use loft_effect::Around;
-use loft_sense::{Stop, Thread};
+use loft_orders::{Stop, Thread};
 use loft_tree::Heads;
 use std::alloc::Global;
 

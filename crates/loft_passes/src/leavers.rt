@@ -1,10 +1,10 @@
 //! The threads that leave an instant (docs/SEMANTICS.md, "Instant").
 
 ghost use Rattle.std.specs.Prelude.{◌≡◌, [], ◌∷◌, ◌++◌, IfOk, OnOk};
-ghost use Rattle.loft_sense.specs.declared.order.Order.TheVariants.{Arrive};
+ghost use Rattle.loft_orders.specs.declared.order.Order.TheVariants.{Arrive};
 
 use loft_base::NoMemory;
-use loft_sense::{Order, Sent, Sents, Thread, ThreadGroup, To};
+use loft_orders::{Order, Sent, Sents, Thread, ThreadGroup, To};
 use std::alloc::Global;
 use std::marker::Model;
 
@@ -18,7 +18,7 @@ pub struct Leavers {
 
 impl Model for Leavers {
     ghost use Rattle.std.specs.Prelude.{◌≡◌, List, length};
-    ghost use Rattle.loft_sense.specs.declared.order.Sent.{Sent};
+    ghost use Rattle.loft_orders.specs.declared.order.Sent.{Sent};
     ghost use Rattle.loft_passes.specs.Leavers.{sends_of};
 
     ghost Value = { List Sent };

@@ -8,7 +8,7 @@ ghost use Rattle.loft_effect.specs.View.{around_of};
 use crate::interpreter::Interpreter;
 use loft_base::NoMemory;
 use loft_effect::Around;
-use loft_sense::{Stop, Thread};
+use loft_orders::{Stop, Thread};
 use std::alloc::Global;
 
 /// A linked thread, and what it has done in an instant so far.

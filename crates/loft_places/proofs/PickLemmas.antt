@@ -4,14 +4,14 @@ use Rattle.std.specs.Prelude.{drop}
 use Rattle.std.proofs.lemmas.Grind.{flat_map-append}
 use Rattle.std.proofs.lemmas.List.Sums.{fold_push}
 use Rattle.loft_tree.specs.declared.heads.Heads.{Heads}
-use Rattle.loft_sense.specs.declared.entry.Entry.{Entry}
-use Rattle.loft_sense.specs.declared.entry.Entry.TheVariants.{Take, Give, Pick, Post, Client}
-use Rattle.loft_sense.specs.declared.order.Order.{Order}
-use Rattle.loft_sense.specs.declared.order.Order.TheVariants as order
-use Rattle.loft_sense.specs.declared.order.Sent.{Sent}
-use Rattle.loft_sense.specs.declared.order.To.{To}
-use Rattle.loft_sense.specs.declared.order.To.TheVariants as to
-use Rattle.loft_sense.specs.declared.thread.Thread.{Thread}
+use Rattle.loft_orders.specs.declared.entry.Entry.{Entry}
+use Rattle.loft_orders.specs.declared.entry.Entry.TheVariants.{Take, Give, Pick, Post, Client}
+use Rattle.loft_orders.specs.declared.order.Order.{Order}
+use Rattle.loft_orders.specs.declared.order.Order.TheVariants as order
+use Rattle.loft_orders.specs.declared.order.Sent.{Sent}
+use Rattle.loft_orders.specs.declared.order.To.{To}
+use Rattle.loft_orders.specs.declared.order.To.TheVariants as to
+use Rattle.loft_orders.specs.declared.thread.Thread.{Thread}
 use Rattle.loft_history.specs.History.{sends, sent_in, job_before, jobs_sent, jobs_step, jobs}
 use Rattle.loft_history.specs.Legal.{IsFirst, TakesDue, IsRouted}
 use Rattle.loft_places.specs.Batches.{picks, picked_in, InPicks, InPick, StillWaits, InFirstPick}

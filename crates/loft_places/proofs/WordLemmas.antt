@@ -5,10 +5,10 @@ use Rattle.std.proofs.lemmas.List.Sums.{fold-append}
 use mathlib.Core.Logic.{dite}
 use native.Mathlib.Decide.{ℕ_discrete}
 use Rattle.loft_base.specs.declared.ids.ThreadId.{ThreadId}
-use Rattle.loft_sense.specs.declared.entry.Entry.{Entry}
-use Rattle.loft_sense.specs.declared.entry.Entry.TheVariants.{Take, Give, Pick, Post, Client}
+use Rattle.loft_orders.specs.declared.entry.Entry.{Entry}
+use Rattle.loft_orders.specs.declared.entry.Entry.TheVariants.{Take, Give, Pick, Post, Client}
 use Rattle.loft_base.specs.declared.options.RunOptions.{RunOptions}
-use Rattle.loft_sense.specs.declared.thread.Thread.{Thread}
+use Rattle.loft_orders.specs.declared.thread.Thread.{Thread}
 use Rattle.loft_sense.specs.Machine.{Prog, heads}
 use Rattle.loft_history.specs.History.{sent_in, jobs, ends_block, in_hand, is_busy, unposted, busy_step}
 use Rattle.loft_history.specs.Legal.{IsLegal}

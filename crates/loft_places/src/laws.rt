@@ -3,10 +3,10 @@
 ghost use Rattle.std.specs.Prelude.{◌≡◌, List, [], ◌∷◌, ◌++◌};
 ghost use Rattle.loft_base.specs.declared.ids.SchedId.{SchedId};
 ghost use Rattle.loft_tree.specs.declared.heads.Heads.{Heads};
-ghost use Rattle.loft_sense.specs.declared.entry.Entry.{Entry};
-ghost use Rattle.loft_sense.specs.declared.entry.Entry.TheVariants.{Take};
+ghost use Rattle.loft_orders.specs.declared.entry.Entry.{Entry};
+ghost use Rattle.loft_orders.specs.declared.entry.Entry.TheVariants.{Take};
 ghost use Rattle.loft_base.specs.declared.options.RunOptions.{RunOptions};
-ghost use Rattle.loft_sense.specs.declared.order.Order.{Order};
+ghost use Rattle.loft_orders.specs.declared.order.Order.{Order};
 ghost use Rattle.loft_history.specs.History.{sent_in, log, orders_to, starts_of, waiting};
 ghost use Rattle.loft_sense.specs.Machine.{Prog};
 ghost use Rattle.loft_history.specs.Legal.{IsRouted, IsLegal};

@@ -4,8 +4,8 @@ use Rattle.std.specs.Prelude.{IfOk}
 use Rattle.loft_base.specs.declared.errors.NoMemory.{NoMemory}
 use Rattle.loft_tree.specs.declared.heads.Place.TheVariants.{Unlinked}
 use Rattle.loft_tree.specs.Resolved.{Resolved}
-use Rattle.loft_sense.specs.declared.note.Act.{Act}
-use Rattle.loft_sense.specs.declared.order.Sent.{Sent}
+use Rattle.loft_orders.specs.declared.note.Act.{Act}
+use Rattle.loft_orders.specs.declared.order.Sent.{Sent}
 use Rattle.loft_sense.specs.Tree.{tree}
 use Rattle.loft_sense.specs.Run.{Outcome}
 use Rattle.loft_sense.specs.Instant.{sent_by}

@@ -10,7 +10,8 @@ use crate::walker::Walker;
 use loft_base::{Limits, NoMemory, SchedId};
 use loft_instant::InstantEngine;
 use loft_place::Placed;
-use loft_sense::{Engine, FinalState, InstantNote, Orders};
+use loft_orders::{FinalState, InstantNote, Orders};
+use loft_sense::Engine;
 use std::alloc::Global;
 
 /// The engine that walks the statements of a program: an instant changes what the definitions change, and after a

@@ -11,7 +11,7 @@ use crate::walker::Walker;
 use loft_base::NoMemory;
 use loft_block::Block;
 use loft_place::Placed;
-use loft_sense::{Sent, Thread};
+use loft_orders::{Sent, Thread};
 use loft_walk::Paused;
 use std::alloc::Global;
 

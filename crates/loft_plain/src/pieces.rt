@@ -12,7 +12,7 @@ ghost use Rattle.loft_plain.specs.PlainJob.{paused_sent};
 use crate::walker::Walker;
 use loft_base::NoMemory;
 use loft_block::{Pieces, alone, tell, tell_gone};
-use loft_sense::{Sents, Thread};
+use loft_orders::{Sents, Thread};
 use loft_walk::{Paused, Progress, begin, go_on};
 use std::alloc::Global;
 

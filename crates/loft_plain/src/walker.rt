@@ -8,7 +8,7 @@ use loft_base::NoMemory;
 use loft_effect::{Around, take_around, take_thread};
 use loft_passes::Interpreter;
 use loft_place::Placed;
-use loft_sense::{Stop, Thread};
+use loft_orders::{Stop, Thread};
 use loft_tree::Heads;
 use loft_walk::go;
 use std::alloc::Global;

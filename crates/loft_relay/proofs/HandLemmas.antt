@@ -7,9 +7,9 @@ use Rattle.std.proofs.lemmas.List.Folds.{list_any_at}
 use Rattle.std.proofs.lemmas.List.{get_or_default, get_or-take}
 use Rattle.atomic_table.specs.Seated.{TableId}
 use Rattle.loft_code.specs.declared.raw.CodeProgram.{CodeProgram}
-use Rattle.loft_sense.specs.declared.entry.Actor.{Actor}
-use Rattle.loft_sense.specs.declared.entry.Actor.TheVariants as actor
-use Rattle.loft_sense.specs.declared.order.Sent.{Sent}
+use Rattle.loft_orders.specs.declared.entry.Actor.{Actor}
+use Rattle.loft_orders.specs.declared.entry.Actor.TheVariants as actor
+use Rattle.loft_orders.specs.declared.order.Sent.{Sent}
 use Rattle.loft_history.specs.Legal.{same_actor}
 use Rattle.loft_history.proofs.LegalLemmas.{same_actor_self}
 use Rattle.loft_baton.specs.declared.knows.Own.{Own}

@@ -3,10 +3,10 @@ use Rattle.std.specs.Prelude.{◌≡◌, ℕ, List, [], ◌∷◌, map, Option, 
 use Rattle.atomic_table.specs.Seated.{TableId}
 use Rattle.loft_code.specs.View.{automata_of}
 use Rattle.loft_code.specs.declared.raw.CodeProgram.{CodeProgram}
-use Rattle.loft_sense.specs.declared.entry.Actor.TheVariants as actor
-use Rattle.loft_sense.specs.declared.entry.Entry.{Entry}
-use Rattle.loft_sense.specs.declared.entry.Entry.TheVariants as entry
-use Rattle.loft_sense.specs.declared.order.Sent.{Sent}
+use Rattle.loft_orders.specs.declared.entry.Actor.TheVariants as actor
+use Rattle.loft_orders.specs.declared.entry.Entry.{Entry}
+use Rattle.loft_orders.specs.declared.entry.Entry.TheVariants as entry
+use Rattle.loft_orders.specs.declared.order.Sent.{Sent}
 use Rattle.loft_sense.specs.Machine.{Code}
 use Rattle.loft_stand.specs.Machines.{SentFits}
 use Rattle.loft_world.specs.State.{IsToOne, IsForClients}

@@ -2,7 +2,7 @@
 
 ghost use Rattle.std.specs.Prelude.{◌≡◌, [], ℕ, ◌<◌, IfOk, IfSome, IsTrue, length, slice_index_or, true, false};
 ghost use Rattle.std.specs.List.{All};
-ghost use Rattle.loft_sense.specs.declared.entry.Actor.TheVariants as actor;
+ghost use Rattle.loft_orders.specs.declared.entry.Actor.TheVariants as actor;
 ghost use Rattle.loft_history.specs.Legal.{actor_of, of};
 ghost use Rattle.loft_baton.specs.Knowing.{among, IsIdle};
 ghost use Rattle.loft_relay.specs.declared.many.Hand.{Hand};
@@ -13,7 +13,7 @@ use crate::one::give;
 use loft_base::NoMemory;
 use loft_baton::{Baton, Pass};
 use loft_code::Code;
-use loft_sense::{Actor, Sent};
+use loft_orders::{Actor, Sent};
 use loft_world::World;
 use std::alloc::Global;
 use std::sync::Wait;

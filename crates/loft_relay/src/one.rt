@@ -2,14 +2,14 @@
 
 ghost use Rattle.std.specs.Prelude.{◌≡◌, [], ◌∷◌, IfOk, OnOk, OnErr, true};
 ghost use Rattle.std.specs.List.{All};
-ghost use Rattle.loft_sense.specs.declared.entry.Actor.TheVariants as actor;
-ghost use Rattle.loft_sense.specs.declared.entry.Entry.TheVariants as entry;
+ghost use Rattle.loft_orders.specs.declared.entry.Actor.TheVariants as actor;
+ghost use Rattle.loft_orders.specs.declared.entry.Entry.TheVariants as entry;
 ghost use Rattle.loft_baton.specs.Knowing.{has, IsIdle, own_with};
 ghost use Rattle.loft_relay.specs.Gives.{IsOrderFor, HasGiven};
 
 use loft_base::NoMemory;
 use loft_baton::{Baton, Pass};
-use loft_sense::Sent;
+use loft_orders::Sent;
 use std::alloc::Global;
 use std::sync::Wait;
 

@@ -8,7 +8,7 @@ ghost use Rattle.loft_relay.specs.Gives.{IsOrder};
 
 use loft_base::{EventId, NoMemory, Sequence};
 use loft_code::Code;
-use loft_sense::{Order, Sent, Sents, To};
+use loft_orders::{Order, Sent, Sents, To};
 use std::alloc::Global;
 
 /// Broadcasts of a declared event, one with each of these values, to the scheduler of the event.

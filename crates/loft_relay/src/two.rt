@@ -3,7 +3,7 @@
 ghost use Rattle.std.specs.Prelude.{◌≡◌, ◌==◌, ◌||◌, [], IfOk, true, false};
 ghost use Rattle.std.specs.List.{All};
 ghost use Rattle.loft_code.specs.View.{automata_of};
-ghost use Rattle.loft_sense.specs.declared.entry.Actor.TheVariants as actor;
+ghost use Rattle.loft_orders.specs.declared.entry.Actor.TheVariants as actor;
 ghost use Rattle.loft_base.specs.declared.options.RunOptions.{RunOptions};
 ghost use Rattle.loft_sense.specs.Machine.{Code as ByCode};
 ghost use Rattle.loft_history.specs.Legal.{actor_of, same_actor, of, IsFaithful, IsLegal};
@@ -13,7 +13,7 @@ use crate::one::give_all;
 use loft_base::NoMemory;
 use loft_baton::Baton;
 use loft_code::Code;
-use loft_sense::{Actor, Sent};
+use loft_orders::{Actor, Sent};
 use loft_world::World;
 use std::alloc::Global;
 use std::sync::Wait;

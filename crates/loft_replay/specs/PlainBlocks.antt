@@ -2,7 +2,7 @@
 use Rattle.std.specs.Prelude.{ℕ, List, [], Option, Some, None}
 use Rattle.loft_tree.specs.ProgramView.{program_of}
 use Rattle.loft_tree.specs.Resolved.{resolved_of}
-use Rattle.loft_sense.specs.declared.order.Sent.{Sent}
+use Rattle.loft_orders.specs.declared.order.Sent.{Sent}
 use Rattle.loft_sense.specs.Machine.{Prog, Tree}
 use Rattle.loft_plain.specs.declared.job.PlainJob.{PlainJob}
 use Rattle.loft_plain.specs.PlainJob.{left_of_job}

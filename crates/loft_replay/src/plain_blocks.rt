@@ -8,7 +8,7 @@ ghost use Rattle.loft_sense.specs.Machine.{Tree};
 use loft_base::NoMemory;
 use loft_place::Placed;
 use loft_plain::PlainJob;
-use loft_sense::{Sent, Thread};
+use loft_orders::{Sent, Thread};
 use loft_turns::BlockEngine;
 use std::alloc::Global;
 

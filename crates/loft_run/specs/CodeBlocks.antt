@@ -2,7 +2,7 @@
 use Rattle.std.specs.Prelude.{ℕ, List, [], Option, Some, None}
 use Rattle.loft_code.specs.Operations.{Automata}
 use Rattle.loft_code.specs.View.{automata_of}
-use Rattle.loft_sense.specs.declared.order.Sent.{Sent}
+use Rattle.loft_orders.specs.declared.order.Sent.{Sent}
 use Rattle.loft_sense.specs.Machine.{Prog, Code}
 use Rattle.loft_job.specs.declared.job.Job.{Job}
 use Rattle.loft_job.specs.Job.{left_of_job}

@@ -7,7 +7,7 @@ ghost use Rattle.loft_sense.specs.Machine.{Code as ByCode};
 use loft_base::NoMemory;
 use loft_code::Code;
 use loft_job::{Job, JobStep};
-use loft_sense::{Sent, Thread};
+use loft_orders::{Sent, Thread};
 use loft_turns::BlockEngine;
 use std::alloc::Global;
 

@@ -8,12 +8,12 @@ use Rattle.loft_tree.specs.declared.heads.Place.{Place}
 use Rattle.loft_tree.specs.declared.heads.Place.TheVariants.{Sched}
 use Rattle.loft_tree.specs.Fits.{Each}
 use Rattle.loft_sense.specs.declared.limits.TheConstants.{MAX_LINKED}
-use Rattle.loft_sense.specs.declared.order.End.{End}
-use Rattle.loft_sense.specs.declared.order.End.TheVariants.{Stopped, Full as FullEnd}
-use Rattle.loft_sense.specs.declared.order.Order.{Order}
-use Rattle.loft_sense.specs.declared.order.Order.TheVariants as order
-use Rattle.loft_sense.specs.declared.order.Sent.{Sent}
-use Rattle.loft_sense.specs.declared.order.To.{To}
+use Rattle.loft_orders.specs.declared.order.End.{End}
+use Rattle.loft_orders.specs.declared.order.End.TheVariants.{Stopped, Full as FullEnd}
+use Rattle.loft_orders.specs.declared.order.Order.{Order}
+use Rattle.loft_orders.specs.declared.order.Order.TheVariants as order
+use Rattle.loft_orders.specs.declared.order.Sent.{Sent}
+use Rattle.loft_orders.specs.declared.order.To.{To}
 use Rattle.loft_sense.specs.CanGo.{same_thread}
 use Rattle.loft_sense.specs.Apply.{Applied, new_thread, is_linked, tell_end, apply_order, apply_orders}
 use Rattle.loft_stand.proofs.ListLemmas.{each_append}

@@ -9,15 +9,15 @@ use Rattle.loft_tree.specs.declared.heads.Place.{Place}
 use Rattle.loft_tree.specs.declared.heads.Place.TheVariants.{Sched}
 use Rattle.loft_tree.specs.Fits.{Each}
 use Rattle.loft_base.specs.declared.options.Limits.{Limits}
-use Rattle.loft_sense.specs.declared.note.Act.TheVariants as act
-use Rattle.loft_sense.specs.declared.note.Standing.{Standing}
-use Rattle.loft_sense.specs.declared.order.End.{End}
-use Rattle.loft_sense.specs.declared.order.Order.{Order}
-use Rattle.loft_sense.specs.declared.order.Order.TheVariants as order
-use Rattle.loft_sense.specs.declared.order.Sent.{Sent}
-use Rattle.loft_sense.specs.declared.order.To.{To}
-use Rattle.loft_sense.specs.declared.order.To.TheVariants as to
-use Rattle.loft_sense.specs.declared.thread.Thread.{Thread}
+use Rattle.loft_orders.specs.declared.note.Act.TheVariants as act
+use Rattle.loft_orders.specs.declared.note.Standing.{Standing}
+use Rattle.loft_orders.specs.declared.order.End.{End}
+use Rattle.loft_orders.specs.declared.order.Order.{Order}
+use Rattle.loft_orders.specs.declared.order.Order.TheVariants as order
+use Rattle.loft_orders.specs.declared.order.Sent.{Sent}
+use Rattle.loft_orders.specs.declared.order.To.{To}
+use Rattle.loft_orders.specs.declared.order.To.TheVariants as to
+use Rattle.loft_orders.specs.declared.thread.Thread.{Thread}
 use Rattle.loft_sense.specs.Machine.{Prog, heads, Mach}
 use Rattle.loft_sense.specs.Around.{Around}
 use Rattle.loft_sense.specs.CanGo.{same_thread}

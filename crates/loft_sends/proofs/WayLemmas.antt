@@ -12,15 +12,15 @@ use Rattle.loft_tree.specs.declared.heads.Place.{Place}
 use Rattle.loft_tree.specs.declared.heads.Place.TheVariants.{Sched, Unlinked}
 use Rattle.loft_tree.specs.NamedFits.{slots_of}
 use Rattle.loft_tree.specs.Resolved.{Target, ToSlot, ToShared, Action, Assign, Make, PrintText, PrintValue, Generate, ControlThread, Broadcast, Pause, Cooperate, Await, Get, Join, Link, Unlink, Halt}
-use Rattle.loft_sense.specs.declared.order.At.{At}
-use Rattle.loft_sense.specs.declared.order.End.{End}
-use Rattle.loft_sense.specs.declared.order.End.TheVariants.{Done, Div, Deep, Over, Flood}
-use Rattle.loft_sense.specs.declared.order.To.{To}
-use Rattle.loft_sense.specs.declared.order.To.TheVariants as to
+use Rattle.loft_orders.specs.declared.order.At.{At}
+use Rattle.loft_orders.specs.declared.order.End.{End}
+use Rattle.loft_orders.specs.declared.order.End.TheVariants.{Done, Div, Deep, Over, Flood}
+use Rattle.loft_orders.specs.declared.order.To.{To}
+use Rattle.loft_orders.specs.declared.order.To.TheVariants as to
 use Rattle.loft_sense.specs.declared.limits.TheConstants.{MAX_FRAMES}
-use Rattle.loft_sense.specs.declared.thread.Thread.{Thread}
-use Rattle.loft_sense.specs.declared.thread.Wait.{Wait}
-use Rattle.loft_sense.specs.declared.thread.Wait.TheVariants as wait
+use Rattle.loft_orders.specs.declared.thread.Thread.{Thread}
+use Rattle.loft_orders.specs.declared.thread.Wait.{Wait}
+use Rattle.loft_orders.specs.declared.thread.Wait.TheVariants as wait
 use Rattle.loft_sense.specs.Machine.{Prog, Tree, Code, heads}
 use Rattle.loft_sense.specs.Around.{Around, Beside}
 use Rattle.loft_sense.specs.CanGo.{has_any, is_index, is_known}

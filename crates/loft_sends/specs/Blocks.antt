@@ -3,11 +3,11 @@ use Rattle.std.specs.Prelude.{◌≡◌, true, false, List, [], ◌∷◌}
 use Rattle.loft_base.specs.declared.ids.ThreadId.{ThreadId}
 use Rattle.loft_tree.specs.declared.heads.Heads.{Heads}
 use Rattle.loft_tree.specs.NamedFits.{IsScheduler}
-use Rattle.loft_sense.specs.declared.order.Order.{Order}
-use Rattle.loft_sense.specs.declared.order.Order.TheVariants as order
-use Rattle.loft_sense.specs.declared.order.To.{To}
-use Rattle.loft_sense.specs.declared.order.To.TheVariants as to
-use Rattle.loft_sense.specs.declared.order.Sent.{Sent}
+use Rattle.loft_orders.specs.declared.order.Order.{Order}
+use Rattle.loft_orders.specs.declared.order.Order.TheVariants as order
+use Rattle.loft_orders.specs.declared.order.To.{To}
+use Rattle.loft_orders.specs.declared.order.To.TheVariants as to
+use Rattle.loft_orders.specs.declared.order.Sent.{Sent}
 use Rattle.loft_history.specs.History.{ends_block}
 
 -- the last of these orders, and no other, ends a block: its thread is linked again or has ended

@@ -1,7 +1,7 @@
 -- A replay of more batches.
 use Rattle.std.proofs.Common.{◌≡◌, List, [], ◌∷◌, ◌++◌, refl}
 use Rattle.loft_base.specs.declared.options.Limits.{Limits}
-use Rattle.loft_sense.specs.declared.order.Order.{Order}
+use Rattle.loft_orders.specs.declared.order.Order.{Order}
 use Rattle.loft_sense.specs.Machine.{Prog}
 use Rattle.loft_sense.specs.Instant.{Replayed, one_more, replay_on}
 

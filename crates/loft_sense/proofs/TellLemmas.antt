@@ -7,8 +7,8 @@ use Rattle.loft_base.specs.declared.ids.EventId.{EventId}
 use Rattle.loft_base.specs.declared.ids.ThreadId.{ThreadId}
 use Rattle.loft_board.specs.Board.{Board, generate, generate_all}
 use Rattle.loft_board.proofs.BoardLemmas.{stays, prefix}
-use Rattle.loft_sense.specs.declared.note.Act.{Act}
-use Rattle.loft_sense.specs.declared.note.Act.TheVariants as act
+use Rattle.loft_orders.specs.declared.note.Act.{Act}
+use Rattle.loft_orders.specs.declared.note.Act.TheVariants as act
 use Rattle.loft_sense.specs.Around.{Around}
 use Rattle.loft_sense.specs.LawWords.{is_entry, generated_in, ended_in, Tells, KeepsEvents}
 

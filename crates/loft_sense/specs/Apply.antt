@@ -8,19 +8,19 @@ use Rattle.loft_tree.specs.declared.heads.Heads.{Heads}
 use Rattle.loft_tree.specs.declared.heads.Place.{Place}
 use Rattle.loft_tree.specs.declared.heads.Place.TheVariants as place
 use Rattle.loft_board.specs.Board.{Board, no_events, generate}
-use Rattle.loft_sense.specs.declared.thread.Thread.{Thread}
-use Rattle.loft_sense.specs.declared.thread.Wait.TheVariants.{New}
-use Rattle.loft_sense.specs.declared.order.Order.{Order}
-use Rattle.loft_sense.specs.declared.order.Order.TheVariants as order
-use Rattle.loft_sense.specs.declared.order.End.{End}
-use Rattle.loft_sense.specs.declared.order.End.TheVariants.{Stopped, Full as FullEnd}
-use Rattle.loft_sense.specs.declared.order.Mark.{Mark}
-use Rattle.loft_sense.specs.declared.order.Mark.TheVariants as mark
-use Rattle.loft_sense.specs.declared.order.To.{To}
-use Rattle.loft_sense.specs.declared.order.To.TheVariants.{Others, All}
-use Rattle.loft_sense.specs.declared.order.Sent.{Sent}
-use Rattle.loft_sense.specs.declared.note.Ended.{Ended}
-use Rattle.loft_sense.specs.declared.note.Standing.{Standing}
+use Rattle.loft_orders.specs.declared.thread.Thread.{Thread}
+use Rattle.loft_orders.specs.declared.thread.Wait.TheVariants.{New}
+use Rattle.loft_orders.specs.declared.order.Order.{Order}
+use Rattle.loft_orders.specs.declared.order.Order.TheVariants as order
+use Rattle.loft_orders.specs.declared.order.End.{End}
+use Rattle.loft_orders.specs.declared.order.End.TheVariants.{Stopped, Full as FullEnd}
+use Rattle.loft_orders.specs.declared.order.Mark.{Mark}
+use Rattle.loft_orders.specs.declared.order.Mark.TheVariants as mark
+use Rattle.loft_orders.specs.declared.order.To.{To}
+use Rattle.loft_orders.specs.declared.order.To.TheVariants.{Others, All}
+use Rattle.loft_orders.specs.declared.order.Sent.{Sent}
+use Rattle.loft_orders.specs.declared.note.Ended.{Ended}
+use Rattle.loft_orders.specs.declared.note.Standing.{Standing}
 use Rattle.loft_sense.specs.declared.limits.TheConstants.{MAX_LINKED}
 use Rattle.loft_sense.specs.Heads.{first_values}
 use Rattle.loft_sense.specs.Machine.{Prog, heads, Mach}

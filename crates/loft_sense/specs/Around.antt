@@ -3,7 +3,7 @@ use Rattle.std.specs.Prelude.{ℕ, ◌+◌, ℤ, List, [], ◌∷◌, ◌++◌}
 use Rattle.loft_base.specs.declared.ids.ThreadId.{ThreadId}
 use Rattle.loft_tree.specs.declared.heads.Place.{Place}
 use Rattle.loft_board.specs.Board.{Board}
-use Rattle.loft_sense.specs.declared.note.Act.{Act}
+use Rattle.loft_orders.specs.declared.note.Act.{Act}
 
 -- what a running thread sees, and changes for the threads after it in this instant
 pub record Around : Type 0 where

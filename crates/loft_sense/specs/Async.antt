@@ -2,9 +2,9 @@
 use Rattle.std.specs.Prelude.{ℕ, List, [], ◌∷◌, ◌++◌, length}
 use Rattle.loft_tree.specs.declared.heads.Place.TheVariants.{Unlinked}
 use Rattle.loft_board.specs.Board.{no_events}
-use Rattle.loft_sense.specs.declared.thread.Thread.{Thread}
-use Rattle.loft_sense.specs.declared.order.Order.TheVariants.{Arrive}
-use Rattle.loft_sense.specs.declared.order.Sent.{Sent}
+use Rattle.loft_orders.specs.declared.thread.Thread.{Thread}
+use Rattle.loft_orders.specs.declared.order.Order.TheVariants.{Arrive}
+use Rattle.loft_orders.specs.declared.order.Sent.{Sent}
 use Rattle.loft_sense.specs.Machine.{Prog, heads}
 use Rattle.loft_sense.specs.Around.{Around}
 use Rattle.loft_sense.specs.Run.{Outcome, Held, Left, Ended}

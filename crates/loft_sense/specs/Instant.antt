@@ -6,18 +6,18 @@ use Rattle.loft_base.specs.declared.ids.SchedId.{SchedId}
 use Rattle.loft_base.specs.declared.ids.SharedId.{SharedId}
 use Rattle.loft_tree.specs.declared.heads.Place.{Place}
 use Rattle.loft_tree.specs.declared.heads.Place.TheVariants.{Sched}
-use Rattle.loft_sense.specs.declared.thread.Thread.{Thread}
-use Rattle.loft_sense.specs.declared.thread.Wait.{Wait}
-use Rattle.loft_sense.specs.declared.thread.Wait.TheVariants.{Coop, Events, Index, Next, Join}
-use Rattle.loft_sense.specs.declared.order.Order.{Order}
-use Rattle.loft_sense.specs.declared.order.Order.TheVariants.{Arrive}
-use Rattle.loft_sense.specs.declared.order.To.{To}
-use Rattle.loft_sense.specs.declared.order.Sent.{Sent}
-use Rattle.loft_sense.specs.declared.note.Act.{Act}
-use Rattle.loft_sense.specs.declared.note.Act.TheVariants as act
-use Rattle.loft_sense.specs.declared.note.Change.{Change}
-use Rattle.loft_sense.specs.declared.note.Standing.{Standing}
-use Rattle.loft_sense.specs.declared.note.InstantNote.{InstantNote}
+use Rattle.loft_orders.specs.declared.thread.Thread.{Thread}
+use Rattle.loft_orders.specs.declared.thread.Wait.{Wait}
+use Rattle.loft_orders.specs.declared.thread.Wait.TheVariants.{Coop, Events, Index, Next, Join}
+use Rattle.loft_orders.specs.declared.order.Order.{Order}
+use Rattle.loft_orders.specs.declared.order.Order.TheVariants.{Arrive}
+use Rattle.loft_orders.specs.declared.order.To.{To}
+use Rattle.loft_orders.specs.declared.order.Sent.{Sent}
+use Rattle.loft_orders.specs.declared.note.Act.{Act}
+use Rattle.loft_orders.specs.declared.note.Act.TheVariants as act
+use Rattle.loft_orders.specs.declared.note.Change.{Change}
+use Rattle.loft_orders.specs.declared.note.Standing.{Standing}
+use Rattle.loft_orders.specs.declared.note.InstantNote.{InstantNote}
 use Rattle.loft_base.specs.declared.options.Limits.{Limits}
 use Rattle.loft_sense.specs.Heads.{shared_of}
 use Rattle.loft_sense.specs.Tally.{tally_after}

@@ -3,12 +3,12 @@ use Rattle.std.specs.Prelude.{◌≡◌, ℤ, Bool, true, false, IsTrue, List, [
 use Rattle.loft_base.specs.declared.ids.EventId.{EventId}
 use Rattle.loft_base.specs.declared.ids.ThreadId.{ThreadId}
 use Rattle.loft_board.specs.Board.{Board, has, values as event_values, generate_all}
-use Rattle.loft_sense.specs.declared.thread.Wait.{Wait}
-use Rattle.loft_sense.specs.declared.thread.Wait.TheVariants as wait
-use Rattle.loft_sense.specs.declared.note.Act.{Act}
-use Rattle.loft_sense.specs.declared.note.Act.TheVariants.{Gen, End}
+use Rattle.loft_orders.specs.declared.thread.Wait.{Wait}
+use Rattle.loft_orders.specs.declared.thread.Wait.TheVariants as wait
+use Rattle.loft_orders.specs.declared.note.Act.{Act}
+use Rattle.loft_orders.specs.declared.note.Act.TheVariants.{Gen, End}
 use Rattle.loft_base.specs.declared.options.Limits.{Limits}
-use Rattle.loft_sense.specs.declared.order.Order.{Order}
+use Rattle.loft_orders.specs.declared.order.Order.{Order}
 use Rattle.loft_sense.specs.Machine.{Prog, Mach}
 use Rattle.loft_sense.specs.Around.{Around}
 use Rattle.loft_sense.specs.Passes.{Walk, passes}

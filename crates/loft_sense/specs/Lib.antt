@@ -1,11 +1,8 @@
-pub mod Group
-pub mod Printed
 pub mod Heads
 pub mod Tally
 pub mod Machine
 pub mod Around
 pub mod CanGo
-pub mod Text
 pub mod Eval
 pub mod Statements
 pub mod Run
@@ -22,4 +19,3 @@ pub mod CodeOrigins
 pub mod Async
 pub mod Rest
 pub mod Fits
-pub mod Lines

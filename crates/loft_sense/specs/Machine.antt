@@ -5,7 +5,7 @@ use Rattle.loft_base.specs.declared.ids.ThreadId.{ThreadId}
 use Rattle.loft_tree.specs.declared.heads.Heads.{Heads}
 use Rattle.loft_tree.specs.Resolved.{Resolved}
 use Rattle.loft_code.specs.Operations.{Automata}
-use Rattle.loft_sense.specs.declared.note.Standing.{Standing}
+use Rattle.loft_orders.specs.declared.note.Standing.{Standing}
 use Rattle.loft_sense.specs.declared.tally.Tally.{Tally}
 use Rattle.loft_sense.specs.Heads.{shared_values}
 use Rattle.loft_sense.specs.Tally.{first_tally}

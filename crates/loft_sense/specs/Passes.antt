@@ -1,8 +1,8 @@
 -- The passes of an instant: all linked threads in order, again and again, until nobody runs (docs/SEMANTICS.md, "Passes").
 use Rattle.std.specs.Prelude.{ℕ, zero, suc, ◌+◌, Bool, true, false, not, ◌||◌, ◌&&◌, List, [], ◌∷◌, ◌++◌, Option, Some, is_some, if◌then◌else◌}
-use Rattle.loft_sense.specs.declared.thread.Thread.{Thread}
+use Rattle.loft_orders.specs.declared.thread.Thread.{Thread}
 use Rattle.loft_sense.specs.Machine.{Prog, Tree, Code}
-use Rattle.loft_sense.specs.declared.order.To.{To}
+use Rattle.loft_orders.specs.declared.order.To.{To}
 use Rattle.loft_sense.specs.Around.{Around}
 use Rattle.loft_sense.specs.Run.{Outcome, Held, Left, Ended, go}
 use Rattle.loft_sense.specs.Tree.{tree}

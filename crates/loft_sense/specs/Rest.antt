@@ -1,9 +1,9 @@
 -- Schedulers that rest, and that have used their bounds up (docs/SEMANTICS.md, "Rest").
 use Rattle.std.specs.Prelude.{Bool, true, false, ◌||◌, ◌&&◌, not, List, [], ◌∷◌, is_none}
 use Rattle.loft_base.specs.declared.ids.ThreadId.{ThreadId}
-use Rattle.loft_sense.specs.declared.thread.Wait.{Wait}
-use Rattle.loft_sense.specs.declared.thread.Wait.TheVariants.{Events, Join, Halt}
-use Rattle.loft_sense.specs.declared.note.Standing.{Standing}
+use Rattle.loft_orders.specs.declared.thread.Wait.{Wait}
+use Rattle.loft_orders.specs.declared.thread.Wait.TheVariants.{Events, Join, Halt}
+use Rattle.loft_orders.specs.declared.note.Standing.{Standing}
 use Rattle.loft_base.specs.declared.options.Limits.{Limits}
 use Rattle.loft_sense.specs.Tally.{reaches_bound}
 use Rattle.loft_sense.specs.Machine.{Prog, heads, Mach}

@@ -15,23 +15,23 @@ use Rattle.loft_tree.specs.declared.heads.Place.TheVariants as place
 use Rattle.loft_tree.specs.declared.heads.Heads.{Heads}
 use Rattle.loft_tree.specs.Resolved.{Target, ToSlot, ToShared, Action, Assign, Make, PrintText, PrintValue, Generate, ControlThread, Broadcast, Pause, Cooperate, Await, Get, Join, Link, Unlink, Halt}
 use Rattle.loft_board.specs.Board.{Board, has, values as event_values, generate}
-use Rattle.loft_sense.specs.declared.thread.Wait.{Wait}
-use Rattle.loft_sense.specs.declared.thread.Wait.TheVariants as wait
-use Rattle.loft_sense.specs.declared.order.At.{At}
-use Rattle.loft_sense.specs.declared.order.End.{End}
-use Rattle.loft_sense.specs.declared.order.End.TheVariants.{Div, Flood}
-use Rattle.loft_sense.specs.declared.order.Order.{Order}
-use Rattle.loft_sense.specs.declared.order.Order.TheVariants as order
-use Rattle.loft_sense.specs.declared.order.To.{To}
-use Rattle.loft_sense.specs.declared.order.To.TheVariants as to
-use Rattle.loft_sense.specs.declared.note.Act.{Act}
-use Rattle.loft_sense.specs.declared.note.Act.TheVariants as act
+use Rattle.loft_orders.specs.declared.thread.Wait.{Wait}
+use Rattle.loft_orders.specs.declared.thread.Wait.TheVariants as wait
+use Rattle.loft_orders.specs.declared.order.At.{At}
+use Rattle.loft_orders.specs.declared.order.End.{End}
+use Rattle.loft_orders.specs.declared.order.End.TheVariants.{Div, Flood}
+use Rattle.loft_orders.specs.declared.order.Order.{Order}
+use Rattle.loft_orders.specs.declared.order.Order.TheVariants as order
+use Rattle.loft_orders.specs.declared.order.To.{To}
+use Rattle.loft_orders.specs.declared.order.To.TheVariants as to
+use Rattle.loft_orders.specs.declared.note.Act.{Act}
+use Rattle.loft_orders.specs.declared.note.Act.TheVariants as act
 use Rattle.loft_sense.specs.declared.limits.TheConstants.{MAX_ENTRIES, MAX_BLOCK_ENTRIES}
 use Rattle.loft_sense.specs.Heads.{home, rank}
 use Rattle.loft_sense.specs.Around.{Around, Beside, entered}
 use Rattle.loft_sense.specs.Eval.{eval, eval_all, eval_if, number_of, number_if, thread_or}
 use Rattle.loft_sense.specs.CanGo.{ran_out, has_any, is_index, is_known}
-use Rattle.loft_sense.specs.Text.{value_text}
+use Rattle.loft_orders.specs.Text.{value_text}
 
 -- the codes of waits that have ended
 abbrev pub code_ok : ℤ

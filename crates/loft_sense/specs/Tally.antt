@@ -4,14 +4,14 @@ use Rattle.loft_base.specs.declared.ids.SchedId.{SchedId}
 use Rattle.loft_tree.specs.declared.heads.Heads.{Heads}
 use Rattle.loft_base.specs.declared.options.Limits.{Limits}
 use Rattle.loft_sense.specs.declared.limits.TheConstants.{SPENT_BYTES, SPENT_GONE}
-use Rattle.loft_sense.specs.declared.note.InstantNote.{InstantNote}
-use Rattle.loft_sense.specs.declared.order.Order.{Order}
-use Rattle.loft_sense.specs.declared.order.Order.TheVariants.{Arrive}
-use Rattle.loft_sense.specs.declared.order.Sent.{Sent}
-use Rattle.loft_sense.specs.declared.order.To.{To}
-use Rattle.loft_sense.specs.declared.order.To.TheVariants.{Workers}
+use Rattle.loft_orders.specs.declared.note.InstantNote.{InstantNote}
+use Rattle.loft_orders.specs.declared.order.Order.{Order}
+use Rattle.loft_orders.specs.declared.order.Order.TheVariants.{Arrive}
+use Rattle.loft_orders.specs.declared.order.Sent.{Sent}
+use Rattle.loft_orders.specs.declared.order.To.{To}
+use Rattle.loft_orders.specs.declared.order.To.TheVariants.{Workers}
 use Rattle.loft_sense.specs.declared.tally.Tally.{Tally}
-use Rattle.loft_sense.specs.Lines.{text_of, scheduler_line, instant_lines}
+use Rattle.loft_orders.specs.Lines.{text_of, scheduler_line, instant_lines}
 
 -- a count that stops at the end of 64 bits
 abbrev pub capped : ℕ → ℕ

@@ -8,8 +8,8 @@ ghost use Rattle.loft_sense.specs.Instant.{instant};
 ghost use Rattle.loft_sense.specs.Rest.{is_resting, is_spent};
 ghost use Rattle.loft_sense.specs.Fits.{Fits};
 
-use crate::note::{FinalState, InstantNote};
-use crate::order::Orders;
+use loft_orders::{FinalState, InstantNote};
+use loft_orders::Orders;
 use loft_base::NoMemory;
 use std::alloc::Global;
 

@@ -20,18 +20,18 @@ use Rattle.loft_tree.specs.HeadsFit.{kinds_of, TakesIn}
 use Rattle.loft_tree.specs.NamedFits.{IsPlace, IsScheduler}
 use Rattle.loft_tree.specs.Resolved.{Exp, Target, ToSlot, ToShared, Action, Assign, Make, PrintText, PrintValue, Generate, ControlThread, Broadcast, Pause, Cooperate, Await, Get, Join, Link, Unlink, Halt}
 use Rattle.loft_board.specs.Board.{values as event_values, value_list}
-use Rattle.loft_sense.specs.declared.thread.Wait.{Wait}
-use Rattle.loft_sense.specs.declared.thread.Wait.TheVariants as wait
-use Rattle.loft_sense.specs.declared.order.At.{At}
-use Rattle.loft_sense.specs.declared.order.End.TheVariants.{Flood}
-use Rattle.loft_sense.specs.declared.note.Act.{Act}
-use Rattle.loft_sense.specs.declared.note.Act.TheVariants as act
-use Rattle.loft_sense.specs.declared.order.Order.TheVariants as order
-use Rattle.loft_sense.specs.declared.order.To.{To}
+use Rattle.loft_orders.specs.declared.thread.Wait.{Wait}
+use Rattle.loft_orders.specs.declared.thread.Wait.TheVariants as wait
+use Rattle.loft_orders.specs.declared.order.At.{At}
+use Rattle.loft_orders.specs.declared.order.End.TheVariants.{Flood}
+use Rattle.loft_orders.specs.declared.note.Act.{Act}
+use Rattle.loft_orders.specs.declared.note.Act.TheVariants as act
+use Rattle.loft_orders.specs.declared.order.Order.TheVariants as order
+use Rattle.loft_orders.specs.declared.order.To.{To}
 use Rattle.loft_tree.specs.declared.kinds.Control.{Control}
 use Rattle.loft_tree.specs.declared.kinds.Control.TheVariants as control
-use Rattle.loft_sense.specs.Text.{value_text}
-use Rattle.loft_sense.specs.declared.order.To.TheVariants as to
+use Rattle.loft_orders.specs.Text.{value_text}
+use Rattle.loft_orders.specs.declared.order.To.TheVariants as to
 use Rattle.loft_sense.specs.Heads.{home, rank}
 use Rattle.loft_sense.specs.Around.{Around, Beside}
 use Rattle.loft_sense.specs.Eval.{number_of, thread_or, eval, eval_all, eval_if, number_if}

@@ -8,16 +8,16 @@ use Rattle.loft_base.specs.declared.ids.SchedId.{SchedId}
 use Rattle.loft_tree.specs.declared.heads.Heads.{Heads}
 use Rattle.loft_tree.specs.Fits.{Each}
 use Rattle.loft_tree.specs.NamedFits.{IsScheduler}
-use Rattle.loft_sense.specs.declared.entry.Entry.{Entry}
-use Rattle.loft_sense.specs.declared.entry.Entry.TheVariants.{Take, Give, Pick, Post, Client}
+use Rattle.loft_orders.specs.declared.entry.Entry.{Entry}
+use Rattle.loft_orders.specs.declared.entry.Entry.TheVariants.{Take, Give, Pick, Post, Client}
 use Rattle.loft_base.specs.declared.options.RunOptions.{RunOptions}
 use Rattle.loft_base.specs.declared.ids.ThreadId.{ThreadId}
 use Rattle.loft_tree.specs.HeadsFit.{HeadsFit}
-use Rattle.loft_sense.specs.declared.order.Order.{Order}
-use Rattle.loft_sense.specs.declared.order.Order.TheVariants as order
-use Rattle.loft_sense.specs.declared.order.To.{To}
-use Rattle.loft_sense.specs.declared.order.To.TheVariants as to
-use Rattle.loft_sense.specs.declared.order.Sent.{Sent}
+use Rattle.loft_orders.specs.declared.order.Order.{Order}
+use Rattle.loft_orders.specs.declared.order.Order.TheVariants as order
+use Rattle.loft_orders.specs.declared.order.To.{To}
+use Rattle.loft_orders.specs.declared.order.To.TheVariants as to
+use Rattle.loft_orders.specs.declared.order.Sent.{Sent}
 use Rattle.loft_sense.specs.Heads.{shared_values}
 use Rattle.loft_sense.specs.Tally.{first_tally, reaches_bound}
 use Rattle.loft_sense.specs.Machine.{Prog, heads, Mach, empty}
@@ -27,7 +27,7 @@ use Rattle.loft_sense.specs.Fits.{IsThread, IsValue, IsEventOf, Fits}
 use Rattle.loft_history.specs.Clients.{made_by}
 use Rattle.loft_history.specs.History.{Choice, TakeBy, GiveBy, PickBy, PostBy, ClientBy, choice_of, log, is_open, waiting, jobs, unposted_after, unposted, unsent, creates, replayed, is_empty, has_turn, sent_last, entry_of_first, pick_of, entry_of, with_entry, hist_on, hist, has_finished, HasEnded, unposted_step}
 use Rattle.loft_history.specs.Legal.{AtEach, IsCallersOrder, FitsOne, IsLegal, IsCallersEntry, ComesNext}
-use Rattle.loft_sense.specs.Lines.{text_of}
+use Rattle.loft_orders.specs.Lines.{text_of}
 use Rattle.loft_history.specs.Report.{head_lines, block_lines, scheduler_lines, left_line, schedulers_from, left_part, report_lines, report}
 use Rattle.loft_history.proofs.HistoryLemmas.{choice_kept}
 use Rattle.loft_history.proofs.GrowthLemmas.{at_each_before}

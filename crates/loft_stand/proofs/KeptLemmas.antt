@@ -5,7 +5,7 @@ use Rattle.std.proofs.lemmas.List.{reverse-reverse}
 use Rattle.loft_tree.specs.declared.heads.Place.{Place}
 use Rattle.loft_tree.specs.declared.heads.Heads.{Heads}
 use Rattle.loft_tree.specs.Resolved.{Step, Do, Hold, Call, Choose, Loop, Times, Body, Empty, Then, Resolved}
-use Rattle.loft_sense.specs.declared.thread.Frame.{Frame}
+use Rattle.loft_orders.specs.declared.thread.Frame.{Frame}
 use Rattle.loft_sense.specs.Machine.{Tree}
 use Rattle.loft_sense.specs.Run.{frame_of, point_of, active_of}
 use Rattle.loft_sense.specs.Tree.{Work, Again, Turns, body_then, counts_in, first_some, at_stop, first_count, rest_of, after_step, after_body, body_at, work_or_none, tree}

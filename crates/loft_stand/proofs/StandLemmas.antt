@@ -13,9 +13,9 @@ use Rattle.loft_tree.specs.HeadsFit.{agree}
 use Rattle.loft_tree.specs.NamedFits.{slots_of}
 use Rattle.loft_tree.specs.Resolved.{Pause}
 use Rattle.loft_code.specs.Operations.{Automata}
-use Rattle.loft_sense.specs.declared.thread.Frame.{Frame}
-use Rattle.loft_sense.specs.declared.thread.Thread.{Thread}
-use Rattle.loft_sense.specs.declared.thread.Wait.{Wait}
+use Rattle.loft_orders.specs.declared.thread.Frame.{Frame}
+use Rattle.loft_orders.specs.declared.thread.Thread.{Thread}
+use Rattle.loft_orders.specs.declared.thread.Wait.{Wait}
 use Rattle.loft_sense.specs.declared.limits.TheConstants.{MAX_FRAMES}
 use Rattle.loft_sense.specs.Around.{Around, Beside}
 use Rattle.loft_sense.specs.Statements.{answered}

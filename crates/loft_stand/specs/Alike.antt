@@ -1,7 +1,7 @@
 -- Programs whose threads run alike (docs/SEMANTICS.md, "History").
 use Rattle.std.specs.Prelude.{◌≡◌, ℕ}
 use Rattle.loft_tree.specs.declared.heads.Place.{Place}
-use Rattle.loft_sense.specs.declared.thread.Thread.{Thread}
+use Rattle.loft_orders.specs.declared.thread.Thread.{Thread}
 use Rattle.loft_sense.specs.Machine.{Prog, heads as heads_of}
 use Rattle.loft_sense.specs.Around.{Around}
 use Rattle.loft_sense.specs.Passes.{run_of}

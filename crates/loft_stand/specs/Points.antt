@@ -14,14 +14,14 @@ use Rattle.loft_tree.specs.NamedFits.{IsPlace, slots_of}
 use Rattle.loft_tree.specs.Resolved.{Resolved}
 use Rattle.loft_code.specs.Operations.{Line, Automata, way, is_turn}
 use Rattle.loft_code.specs.Leads.{IsReached}
-use Rattle.loft_sense.specs.declared.note.Act.{Act}
-use Rattle.loft_sense.specs.declared.note.Act.TheVariants as act
-use Rattle.loft_sense.specs.declared.order.Order.{Order}
-use Rattle.loft_sense.specs.declared.order.Order.TheVariants as order
-use Rattle.loft_sense.specs.declared.order.To.{To}
-use Rattle.loft_sense.specs.declared.order.To.TheVariants as to
-use Rattle.loft_sense.specs.declared.thread.Thread.{Thread}
-use Rattle.loft_sense.specs.declared.thread.Wait.TheVariants.{New}
+use Rattle.loft_orders.specs.declared.note.Act.{Act}
+use Rattle.loft_orders.specs.declared.note.Act.TheVariants as act
+use Rattle.loft_orders.specs.declared.order.Order.{Order}
+use Rattle.loft_orders.specs.declared.order.Order.TheVariants as order
+use Rattle.loft_orders.specs.declared.order.To.{To}
+use Rattle.loft_orders.specs.declared.order.To.TheVariants as to
+use Rattle.loft_orders.specs.declared.thread.Thread.{Thread}
+use Rattle.loft_orders.specs.declared.thread.Wait.TheVariants.{New}
 use Rattle.loft_sense.specs.declared.limits.TheConstants.{MAX_FRAMES}
 use Rattle.loft_sense.specs.Heads.{shared_values}
 use Rattle.loft_sense.specs.Around.{Around, Beside}

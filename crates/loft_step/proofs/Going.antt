@@ -11,12 +11,12 @@ use Rattle.loft_tree.specs.declared.named.Target.{Target as TargetInMemory}
 use Rattle.loft_tree.specs.Resolved.{Pause, target_of as target_from}
 use Rattle.loft_code.specs.Operations.{Operation, Do, Hold, Call, Branch, Enter, Count, Turn, Jump, End, Line, Automata, is_end}
 use Rattle.loft_sense.specs.declared.limits.TheConstants.{MAX_FRAMES}
-use Rattle.loft_sense.specs.declared.order.End.{End as EndOfThread}
-use Rattle.loft_sense.specs.declared.order.End.TheVariants.{Done, Deep, Over}
-use Rattle.loft_sense.specs.declared.order.At.{At}
-use Rattle.loft_sense.specs.declared.thread.Frame.{Frame}
-use Rattle.loft_sense.specs.declared.thread.Wait.{Wait}
-use Rattle.loft_sense.specs.declared.thread.Thread.{Thread}
+use Rattle.loft_orders.specs.declared.order.End.{End as EndOfThread}
+use Rattle.loft_orders.specs.declared.order.End.TheVariants.{Done, Deep, Over}
+use Rattle.loft_orders.specs.declared.order.At.{At}
+use Rattle.loft_orders.specs.declared.thread.Frame.{Frame}
+use Rattle.loft_orders.specs.declared.thread.Wait.{Wait}
+use Rattle.loft_orders.specs.declared.thread.Thread.{Thread}
 use Rattle.loft_sense.specs.Around.{Beside}
 use Rattle.loft_sense.specs.Statements.{Now, now, target_of, answered}
 use Rattle.loft_sense.specs.Run.{Next, Finish, Active, Outcome, here, if_finish, live, begun_frame, ends, step, step_on, no_step, going, go_on, go, active_of}

@@ -9,7 +9,7 @@ use Rattle.loft_base.specs.declared.ids.ModuleId.{ModuleId}
 use Rattle.loft_base.specs.Lists.{overwritten}
 use Rattle.loft_base.specs.declared.ids.Value.{Value}
 use Rattle.loft_code.specs.Operations.{Automata}
-use Rattle.loft_sense.specs.declared.thread.Frame.{Frame}
+use Rattle.loft_orders.specs.declared.thread.Frame.{Frame}
 use Rattle.loft_sense.specs.Code.{Point, point, code, lines_at}
 use Rattle.loft_sense.specs.Run.{Active, active_of, frame_of, point_of}
 use Rattle.loft_effect.proofs.Runs.{reverse-cons, reverse-map}

@@ -2,8 +2,8 @@
 use Rattle.std.specs.Prelude.{◌≡◌, ◌≢◌, ℕ, ◌+◌, ◌<◌, List, ◌∷◌, Option, Some, None, map, reverse}
 use Rattle.loft_tree.specs.declared.heads.Heads.{Heads}
 use Rattle.loft_code.specs.Operations.{Operation, Line, Automata, stop_of}
-use Rattle.loft_sense.specs.declared.thread.Frame.{Frame}
-use Rattle.loft_sense.specs.declared.thread.Wait.TheVariants.{New}
+use Rattle.loft_orders.specs.declared.thread.Frame.{Frame}
+use Rattle.loft_orders.specs.declared.thread.Wait.TheVariants.{New}
 use Rattle.loft_sense.specs.Around.{Beside}
 use Rattle.loft_sense.specs.Run.{Next, Control, Active, Outcome, Held, Left, active_of, thread_of, run_on, ends, step, going}
 use Rattle.loft_sense.specs.Code.{Point, point, code, lines_at, next_operation}

@@ -1,7 +1,7 @@
 -- Frames as they are kept while their thread stands.
 use Rattle.std.specs.Prelude.{◌≡◌, ℕ, zero, suc, ℤ, List, []}
 use Rattle.std.specs.List.{All}
-use Rattle.loft_sense.specs.declared.thread.Frame.{Frame}
+use Rattle.loft_orders.specs.declared.thread.Frame.{Frame}
 
 -- a frame that has stood at no stop has no counts
 abbrev pub counts_kept : ℕ → List ℤ → List ℤ

@@ -1,7 +1,7 @@
 -- What an expression sees of a thread.
 use Rattle.std.specs.Prelude.{List, [], ◌∷◌, reverse}
 use Rattle.loft_base.specs.declared.ids.Value.{Value}
-use Rattle.loft_sense.specs.declared.thread.Frame.{Frame}
+use Rattle.loft_orders.specs.declared.thread.Frame.{Frame}
 
 abbrev pub values_or_none : List Frame → List Value
 values_or_none [] = []

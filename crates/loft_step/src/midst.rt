@@ -4,7 +4,7 @@ ghost use Rattle.loft_step.specs.Kept.{AreKept};
 
 use crate::running::Running;
 use loft_effect::{Beside, Gone, Outcome};
-use loft_sense::{Act, Frames};
+use loft_orders::{Act, Frames};
 
 /// The frames of a thread in the midst of its run: the innermost, and those around it as they are kept.
 #[derive(Drop)]

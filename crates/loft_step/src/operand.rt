@@ -9,7 +9,7 @@ ghost use Rattle.loft_effect.specs.Effects.{Does};
 use loft_base::NoMemory;
 use loft_code::{Action, Pause};
 use loft_effect::{Beside, Effect, Scope};
-use loft_sense::{To, Wait};
+use loft_orders::{To, Wait};
 use loft_tree::Heads;
 use std::alloc::Global;
 

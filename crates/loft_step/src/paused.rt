@@ -14,7 +14,7 @@ use crate::thread::{begin as begin_in, run};
 use loft_base::NoMemory;
 use loft_code::Code;
 use loft_effect::{Around, Beside, Gone};
-use loft_sense::Thread;
+use loft_orders::Thread;
 use std::alloc::Global;
 use std::marker::Brand;
 use std::sync::ledger::{Blank, Ledger};

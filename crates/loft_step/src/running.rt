@@ -15,7 +15,7 @@ use crate::jump::{Resumed, lines_of, resume};
 use loft_base::{ModuleId, NoMemory, Sequence, ThreadId, Values};
 use loft_code::Code;
 use loft_effect::{Scope, first_values};
-use loft_sense::{At, Counts, Frame};
+use loft_orders::{At, Counts, Frame};
 use loft_tree::Target;
 use std::alloc::Global;
 

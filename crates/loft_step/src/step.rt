@@ -12,7 +12,7 @@ use crate::running::Running;
 use loft_base::{ModuleId, NoMemory, Values};
 use loft_code::{Action, Op, Pause};
 use loft_effect::{Beside, Effect, is_true, number_of};
-use loft_sense::{Counts, End, To, Wait};
+use loft_orders::{Counts, End, To, Wait};
 use loft_tree::{Heads, NamedExpr};
 use std::alloc::Global;
 

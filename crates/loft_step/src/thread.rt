@@ -3,7 +3,7 @@
 ghost use Rattle.std.specs.Prelude.{◌≡◌, [], ◌∷◌, ◌-◌, ◌+◌, ◌<◌, ◌≤◌, true, false, length, IfOk, OnOk};
 ghost use Rattle.loft_code.specs.Operations.{Automata};
 ghost use Rattle.loft_code.specs.View.{automata_of};
-ghost use Rattle.loft_sense.specs.declared.thread.Wait.TheVariants.{New as WaitNew};
+ghost use Rattle.loft_orders.specs.declared.thread.Wait.TheVariants.{New as WaitNew};
 ghost use Rattle.loft_sense.specs.Machine.{Code as ByCode};
 ghost use Rattle.loft_sense.specs.Passes.{run_of};
 ghost use Rattle.loft_sense.specs.Around.{Beside as BesideOf};
@@ -24,7 +24,8 @@ use crate::walk::count;
 use loft_base::{ModuleId, NoMemory, Sequence, ThreadId, Values};
 use loft_code::Code;
 use loft_effect::{Around, Beside, Effect, Outcome, take_around};
-use loft_sense::{At, End, Frame, Frames, MAX_FRAMES, Stop, Thread, To, Wait};
+use loft_orders::{At, End, Frame, Frames, Stop, Thread, To, Wait};
+use loft_sense::MAX_FRAMES;
 use std::alloc::Global;
 use std::mem;
 use std::sync::ledger::Ledger;

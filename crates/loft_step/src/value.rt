@@ -11,7 +11,7 @@ ghost use Rattle.loft_step.specs.Runs.{innermost_values};
 use loft_base::{Div, Value};
 use loft_code::Code;
 use loft_effect::Sight;
-use loft_sense::{Frame, Numbers, Thread};
+use loft_orders::{Frame, Numbers, Thread};
 use loft_tree::NamedExpr;
 
 /// The values of the innermost of these frames, outermost first; none where there is no frame.

@@ -11,7 +11,7 @@ use crate::steps::Steps;
 use loft_base::NoMemory;
 use loft_code::Code;
 use loft_effect::{Around, Beside};
-use loft_sense::End;
+use loft_orders::End;
 use std::alloc::Global;
 use std::sync::ledger::Ledger;
 

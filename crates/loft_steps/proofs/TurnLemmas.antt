@@ -3,13 +3,13 @@ use Rattle.std.proofs.Common.{arith, ◌≡◌, ℕ, suc, ◌-◌, Bool, true, f
 use Rattle.std.specs.Prelude.{OnOk, ◌↔◌, if◌then◌else◌, not, ◌&&◌}
 use Rattle.std.proofs.lemmas.List.Sums.{fold-append}
 use Rattle.loft_base.specs.declared.ids.SchedId.{SchedId}
-use Rattle.loft_sense.specs.declared.entry.Actor.TheVariants as actor
-use Rattle.loft_sense.specs.declared.entry.Entry.{Entry}
-use Rattle.loft_sense.specs.declared.entry.Entry.TheVariants.{Take, Give}
+use Rattle.loft_orders.specs.declared.entry.Actor.TheVariants as actor
+use Rattle.loft_orders.specs.declared.entry.Entry.{Entry}
+use Rattle.loft_orders.specs.declared.entry.Entry.TheVariants.{Take, Give}
 use Rattle.loft_base.specs.declared.options.Limits.{Limits}
-use Rattle.loft_sense.specs.declared.note.InstantNote.{InstantNote}
-use Rattle.loft_sense.specs.declared.order.Order.{Order}
-use Rattle.loft_sense.specs.declared.order.Sent.{Sent}
+use Rattle.loft_orders.specs.declared.note.InstantNote.{InstantNote}
+use Rattle.loft_orders.specs.declared.order.Order.{Order}
+use Rattle.loft_orders.specs.declared.order.Sent.{Sent}
 use Rattle.loft_sense.specs.Machine.{Prog, Mach}
 use Rattle.loft_sense.specs.Instant.{Replayed, instant, one_more, replay}
 use Rattle.loft_history.specs.History.{log, in_instant, is_open, replayed, sent_last, instant_step}

@@ -8,7 +8,7 @@ ghost use Rattle.loft_sense.specs.Statements.{order_of as order_by};
 ghost use Rattle.loft_steps.specs.Clients.{orders_of, orders_at, HasEvent};
 
 use loft_base::{Maker, NoMemory, Sequence, ThreadId};
-use loft_sense::{Order, Sent, To};
+use loft_orders::{Order, Sent, To};
 use loft_tree::{ClientOrder, Control, Heads};
 use std::alloc::Global;
 

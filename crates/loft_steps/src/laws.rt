@@ -2,15 +2,15 @@
 
 ghost use Rattle.std.specs.Prelude.{◌≡◌, ◌++◌, ◌∷◌, [], ◌↔◌, ℕ, true, false, length, not, List};
 ghost use Rattle.loft_base.specs.declared.ids.SchedId.{SchedId};
-ghost use Rattle.loft_sense.specs.declared.entry.Actor.TheVariants.{Client, Sched};
-ghost use Rattle.loft_sense.specs.declared.entry.Entry.{Entry};
-ghost use Rattle.loft_sense.specs.declared.entry.Entry.TheVariants.{Take, Give, Pick, Post};
+ghost use Rattle.loft_orders.specs.declared.entry.Actor.TheVariants.{Client, Sched};
+ghost use Rattle.loft_orders.specs.declared.entry.Entry.{Entry};
+ghost use Rattle.loft_orders.specs.declared.entry.Entry.TheVariants.{Take, Give, Pick, Post};
 ghost use Rattle.loft_base.specs.declared.options.Limits.{Limits};
 ghost use Rattle.loft_base.specs.declared.options.RunOptions.{RunOptions};
-ghost use Rattle.loft_sense.specs.declared.note.InstantNote.{InstantNote};
-ghost use Rattle.loft_sense.specs.declared.order.Order.{Order};
-ghost use Rattle.loft_sense.specs.declared.order.Sent.{Sent};
-ghost use Rattle.loft_sense.specs.declared.thread.Thread.{Thread};
+ghost use Rattle.loft_orders.specs.declared.note.InstantNote.{InstantNote};
+ghost use Rattle.loft_orders.specs.declared.order.Order.{Order};
+ghost use Rattle.loft_orders.specs.declared.order.Sent.{Sent};
+ghost use Rattle.loft_orders.specs.declared.thread.Thread.{Thread};
 ghost use Rattle.loft_sense.specs.Async.{async};
 ghost use Rattle.loft_history.specs.Clients.{outside_of};
 ghost use Rattle.loft_sense.specs.Machine.{Prog, Mach};

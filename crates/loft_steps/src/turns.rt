@@ -3,8 +3,8 @@
 //! instant needs none.
 
 ghost use Rattle.std.specs.Prelude.{◌≡◌, [], ◌∷◌, ◌++◌, false, true, List, All, IfOk, OnOk, OnErr, MatchOption};
-ghost use Rattle.loft_sense.specs.declared.entry.Entry.{Entry};
-ghost use Rattle.loft_sense.specs.declared.entry.Entry.TheVariants as entry;
+ghost use Rattle.loft_orders.specs.declared.entry.Entry.{Entry};
+ghost use Rattle.loft_orders.specs.declared.entry.Entry.TheVariants as entry;
 ghost use Rattle.loft_sense.specs.Fits.{Fits};
 ghost use Rattle.loft_history.specs.History.{is_open, sent_last, waiting};
 ghost use Rattle.loft_sense.specs.Instant.{instant};
@@ -14,7 +14,8 @@ ghost use Rattle.loft_tree.specs.NamedFits.{IsScheduler};
 ghost use Rattle.loft_world.specs.State.{with_entry};
 
 use loft_base::{NoMemory, SchedId, Sequence};
-use loft_sense::{Engine, Orders};
+use loft_orders::Orders;
+use loft_sense::Engine;
 use loft_world::{NoteList, World};
 use std::alloc::Global;
 

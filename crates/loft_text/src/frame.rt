@@ -3,12 +3,12 @@
 ghost use Rattle.std.specs.Prelude.{◌++◌, codes};
 ghost use Rattle.std.specs.Fmt.{signed_decimal};
 ghost use Rattle.loft_text.specs.Appending.{Appends};
-ghost use Rattle.loft_sense.specs.Text.{separated, value_text, frame_text};
+ghost use Rattle.loft_orders.specs.Text.{separated, value_text, frame_text};
 
 use crate::text::{Item, push_module_name, push_separated};
 use crate::writer::TextWriter;
 use loft_base::Value;
-use loft_sense::Frame;
+use loft_orders::Frame;
 use loft_tree::Heads;
 
 /// A frame.

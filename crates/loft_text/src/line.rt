@@ -6,7 +6,7 @@ ghost use Rattle.loft_text.specs.Buffer.{Adds};
 
 use crate::writer::TextWriter;
 use loft_base::NoMemory;
-use loft_sense::Line;
+use loft_orders::Line;
 use std::alloc::Global;
 
 /// Up to so many bytes are appended one by one.

@@ -4,11 +4,11 @@ ghost use Rattle.std.specs.Prelude.{◌++◌, ℕ, List};
 ghost use Rattle.std.specs.Fmt.{signed_decimal};
 ghost use Rattle.loft_tree.specs.declared.heads.Heads.{Heads};
 ghost use Rattle.loft_text.specs.Appending.{Appends};
-ghost use Rattle.loft_sense.specs.Text.{client_name, separated_by, separated, name_at, scheduler_name, module_name, event_name, shared_name, maker_name, id_text, value_text, at_text, end_text};
+ghost use Rattle.loft_orders.specs.Text.{client_name, separated_by, separated, name_at, scheduler_name, module_name, event_name, shared_name, maker_name, id_text, value_text, at_text, end_text};
 
 use crate::writer::TextWriter;
 use loft_base::{EventId, Maker, ModuleId, SchedId, SharedId, ThreadId, Value};
-use loft_sense::{At, End};
+use loft_orders::{At, End};
 use loft_tree::{Heads, Name};
 
 /// What can stand in a list of a report.

@@ -5,11 +5,11 @@ use Rattle.loft_base.specs.declared.ids.ModuleId.{ModuleId}
 use Rattle.loft_base.specs.declared.ids.Value.{Value}
 use Rattle.loft_tree.specs.declared.heads.Heads.{Heads}
 use Rattle.loft_tree.specs.Resolved.{Exp, Action, Pause}
-use Rattle.loft_sense.specs.declared.thread.Frame.{Frame}
-use Rattle.loft_sense.specs.declared.thread.Thread.{Thread}
-use Rattle.loft_sense.specs.declared.thread.Wait.{Wait}
-use Rattle.loft_sense.specs.declared.thread.Wait.TheVariants.{New}
-use Rattle.loft_sense.specs.declared.order.End.TheVariants.{Deep}
+use Rattle.loft_orders.specs.declared.thread.Frame.{Frame}
+use Rattle.loft_orders.specs.declared.thread.Thread.{Thread}
+use Rattle.loft_orders.specs.declared.thread.Wait.{Wait}
+use Rattle.loft_orders.specs.declared.thread.Wait.TheVariants.{New}
+use Rattle.loft_orders.specs.declared.order.End.TheVariants.{Deep}
 use Rattle.loft_sense.specs.declared.limits.TheConstants.{MAX_FRAMES}
 use Rattle.loft_sense.specs.Around.{Around, Beside}
 use Rattle.loft_sense.specs.Eval.{eval, eval_all, number_of, is_true}

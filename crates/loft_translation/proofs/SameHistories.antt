@@ -6,7 +6,7 @@ use Rattle.loft_tree.specs.NamedFits.{NamedFits}
 use Rattle.loft_tree.specs.Resolved.{Resolved, resolved_of}
 use Rattle.loft_place.specs.Links.{IsPlaced}
 use Rattle.loft_code.specs.Operations.{Automata}
-use Rattle.loft_sense.specs.declared.entry.Entry.{Entry}
+use Rattle.loft_orders.specs.declared.entry.Entry.{Entry}
 use Rattle.loft_base.specs.declared.options.RunOptions.{RunOptions}
 use Rattle.loft_sense.specs.Machine.{Prog, Tree, Code}
 use Rattle.loft_history.specs.History.{Choice, hist, HasEnded}

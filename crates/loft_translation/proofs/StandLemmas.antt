@@ -11,9 +11,9 @@ use Rattle.loft_tree.specs.Resolved.{Step, Do, Hold, Call, Choose, Loop, Times, 
 use Rattle.loft_code.specs.Operations.{Line}
 use Rattle.loft_code.specs.Operations as op
 use Rattle.loft_code.specs.Valid.{is_stop}
-use Rattle.loft_sense.specs.declared.thread.Frame.{Frame}
-use Rattle.loft_sense.specs.declared.thread.Thread.{Thread}
-use Rattle.loft_sense.specs.declared.thread.Wait.{Wait}
+use Rattle.loft_orders.specs.declared.thread.Frame.{Frame}
+use Rattle.loft_orders.specs.declared.thread.Thread.{Thread}
+use Rattle.loft_orders.specs.declared.thread.Wait.{Wait}
 use Rattle.loft_sense.specs.Machine.{Prog, Tree, Code}
 use Rattle.loft_sense.specs.Tree.{body_or_empty, body_at}
 use Rattle.loft_sense.specs.Code.{lines_at}

@@ -6,7 +6,7 @@ use Rattle.loft_tree.specs.declared.heads.Place.{Place}
 use Rattle.loft_tree.specs.Resolved.{Resolved}
 use Rattle.loft_code.specs.Operations.{Automata}
 use Rattle.loft_code.specs.Valid.{is_stop}
-use Rattle.loft_sense.specs.declared.thread.Thread.{Thread}
+use Rattle.loft_orders.specs.declared.thread.Thread.{Thread}
 use Rattle.loft_sense.specs.Machine.{Tree, Code}
 use Rattle.loft_sense.specs.Around.{Around}
 use Rattle.loft_sense.specs.Run.{go}

@@ -7,7 +7,7 @@ ghost use Rattle.loft_tree.specs.NamedFits.{NamedFits};
 ghost use Rattle.loft_tree.specs.Resolved.{Resolved, resolved_of};
 ghost use Rattle.loft_place.specs.Links.{IsPlaced};
 ghost use Rattle.loft_code.specs.Operations.{Automata};
-ghost use Rattle.loft_sense.specs.declared.entry.Entry.{Entry};
+ghost use Rattle.loft_orders.specs.declared.entry.Entry.{Entry};
 ghost use Rattle.loft_base.specs.declared.options.RunOptions.{RunOptions};
 ghost use Rattle.loft_sense.specs.Machine.{Tree, Code};
 ghost use Rattle.loft_history.specs.History.{Choice, hist, HasEnded};

@@ -3,11 +3,11 @@ use Rattle.std.proofs.Common.{◌≡◌, ◌<◌, Bool, true, false, List, [], �
 use Rattle.std.proofs.lemmas.Bool.{lt-ltb}
 use Rattle.std.specs.Prelude.{MatchOption}
 use Rattle.loft_base.specs.declared.ids.SchedId.{SchedId}
-use Rattle.loft_sense.specs.declared.order.Order.{Order}
-use Rattle.loft_sense.specs.declared.order.Sent.{Sent}
-use Rattle.loft_sense.specs.declared.note.InstantNote.{InstantNote}
-use Rattle.loft_sense.specs.declared.entry.Entry.{Entry}
-use Rattle.loft_sense.specs.declared.entry.Entry.TheVariants.{Take, Give}
+use Rattle.loft_orders.specs.declared.order.Order.{Order}
+use Rattle.loft_orders.specs.declared.order.Sent.{Sent}
+use Rattle.loft_orders.specs.declared.note.InstantNote.{InstantNote}
+use Rattle.loft_orders.specs.declared.entry.Entry.{Entry}
+use Rattle.loft_orders.specs.declared.entry.Entry.TheVariants.{Take, Give}
 use Rattle.loft_base.specs.declared.options.RunOptions.{RunOptions}
 use Rattle.loft_sense.specs.Machine.{Prog, heads, Mach}
 use Rattle.loft_sense.specs.Instant.{replay}

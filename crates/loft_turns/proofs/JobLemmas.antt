@@ -5,11 +5,11 @@ use Rattle.std.specs.Prelude.{if◌then◌else◌, nat_lt, drop}
 use Rattle.std.proofs.lemmas.List.Sums.{fold-append}
 use Rattle.loft_base.specs.declared.ids.SchedId.{SchedId}
 use Rattle.loft_tree.specs.declared.heads.Heads.{Heads}
-use Rattle.loft_sense.specs.declared.entry.Entry.{Entry}
-use Rattle.loft_sense.specs.declared.entry.Entry.TheVariants.{Pick, Post}
+use Rattle.loft_orders.specs.declared.entry.Entry.{Entry}
+use Rattle.loft_orders.specs.declared.entry.Entry.TheVariants.{Pick, Post}
 use Rattle.loft_base.specs.declared.options.RunOptions.{RunOptions}
-use Rattle.loft_sense.specs.declared.order.Sent.{Sent}
-use Rattle.loft_sense.specs.declared.thread.Thread.{Thread}
+use Rattle.loft_orders.specs.declared.order.Sent.{Sent}
+use Rattle.loft_orders.specs.declared.thread.Thread.{Thread}
 use Rattle.loft_sense.specs.Machine.{Prog, heads}
 use Rattle.loft_history.specs.History.{Choice, PickBy, PostBy, is_open, jobs_sent, jobs, unposted, is_busy, entry_of_first, pick_of, entry_of, instant_step, jobs_step}
 use Rattle.loft_history.proofs.HistoryLemmas.{on_if, on_first, on_pick}

@@ -8,16 +8,16 @@ use Rattle.std.specs.Prelude.{if◌then◌else◌, not, nat_lt, drop, All, Match
 use Rattle.std.proofs.lemmas.List.Sums.{fold-append}
 use Rattle.loft_base.specs.declared.ids.ThreadId.{ThreadId}
 use Rattle.loft_tree.specs.declared.heads.Heads.{Heads}
-use Rattle.loft_sense.specs.declared.entry.Actor.TheVariants as actor
-use Rattle.loft_sense.specs.declared.entry.Entry.{Entry}
-use Rattle.loft_sense.specs.declared.entry.Entry.TheVariants.{Take, Give, Pick, Post, Client}
+use Rattle.loft_orders.specs.declared.entry.Actor.TheVariants as actor
+use Rattle.loft_orders.specs.declared.entry.Entry.{Entry}
+use Rattle.loft_orders.specs.declared.entry.Entry.TheVariants.{Take, Give, Pick, Post, Client}
 use Rattle.loft_base.specs.declared.options.RunOptions.{RunOptions}
-use Rattle.loft_sense.specs.declared.order.Sent.{Sent}
-use Rattle.loft_sense.specs.declared.order.To.{To}
-use Rattle.loft_sense.specs.declared.order.To.TheVariants as to
-use Rattle.loft_sense.specs.declared.order.Order.{Order}
-use Rattle.loft_sense.specs.declared.order.Order.TheVariants as order
-use Rattle.loft_sense.specs.declared.thread.Thread.{Thread}
+use Rattle.loft_orders.specs.declared.order.Sent.{Sent}
+use Rattle.loft_orders.specs.declared.order.To.{To}
+use Rattle.loft_orders.specs.declared.order.To.TheVariants as to
+use Rattle.loft_orders.specs.declared.order.Order.{Order}
+use Rattle.loft_orders.specs.declared.order.Order.TheVariants as order
+use Rattle.loft_orders.specs.declared.thread.Thread.{Thread}
 use Rattle.loft_sense.specs.Machine.{Prog, heads}
 use Rattle.loft_sense.specs.Async.{async}
 use Rattle.loft_history.specs.Legal.{of}

@@ -1,13 +1,13 @@
 //! Whatever runs the blocks of unlinked threads for one worker.
 
 ghost use Rattle.std.specs.Prelude.{◌≡◌, ℕ, List, IfOk};
-ghost use Rattle.loft_sense.specs.declared.order.Sent.{Sent as SentOrder};
+ghost use Rattle.loft_orders.specs.declared.order.Sent.{Sent as SentOrder};
 ghost use Rattle.loft_sense.specs.Async.{async};
 ghost use Rattle.loft_sense.specs.Machine.{Prog};
 ghost use Rattle.loft_turns.specs.Blocks.{IsNext};
 
 use loft_base::NoMemory;
-use loft_sense::{Sent, Thread};
+use loft_orders::{Sent, Thread};
 use std::alloc::Global;
 
 /// Runs the blocks of unlinked threads of a program, one after another, and gives the orders of each

@@ -12,7 +12,8 @@ ghost use Rattle.loft_turns.specs.Turning.{settled, CanMake};
 
 use crate::setting::Setting;
 use loft_base::{NoMemory, SchedId, Sequence};
-use loft_sense::{Engine, FinalState, Orders};
+use loft_orders::{FinalState, Orders};
+use loft_sense::Engine;
 use loft_steps::{give_last, make_instant, take_where_due};
 use loft_world::{FinalStates, NoteList, NoteLists, World};
 use std::alloc::Global;

@@ -9,7 +9,7 @@ ghost use Rattle.loft_turns.specs.Course.{Moves, hand_after};
 use crate::block_engine::BlockEngine;
 use crate::setting::Setting;
 use loft_base::NoMemory;
-use loft_sense::Order;
+use loft_orders::Order;
 use loft_world::World;
 use std::alloc::Global;
 use std::marker::{Model, PhantomData};

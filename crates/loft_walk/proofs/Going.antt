@@ -10,14 +10,14 @@ use Rattle.std.specs.Option.{option_map}
 use Rattle.loft_tree.specs.declared.named.Target.{Target as TargetInMemory}
 use Rattle.loft_tree.specs.Resolved.{Pause, Body, Resolved, target_of as target_from}
 use Rattle.loft_sense.specs.declared.limits.TheConstants.{MAX_FRAMES}
-use Rattle.loft_sense.specs.declared.order.End.{End}
-use Rattle.loft_sense.specs.declared.order.End.TheVariants.{Done, Deep, Over}
-use Rattle.loft_sense.specs.declared.order.To.{To}
-use Rattle.loft_sense.specs.declared.thread.Frame.{Frame}
-use Rattle.loft_sense.specs.declared.thread.Thread.{Thread}
-use Rattle.loft_sense.specs.declared.thread.Wait.{Wait}
-use Rattle.loft_sense.specs.declared.thread.Wait.TheVariants.{New}
-use Rattle.loft_sense.specs.declared.order.At.{At}
+use Rattle.loft_orders.specs.declared.order.End.{End}
+use Rattle.loft_orders.specs.declared.order.End.TheVariants.{Done, Deep, Over}
+use Rattle.loft_orders.specs.declared.order.To.{To}
+use Rattle.loft_orders.specs.declared.thread.Frame.{Frame}
+use Rattle.loft_orders.specs.declared.thread.Thread.{Thread}
+use Rattle.loft_orders.specs.declared.thread.Wait.{Wait}
+use Rattle.loft_orders.specs.declared.thread.Wait.TheVariants.{New}
+use Rattle.loft_orders.specs.declared.order.At.{At}
 use Rattle.loft_sense.specs.Statements.{Now, now, target_of, answered}
 use Rattle.loft_sense.specs.Around.{Around, Beside}
 use Rattle.loft_sense.specs.Run.{Active, Control, Outcome, Held, Left, thread_of, begun_frame, live, ends, step_on, no_step, going, go_on, go, active_of}

@@ -4,8 +4,8 @@ use Rattle.loft_tree.specs.declared.heads.Heads.{Heads}
 use Rattle.std.specs.Option.{option_map}
 use Rattle.loft_tree.specs.declared.named.Target.{Target as TargetInMemory}
 use Rattle.loft_tree.specs.Resolved.{Target, Body, Resolved, target_of as target_from}
-use Rattle.loft_sense.specs.declared.thread.Wait.{Wait}
-use Rattle.loft_sense.specs.declared.thread.Wait.TheVariants.{New}
+use Rattle.loft_orders.specs.declared.thread.Wait.{Wait}
+use Rattle.loft_orders.specs.declared.thread.Wait.TheVariants.{New}
 use Rattle.loft_sense.specs.Around.{Beside}
 use Rattle.loft_sense.specs.Run.{Next, Control, Active, Outcome, Held, Left, thread_of, run_on, ends, step, going, go_on}
 use Rattle.loft_sense.specs.Tree.{Work, tree, pause_at}

@@ -1,7 +1,7 @@
 -- Runs in their midst.
 use Rattle.std.specs.Prelude.{ℕ, suc, List, []}
 use Rattle.loft_tree.specs.Resolved.{Resolved}
-use Rattle.loft_sense.specs.declared.note.Act.{Act}
+use Rattle.loft_orders.specs.declared.note.Act.{Act}
 use Rattle.loft_sense.specs.Around.{Beside}
 use Rattle.loft_sense.specs.Run.{Outcome, going}
 use Rattle.loft_sense.specs.Tree.{tree}

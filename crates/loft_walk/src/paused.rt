@@ -10,7 +10,7 @@ ghost use Rattle.loft_walk.specs.Midst.{paused_outcome, paused_left, bound_of};
 
 use crate::running::Running;
 use loft_effect::{Beside, Gone};
-use loft_sense::Act;
+use loft_orders::Act;
 
 /// A run in its midst: its frames, outermost first.
 #[derive(Drop)]

@@ -14,7 +14,7 @@ use crate::resume::find_in_body;
 use crate::work::Piece;
 use loft_base::{ModuleId, NoMemory, Sequence, ThreadId, Values};
 use loft_effect::{Scope, first_values};
-use loft_sense::{At, Counts, Frame};
+use loft_orders::{At, Counts, Frame};
 use loft_tree::{NamedProgram, NamedStmt, Target};
 use std::alloc::Global;
 

@@ -12,7 +12,7 @@ ghost use Rattle.loft_walk.specs.Pieces.{step_from};
 use loft_base::{NoMemory, Sequence};
 use loft_code::SharedText;
 use loft_effect::{Beside, Effect, Scope};
-use loft_sense::{Events, To, Wait};
+use loft_orders::{Events, To, Wait};
 use loft_tree::{EventUse, Heads, NamedCreation, NamedExpr, NamedStmt, Target};
 use std::alloc::Global;
 

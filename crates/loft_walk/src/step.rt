@@ -12,7 +12,7 @@ use crate::statement::{act, hold};
 use crate::work::{Piece, Task};
 use loft_base::{ModuleId, NoMemory, Values};
 use loft_effect::{Beside, Effect, is_true, number_of};
-use loft_sense::{End, To, Wait};
+use loft_orders::{End, To, Wait};
 use loft_tree::{Heads, NamedExpr, NamedStmt};
 use std::alloc::Global;
 

@@ -2,7 +2,7 @@
 
 ghost use Rattle.std.specs.Prelude.{◌≡◌, ◌≤◌, IfOk, map};
 ghost use Rattle.loft_tree.specs.Resolved.{Resolved};
-ghost use Rattle.loft_sense.specs.declared.thread.Wait.TheVariants.{New as WaitNew};
+ghost use Rattle.loft_orders.specs.declared.thread.Wait.TheVariants.{New as WaitNew};
 ghost use Rattle.loft_sense.specs.Run.{frame_of, thread_of, ends, Held, Left};
 ghost use Rattle.loft_sense.specs.Tree.{tree};
 ghost use Rattle.loft_effect.specs.View.{around_of, beside_of, steps_left};
@@ -12,7 +12,7 @@ ghost use Rattle.loft_walk.specs.Frames.{active, actives, stops};
 use crate::running::Running;
 use loft_base::{NoMemory, Sequence};
 use loft_effect::{Around, Beside, Gone, Outcome};
-use loft_sense::{End, Frame, Thread, To, Wait};
+use loft_orders::{End, Frame, Thread, To, Wait};
 use std::alloc::Global;
 
 /// How a thread stops.

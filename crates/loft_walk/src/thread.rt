@@ -21,7 +21,8 @@ use crate::stopping::{Stopped, end, stop};
 use crate::work::{Task, take};
 use loft_base::NoMemory;
 use loft_effect::{Around, Beside, Gone};
-use loft_sense::{End, Frame, MAX_FRAMES, Thread, Wait};
+use loft_orders::{End, Frame, Thread, Wait};
+use loft_sense::MAX_FRAMES;
 use loft_tree::{Heads, NamedProgram, Target};
 use std::alloc::Global;
 

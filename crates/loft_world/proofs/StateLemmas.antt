@@ -8,11 +8,11 @@ use Rattle.std.proofs.lemmas.List.Sums.{fold_push}
 use mathlib.Core.Logic.{◌⊎◌, inl, inr}
 use Rattle.loft_base.specs.declared.ids.SchedId.{SchedId}
 use Rattle.loft_tree.specs.declared.heads.Heads.{Heads}
-use Rattle.loft_sense.specs.declared.entry.Entry.{Entry}
-use Rattle.loft_sense.specs.declared.entry.Entry.TheVariants.{Take, Give, Pick, Post, Client}
-use Rattle.loft_sense.specs.declared.order.Order.{Order}
-use Rattle.loft_sense.specs.declared.order.Sent.{Sent}
-use Rattle.loft_sense.specs.declared.thread.Thread.{Thread}
+use Rattle.loft_orders.specs.declared.entry.Entry.{Entry}
+use Rattle.loft_orders.specs.declared.entry.Entry.TheVariants.{Take, Give, Pick, Post, Client}
+use Rattle.loft_orders.specs.declared.order.Order.{Order}
+use Rattle.loft_orders.specs.declared.order.Sent.{Sent}
+use Rattle.loft_orders.specs.declared.thread.Thread.{Thread}
 use Rattle.loft_sense.specs.Heads.{scheduler}
 use Rattle.loft_history.specs.History.{sends, orders_to, starts_of, waiting_after, waiting, jobs_sent, jobs_after, jobs, is_create, creates_after, creates, creates_step, jobs_step, waiting_step}
 use Rattle.loft_history.specs.Legal.{AtEach, TakesDue, IsFirst}

@@ -1,9 +1,9 @@
 -- What was kept of a history's instants: the notes of each scheduler, and how it stands in the end (docs/SEMANTICS.md, "World").
 use Rattle.std.specs.Prelude.{◌≡◌, List, map}
-use Rattle.loft_sense.specs.declared.entry.Entry.{Entry}
+use Rattle.loft_orders.specs.declared.entry.Entry.{Entry}
 use Rattle.loft_base.specs.declared.options.Limits.{Limits}
-use Rattle.loft_sense.specs.declared.note.InstantNote.{InstantNote}
-use Rattle.loft_sense.specs.declared.note.FinalState.{FinalState}
+use Rattle.loft_orders.specs.declared.note.InstantNote.{InstantNote}
+use Rattle.loft_orders.specs.declared.note.FinalState.{FinalState}
 use Rattle.loft_sense.specs.Machine.{Prog, Mach}
 use Rattle.loft_history.specs.History.{replayed}
 use Rattle.loft_history.specs.Report.{schedulers}

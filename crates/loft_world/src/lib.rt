@@ -7,6 +7,6 @@ mod results;
 mod start;
 mod world;
 
-pub use loft_sense::{Actor, Entry};
+pub use loft_orders::{Actor, Entry};
 pub use results::{FinalStates, Finals, Finished, NoteList, NoteLists, Notes};
 pub use world::World;

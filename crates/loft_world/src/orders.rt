@@ -7,7 +7,7 @@ ghost use Rattle.loft_sense.specs.Heads.{scheduler};
 ghost use Rattle.loft_world.specs.State.{each_with};
 
 use loft_base::{NoMemory, TryClone};
-use loft_sense::{Order, Orders, Sent, SharedThread, To};
+use loft_orders::{Order, Orders, Sent, SharedThread, To};
 use std::alloc::Global;
 use std::collections::VecDeque;
 

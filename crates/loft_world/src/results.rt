@@ -2,7 +2,7 @@
 
 use crate::world::World;
 use loft_base::Sequence;
-use loft_sense::{FinalState, InstantNote};
+use loft_orders::{FinalState, InstantNote};
 
 /// How schedulers stand, one for each, in the order of their declarations.
 pub type FinalStates = Sequence<FinalState>;

@@ -2,13 +2,13 @@
 
 ghost use Rattle.std.specs.Prelude.{◌≡◌, [], ◌∷◌, ◌++◌, length, IfOk, OnOk};
 ghost use Rattle.loft_base.specs.declared.ids.Maker.TheVariants.{Source};
-ghost use Rattle.loft_sense.specs.declared.order.Order.TheVariants.{Create};
+ghost use Rattle.loft_orders.specs.declared.order.Order.TheVariants.{Create};
 ghost use Rattle.loft_history.specs.History.{starts_of};
 ghost use Rattle.loft_sense.specs.Heads.{scheduler};
 ghost use Rattle.loft_world.specs.State.{AreEach};
 
 use loft_base::{Maker, NoMemory, Sequence, ThreadId};
-use loft_sense::{Order, Orders};
+use loft_orders::{Order, Orders};
 use loft_tree::{Heads, Start};
 use std::alloc::Global;
 

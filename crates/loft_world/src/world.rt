@@ -1,7 +1,7 @@
 //! The world: one history, and what waits beside it.
 
 ghost use Rattle.std.specs.Prelude.{◌≡◌, ◌+◌, ◌-◌, ◌≤◌, ◌<◌, [], ◌∷◌, ◌++◌, true, false, length, slice_get, Some, IfOk, OnOk, OnErr, MatchOption};
-ghost use Rattle.loft_sense.specs.declared.entry.Entry.TheVariants as entry;
+ghost use Rattle.loft_orders.specs.declared.entry.Entry.TheVariants as entry;
 ghost use Rattle.loft_sense.specs.Heads.{home};
 ghost use Rattle.loft_history.specs.History.{sends, waiting, jobs, creates, is_open, is_busy, is_create, jobs_sent};
 ghost use Rattle.loft_history.specs.Legal.{IsRouted};
@@ -12,7 +12,7 @@ use crate::counts::{Counts, add_one_if, count_in, make_room};
 use crate::orders::add_all;
 use crate::start::starts_of_each;
 use loft_base::{EventId, NoMemory, SchedId, Sequence, TryClone, try_clone_all};
-use loft_sense::{Entry, Order, Orders, Sent, Sents, SharedThread, Thread};
+use loft_orders::{Entry, Order, Orders, Sent, Sents, SharedThread, Thread};
 use loft_tree::Heads;
 use std::alloc::Global;
 use std::collections::{BTreeMap, VecDeque};

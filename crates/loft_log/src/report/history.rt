@@ -4,13 +4,13 @@ ghost use Rattle.std.specs.Prelude.{◌≡◌, ◌++◌, [], ◌∷◌, map};
 ghost use Rattle.std.specs.Option.{option_to_list, option_map};
 ghost use Rattle.loft_base.specs.Writing.{WritesTo};
 ghost use Rattle.loft_history.specs.History.{choice_of, log};
-ghost use Rattle.loft_sense.specs.Lines.{text_of};
+ghost use Rattle.loft_orders.specs.Lines.{text_of};
 ghost use Rattle.loft_history.specs.Report.{choice_line};
 
 use super::{ReportWriter, write_line};
 use loft_base::{SchedId, Sink, WriteError};
 use loft_choices::make_choice_line;
-use loft_sense::{Entry, Order};
+use loft_orders::{Entry, Order};
 use loft_text::LineBuffer;
 use loft_world::World;
 

@@ -3,8 +3,8 @@
 ghost use Rattle.std.specs.Prelude.{◌++◌, [], ◌∷◌};
 ghost use Rattle.loft_base.specs.Writing.{WritesTo};
 ghost use Rattle.loft_history.specs.History.{log};
-ghost use Rattle.loft_sense.specs.Text.{order_text};
-ghost use Rattle.loft_sense.specs.Lines.{text_of, mark_word, ends_at, batch_lines, leave_line, leave_lines, instant_lines};
+ghost use Rattle.loft_orders.specs.Text.{order_text};
+ghost use Rattle.loft_orders.specs.Lines.{text_of, mark_word, ends_at, batch_lines, leave_line, leave_lines, instant_lines};
 ghost use Rattle.loft_history.specs.Report.{instants_lines};
 
 use super::history::batch_of;
@@ -12,7 +12,7 @@ use super::lines::{make_end_line, make_leaver_line, make_order_line};
 use super::{ReportWriter, write_line};
 use loft_base::{SchedId, Sink, WriteError};
 use loft_instant_text::{are_in_order, ends_from};
-use loft_sense::{Ended, InstantNote, Mark, Order, Sent};
+use loft_orders::{Ended, InstantNote, Mark, Order, Sent};
 use loft_text::LineBuffer;
 use loft_world::World;
 

@@ -2,14 +2,14 @@
 
 ghost use Rattle.std.specs.Prelude.{◌≡◌, ◌+◌, map, length, IfOk};
 ghost use Rattle.loft_base.specs.Writing.{WritesTo};
-ghost use Rattle.loft_sense.specs.Lines.{text_of};
+ghost use Rattle.loft_orders.specs.Lines.{text_of};
 ghost use Rattle.loft_history.specs.Report.{left_line, left_part};
 ghost use Rattle.loft_log.specs.WorldReport.{world_left};
 
 use super::lines::make_left_order_line;
 use super::{ReportWriter, scheduler_at, write_line};
 use loft_base::{NoMemory, SchedId, Sink, WriteError};
-use loft_sense::Order;
+use loft_orders::Order;
 use loft_text::LineBuffer;
 use loft_world::World;
 

@@ -4,15 +4,15 @@
 ghost use Rattle.std.specs.Prelude.{◌++◌, codes};
 ghost use Rattle.std.specs.Fmt.{decimal, signed_decimal};
 ghost use Rattle.loft_text.specs.Buffer.{Holds};
-ghost use Rattle.loft_sense.specs.Text.{space, scheduler_name, id_text, order_text};
-ghost use Rattle.loft_sense.specs.Lines.{end_line, mark_word, leave_place};
+ghost use Rattle.loft_orders.specs.Text.{space, scheduler_name, id_text, order_text};
+ghost use Rattle.loft_orders.specs.Lines.{end_line, mark_word, leave_place};
 ghost use Rattle.loft_history.specs.Report.{left_line, standing_line};
 
 use loft_base::{SchedId, ThreadId};
 use loft_instant_text::{
     InOneLine, push_end_line, push_leave_line, push_order, push_order_line, push_thread,
 };
-use loft_sense::{End, Mark, Order, Standing, To};
+use loft_orders::{End, Mark, Order, Standing, To};
 use loft_text::{LineBuffer, push_scheduler_name};
 use loft_tree::Heads;
 

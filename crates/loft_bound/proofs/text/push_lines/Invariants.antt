@@ -1,5 +1,5 @@
 use Rattle.std.proofs.Common.{◌≡◌, ◌++◌, true, drop}
-use Rattle.loft_sense.specs.Lines.{text_of}
+use Rattle.loft_orders.specs.Lines.{text_of}
 use Rattle.loft_bound.specs.BoundText.{verdict_lines}
 use Rattle.loft_bound.proofs.text.push_lines.Given as goal
 

@@ -1,7 +1,7 @@
 use Rattle.std.proofs.Common.{◌≡◌, true, List, sym, ap, ◌∙◌, subst, Some}
 use Rattle.std.specs.List.{All}
 use Rattle.std.specs.Prelude.{slice_index_or}
-use Rattle.loft_sense.specs.declared.entry.Actor.{Actor}
+use Rattle.loft_orders.specs.declared.entry.Actor.{Actor}
 use Rattle.loft_history.specs.Legal.{of}
 use Rattle.loft_baton.specs.declared.knows.Knows.{Knows}
 use Rattle.loft_baton.specs.declared.knows.Own.{Own}

@@ -1,5 +1,5 @@
 use Rattle.std.proofs.Common.{ap}
-use Rattle.loft_sense.specs.declared.entry.Entry.TheVariants.{Client}
+use Rattle.loft_orders.specs.declared.entry.Entry.TheVariants.{Client}
 use Rattle.loft_baton.specs.PassValue.{PassValue}
 use Rattle.loft_relay.proofs.GiveLemmas.{adds_either, ok_own, err_own}
 use Rattle.loft_relay.proofs.one.give.Goals as goal

@@ -1,6 +1,6 @@
 use Rattle.std.proofs.Common.{◌≡◌, ◌||◌, true, [], ◌∷◌, sym, ap, ◌∙◌, subst, IfOk}
 use Rattle.std.proofs.lemmas.List.Elements.{All-weaker}
-use Rattle.loft_sense.specs.declared.entry.Actor.TheVariants as actor
+use Rattle.loft_orders.specs.declared.entry.Actor.TheVariants as actor
 use Rattle.loft_history.specs.Legal.{actor_of, same_actor}
 use Rattle.loft_baton.specs.declared.knows.Knows.{Knows}
 use Rattle.loft_baton.specs.Knowing.{has, own_of}

@@ -1,7 +1,7 @@
 use Rattle.std.proofs.Common.{◌≡◌, List, suc, refl, ap, sym, ◌∙◌, arith}
 use Rattle.std.specs.Prelude.{map}
 use Rattle.loft_code.specs.View.{automata_of}
-use Rattle.loft_sense.specs.declared.thread.Frame.{Frame}
+use Rattle.loft_orders.specs.declared.thread.Frame.{Frame}
 use Rattle.loft_sense.specs.Around.{Around}
 use Rattle.loft_sense.specs.Code.{code}
 use Rattle.loft_sense.specs.Run.{go_on, no_step}

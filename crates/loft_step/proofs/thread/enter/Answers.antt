@@ -1,6 +1,6 @@
 use Rattle.std.proofs.Common.{◌≡◌, ap, sym, subst, ◌∙◌, ◌∷◌}
 use Rattle.loft_code.specs.View.{automata_of}
-use Rattle.loft_sense.specs.declared.thread.Frame.{Frame}
+use Rattle.loft_orders.specs.declared.thread.Frame.{Frame}
 use Rattle.loft_sense.specs.Code.{Point, code}
 use Rattle.loft_sense.specs.Run.{Active, active_of, frame_of}
 use Rattle.loft_step.specs.declared.running.Running.{Running}

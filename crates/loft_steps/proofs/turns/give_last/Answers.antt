@@ -1,9 +1,9 @@
 use Rattle.std.proofs.Common.{◌≡◌, ◌∙◌, ◌-◌, List, Some, sym, ap, subst, length, slice_get}
 use Rattle.std.specs.Prelude.{OnOk}
 use Rattle.std.specs.Option.{option_copied}
-use Rattle.loft_sense.specs.declared.entry.Entry.TheVariants as entry
-use Rattle.loft_sense.specs.declared.note.InstantNote.{InstantNote}
-use Rattle.loft_sense.specs.declared.order.Sent.{Sent}
+use Rattle.loft_orders.specs.declared.entry.Entry.TheVariants as entry
+use Rattle.loft_orders.specs.declared.note.InstantNote.{InstantNote}
+use Rattle.loft_orders.specs.declared.order.Sent.{Sent}
 use Rattle.loft_world.specs.State.{with_entry}
 use Rattle.loft_steps.proofs.TurnLemmas.{sent_at_end}
 use Rattle.loft_steps.proofs.turns.give_last.Goals as goal

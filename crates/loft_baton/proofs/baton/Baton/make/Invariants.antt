@@ -1,5 +1,5 @@
 use Rattle.std.specs.Prelude.{Some}
-use Rattle.loft_sense.specs.declared.entry.Actor.TheVariants.{Client}
+use Rattle.loft_orders.specs.declared.entry.Actor.TheVariants.{Client}
 use Rattle.loft_baton.proofs.baton.Baton.make.Given as goal
 
 abbrev pub ghosts-begin : goal.ghosts-begin

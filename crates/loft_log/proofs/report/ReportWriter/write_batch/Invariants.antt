@@ -1,5 +1,5 @@
 use Rattle.std.proofs.Common.{drop}
-use Rattle.loft_sense.specs.Lines.{text_of, batch_lines}
+use Rattle.loft_orders.specs.Lines.{text_of, batch_lines}
 use Rattle.loft_instant_text.specs.Ends.{AreLeft}
 use Rattle.loft_base.proofs.WritesLemmas.{Going}
 use Rattle.loft_log.proofs.report.ReportWriter.write_batch.Given as goal

@@ -1,5 +1,5 @@
 use Rattle.std.proofs.Common.{drop}
-use Rattle.loft_sense.specs.Lines.{text_of}
+use Rattle.loft_orders.specs.Lines.{text_of}
 use Rattle.loft_history.specs.Report.{instants_lines}
 use Rattle.loft_history.specs.History.{log}
 use Rattle.loft_base.proofs.WritesLemmas.{Going}

@@ -1,5 +1,5 @@
 use Rattle.std.proofs.Common.{drop}
-use Rattle.loft_sense.specs.Lines.{text_of, leave_lines}
+use Rattle.loft_orders.specs.Lines.{text_of, leave_lines}
 use Rattle.loft_base.proofs.WritesLemmas.{Going}
 use Rattle.loft_log.proofs.report.ReportWriter.write_leavers.Given as goal
 

@@ -2,7 +2,7 @@ use Rattle.std.proofs.Common.{◌≡◌, map, Err, refl, ap}
 use Rattle.std.proofs.lemmas.Result.{err_from_is_err_and}
 use Rattle.loft_log.proofs.LineLemmas.{drop-at}
 use Rattle.loft_base.proofs.WritesLemmas.{goes_on, fails, rest_is}
-use Rattle.loft_sense.specs.Lines.{text_of}
+use Rattle.loft_orders.specs.Lines.{text_of}
 use Rattle.loft_log.proofs.report.ReportWriter.write_lines.Goals as goal
 
 pub returns-in_err-write_line : goal.returns-in_err-write_line

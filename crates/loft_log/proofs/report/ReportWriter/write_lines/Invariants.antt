@@ -1,5 +1,5 @@
 use Rattle.std.proofs.Common.{drop, map}
-use Rattle.loft_sense.specs.Lines.{text_of}
+use Rattle.loft_orders.specs.Lines.{text_of}
 use Rattle.loft_base.proofs.WritesLemmas.{Going}
 use Rattle.loft_log.proofs.report.ReportWriter.write_lines.Given as goal
 

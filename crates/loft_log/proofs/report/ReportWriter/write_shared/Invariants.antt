@@ -1,5 +1,5 @@
 use Rattle.loft_sense.specs.Heads.{shared_of}
-use Rattle.loft_sense.specs.Lines.{text_of}
+use Rattle.loft_orders.specs.Lines.{text_of}
 use Rattle.loft_history.specs.Report.{shared_lines}
 use Rattle.loft_base.proofs.WritesLemmas.{Going}
 use Rattle.loft_log.proofs.ReportLemmas.{shared_after}

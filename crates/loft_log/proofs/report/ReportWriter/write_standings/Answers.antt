@@ -3,7 +3,7 @@ use Rattle.std.proofs.lemmas.Result.{err_from_is_err_and}
 use Rattle.loft_log.proofs.LineLemmas.{drop-at}
 use Rattle.loft_base.proofs.WritesLemmas.{goes_on, fails, rest_is}
 use Rattle.loft_history.specs.Report.{standing_line}
-use Rattle.loft_sense.specs.Lines.{text_of}
+use Rattle.loft_orders.specs.Lines.{text_of}
 use Rattle.loft_log.proofs.report.ReportWriter.write_standings.Goals as goal
 
 pub returns-in_err-write_line : goal.returns-in_err-write_line

@@ -1,4 +1,4 @@
-use Rattle.loft_sense.specs.Lines.{text_of}
+use Rattle.loft_orders.specs.Lines.{text_of}
 use Rattle.loft_base.proofs.WritesLemmas.{Going}
 use Rattle.loft_log.specs.WorldReport.{world_left}
 use Rattle.loft_log.proofs.ReportLemmas.{left_after}

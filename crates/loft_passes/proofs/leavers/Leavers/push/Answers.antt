@@ -1,7 +1,7 @@
 use Rattle.std.proofs.Common.{◌≡◌, ◌∙◌, ◌++◌, ◌∷◌, [], List, ap}
-use Rattle.loft_sense.specs.declared.order.Sent.{Sent}
-use Rattle.loft_sense.specs.declared.order.To.{To}
-use Rattle.loft_sense.specs.declared.thread.Thread.{Thread}
+use Rattle.loft_orders.specs.declared.order.Sent.{Sent}
+use Rattle.loft_orders.specs.declared.order.To.{To}
+use Rattle.loft_orders.specs.declared.thread.Thread.{Thread}
 use Rattle.loft_passes.specs.Leavers.{sends_of}
 use Rattle.loft_passes.proofs.LeaverLemmas.{sends, one_more}
 use Rattle.loft_passes.proofs.leavers.Leavers.push.Goals as goal

@@ -1,7 +1,7 @@
 use Rattle.std.proofs.Common.{◌≡◌, suc, ap, sym, ◌∙◌, arith}
 use Rattle.std.specs.Prelude.{map}
 use Rattle.loft_code.specs.View.{automata_of, line_of}
-use Rattle.loft_sense.specs.declared.order.End.TheVariants.{Over}
+use Rattle.loft_orders.specs.declared.order.End.TheVariants.{Over}
 use Rattle.loft_sense.specs.Around.{Around}
 use Rattle.loft_sense.specs.Code.{lines_at}
 use Rattle.loft_effect.specs.View.{Pace, beside_of, steps_left}

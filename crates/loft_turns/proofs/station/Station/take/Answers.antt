@@ -1,7 +1,7 @@
 use Rattle.std.proofs.Common.{◌≡◌, ◌∙◌, List, Option, false, sym, ap, subst}
 use Rattle.std.specs.Prelude.{MatchOption}
-use Rattle.loft_sense.specs.declared.entry.Entry.TheVariants.{Take}
-use Rattle.loft_sense.specs.declared.order.Order.{Order}
+use Rattle.loft_orders.specs.declared.entry.Entry.TheVariants.{Take}
+use Rattle.loft_orders.specs.declared.order.Order.{Order}
 use Rattle.loft_world.specs.State.{State, with_entry}
 use Rattle.loft_turns.specs.Course.{Stand}
 use Rattle.loft_turns.specs.Turning.{is_in_turn}

@@ -1,7 +1,7 @@
 use Rattle.std.proofs.Common.{◌≡◌, ◌∙◌, ℕ, Option, sym, ap, subst, refl, true}
 use Rattle.std.specs.Prelude.{MatchOption}
-use Rattle.loft_sense.specs.declared.entry.Entry.TheVariants.{Pick}
-use Rattle.loft_sense.specs.declared.thread.Thread.{Thread}
+use Rattle.loft_orders.specs.declared.entry.Entry.TheVariants.{Pick}
+use Rattle.loft_orders.specs.declared.thread.Thread.{Thread}
 use Rattle.loft_sense.specs.Machine.{Prog}
 use Rattle.loft_sense.specs.Async.{async}
 use Rattle.loft_world.specs.State.{State, with_entry}

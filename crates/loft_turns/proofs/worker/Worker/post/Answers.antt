@@ -1,5 +1,5 @@
 use Rattle.std.proofs.Common.{◌≡◌, ◌∙◌, ◌∷◌, Option, sym, ap, subst, refl, not}
-use Rattle.loft_sense.specs.declared.order.Sent.{Sent}
+use Rattle.loft_orders.specs.declared.order.Sent.{Sent}
 use Rattle.loft_history.specs.History.{ends_block, unposted}
 use Rattle.loft_world.specs.State.{State}
 use Rattle.loft_turns.specs.Blocks.{IsNext}

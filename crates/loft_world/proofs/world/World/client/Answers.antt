@@ -1,8 +1,8 @@
 use Rattle.std.proofs.Common.{rules, ◌≡◌, ℕ, List, [], ◌∷◌, ◌++◌, length, ap, ◌∙◌, arith, length-append}
 use Rattle.loft_tree.specs.declared.heads.Heads.{Heads}
-use Rattle.loft_sense.specs.declared.entry.Entry.{Entry}
-use Rattle.loft_sense.specs.declared.entry.Entry.TheVariants as entry
-use Rattle.loft_sense.specs.declared.order.Sent.{Sent}
+use Rattle.loft_orders.specs.declared.entry.Entry.{Entry}
+use Rattle.loft_orders.specs.declared.entry.Entry.TheVariants as entry
+use Rattle.loft_orders.specs.declared.order.Sent.{Sent}
 use Rattle.loft_world.specs.State.{State, with_entry, count_in}
 use Rattle.loft_world.proofs.StateLemmas.{client_added, one_counted, creates_within}
 use Rattle.loft_world.proofs.world.World.client.Goals as goal

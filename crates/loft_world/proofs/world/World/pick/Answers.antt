@@ -1,6 +1,6 @@
 use Rattle.std.proofs.Common.{◌≡◌, List, [], ◌∷◌, ◌++◌, ap, ◌∙◌, sym, refl, subst}
-use Rattle.loft_sense.specs.declared.entry.Entry.{Entry}
-use Rattle.loft_sense.specs.declared.entry.Entry.TheVariants as entry
+use Rattle.loft_orders.specs.declared.entry.Entry.{Entry}
+use Rattle.loft_orders.specs.declared.entry.Entry.TheVariants as entry
 use Rattle.loft_world.specs.State.{IsWorld, count_in}
 use Rattle.loft_world.proofs.StateLemmas.{picking}
 use Rattle.loft_world.proofs.world.World.pick.Goals as goal

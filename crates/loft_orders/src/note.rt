@@ -32,7 +32,7 @@ pub struct BoxedSent {
 }
 
 impl Model for BoxedSent {
-    ghost use Rattle.loft_sense.specs.declared.order.Sent.{Sent};
+    ghost use Rattle.loft_orders.specs.declared.order.Sent.{Sent};
 
     ghost Value = { Sent };
 

@@ -20,7 +20,7 @@ pub struct Line {
 
 impl Model for Line {
     ghost use Rattle.std.specs.Prelude.{ℕ, List};
-    ghost use Rattle.loft_sense.specs.Printed.{bytes_of};
+    ghost use Rattle.loft_orders.specs.Printed.{bytes_of};
 
     ghost Value = { List ℕ };
 

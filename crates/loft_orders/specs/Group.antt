@@ -1,8 +1,8 @@
 -- Threads that lie in memory together.
 use Rattle.std.specs.Prelude.{pos, ℕ, List, [], slice_index_or}
 use Rattle.loft_base.specs.declared.ids.Maker.TheVariants.{Source}
-use Rattle.loft_sense.specs.declared.thread.Thread.{Thread}
-use Rattle.loft_sense.specs.declared.thread.Wait.TheVariants.{New}
+use Rattle.loft_orders.specs.declared.thread.Thread.{Thread}
+use Rattle.loft_orders.specs.declared.thread.Wait.TheVariants.{New}
 
 -- what stands for a thread where there is none
 abbrev pub no_thread : Thread

@@ -1,7 +1,7 @@
 -- Printed lines.
 use Rattle.std.specs.Prelude.{ℕ, List}
-use Rattle.loft_sense.specs.declared.line.Bytes.{Bytes}
-use Rattle.loft_sense.specs.declared.line.Bytes.TheVariants.{Own, OfText}
+use Rattle.loft_orders.specs.declared.line.Bytes.{Bytes}
+use Rattle.loft_orders.specs.declared.line.Bytes.TheVariants.{Own, OfText}
 
 -- The bytes of a line, wherever they are.
 abbrev pub bytes_of : Bytes → List ℕ

@@ -1,7 +1,7 @@
 //! Threads that several owners share.
 
 ghost use Rattle.std.specs.Prelude.{◌≡◌, ◌<◌, length, IfOk};
-ghost use Rattle.loft_sense.specs.Group.{member};
+ghost use Rattle.loft_orders.specs.Group.{member};
 
 use crate::thread::Thread;
 use loft_base::NoMemory;
@@ -18,7 +18,7 @@ pub struct ThreadGroup {
 impl Model for ThreadGroup {
     ghost use Rattle.std.specs.Prelude.{List};
     ghost use Rattle.std.specs.Arc.{arc_value};
-    ghost use Rattle.loft_sense.specs.declared.thread.Thread.{Thread};
+    ghost use Rattle.loft_orders.specs.declared.thread.Thread.{Thread};
 
     ghost Value = { List Thread };
 
@@ -55,8 +55,8 @@ pub struct SharedThread {
 impl Model for SharedThread {
     ghost use Rattle.std.specs.Prelude.{◌<◌, length};
     ghost use Rattle.std.specs.Arc.{arc_value};
-    ghost use Rattle.loft_sense.specs.declared.thread.Thread.{Thread};
-    ghost use Rattle.loft_sense.specs.Group.{member};
+    ghost use Rattle.loft_orders.specs.declared.thread.Thread.{Thread};
+    ghost use Rattle.loft_orders.specs.Group.{member};
 
     ghost Value = { Thread };
 

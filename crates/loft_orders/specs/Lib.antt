@@ -1,0 +1,4 @@
+pub mod Group
+pub mod Printed
+pub mod Text
+pub mod Lines
