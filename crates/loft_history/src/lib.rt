@@ -5,6 +5,7 @@
 mod laws;
 
 pub use laws::{
-    ends_are_told_elsewhere, blocks_tell_what_is_used, ended_histories_go_no_further, legal_histories_are_made,
-    legal_histories_grow_by_entries, made_histories_are_legal, own_entries_tell, own_lists_grow,
+    blocks_tell_what_is_used, ended_histories_go_no_further, ends_are_told_elsewhere,
+    legal_histories_are_made, legal_histories_grow_by_entries, made_histories_are_legal,
+    own_entries_tell, own_lists_grow,
 };

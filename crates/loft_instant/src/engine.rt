@@ -10,8 +10,8 @@ use crate::instant::{Setting, State};
 use crate::rest::{all_rest, standings};
 use crate::shared::own_of;
 use loft_base::{Limits, NoMemory, SchedId, Sequence};
-use loft_passes::Interpreter;
 use loft_orders::{FinalState, InstantNote, Orders};
+use loft_passes::Interpreter;
 use loft_sense::Engine;
 use std::alloc::Global;
 

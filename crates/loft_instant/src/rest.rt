@@ -6,8 +6,8 @@ ghost use Rattle.loft_passes.specs.View.{standings_of};
 
 use loft_base::{NoMemory, Sequence, ThreadId, TryClone};
 use loft_effect::is_known;
-use loft_passes::Runner;
 use loft_orders::{Standing, Standings, Wait};
+use loft_passes::Runner;
 use std::alloc::Global;
 
 /// Whether the wait has no number, and what it waits for isn't there; between two instants no event is present.

@@ -9,8 +9,8 @@ ghost use Rattle.loft_base.specs.Options.{IsInRange};
 use crate::walker::Walker;
 use loft_base::{Limits, NoMemory, SchedId};
 use loft_instant::InstantEngine;
-use loft_place::Placed;
 use loft_orders::{FinalState, InstantNote, Orders};
+use loft_place::Placed;
 use loft_sense::Engine;
 use std::alloc::Global;
 

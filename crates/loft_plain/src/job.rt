@@ -10,8 +10,8 @@ ghost use Rattle.loft_block.specs.Blocks.{Gives};
 use crate::walker::Walker;
 use loft_base::NoMemory;
 use loft_block::Block;
-use loft_place::Placed;
 use loft_orders::{Sent, Thread};
+use loft_place::Placed;
 use loft_walk::Paused;
 use std::alloc::Global;
 

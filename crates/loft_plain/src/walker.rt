@@ -6,9 +6,9 @@ ghost use Rattle.loft_sense.specs.Machine.{Tree};
 
 use loft_base::NoMemory;
 use loft_effect::{Around, take_around, take_thread};
+use loft_orders::{Stop, Thread};
 use loft_passes::Interpreter;
 use loft_place::Placed;
-use loft_orders::{Stop, Thread};
 use loft_tree::Heads;
 use loft_walk::go;
 use std::alloc::Global;

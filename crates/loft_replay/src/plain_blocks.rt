@@ -6,9 +6,9 @@ ghost use Rattle.loft_tree.specs.Resolved.{resolved_of};
 ghost use Rattle.loft_sense.specs.Machine.{Tree};
 
 use loft_base::NoMemory;
+use loft_orders::{Sent, Thread};
 use loft_place::Placed;
 use loft_plain::PlainJob;
-use loft_orders::{Sent, Thread};
 use loft_turns::BlockEngine;
 use std::alloc::Global;
 

@@ -8,9 +8,8 @@ ghost use Rattle.loft_sense.specs.Instant.{instant};
 ghost use Rattle.loft_sense.specs.Rest.{is_resting, is_spent};
 ghost use Rattle.loft_sense.specs.Fits.{Fits};
 
-use loft_orders::{FinalState, InstantNote};
-use loft_orders::Orders;
 use loft_base::NoMemory;
+use loft_orders::{FinalState, InstantNote, Orders};
 use std::alloc::Global;
 
 /// Runs the instants of one scheduler of a program.

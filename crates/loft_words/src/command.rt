@@ -12,10 +12,10 @@ ghost use Rattle.loft_words.specs.FromParts.{option_list, run_from, run_options_
 ghost use Rattle.loft_base.specs.declared.options.TheConstants.{MAX_WORKERS};
 ghost use Rattle.loft_words.specs.declared.defaults.TheConstants.{DEFAULT_WORKERS};
 
-use loft_base::{Limits, MAX_BLOCK, MAX_BUDGET, MAX_INSTANTS, MAX_WORKERS, RunOptions};
 use crate::defaults::{DEFAULT_BLOCK, DEFAULT_BUDGET, DEFAULT_INSTANTS, DEFAULT_WORKERS};
 use crate::number::number_in;
 use crate::parts::Parts;
+use loft_base::{Limits, MAX_BLOCK, MAX_BUDGET, MAX_INSTANTS, MAX_WORKERS, RunOptions};
 
 /// A command, and the file that it reads.
 #[derive(Clone, Copy)]
