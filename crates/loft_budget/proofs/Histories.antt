@@ -29,7 +29,8 @@ use Rattle.loft_sense.specs.Machine.{Prog, Tree}
 use Rattle.loft_sense.specs.Apply.{apply}
 use Rattle.loft_sense.specs.Instant.{instant, Replayed, one_more, replay_on, replay}
 use Rattle.loft_sense.specs.Async.{async}
-use Rattle.loft_history.specs.Clients.{control_of, orders_from}
+use Rattle.loft_sense.specs.Statements.{order_of}
+use Rattle.loft_history.specs.Clients.{orders_from}
 use Rattle.loft_history.specs.History.{sends, sent_in, log, is_addressed, orders_to, starts_from, starts_of, job_before, jobs_sent, replayed}
 use Rattle.loft_history.specs.Legal.{actor_of, AtEach, IsDeclared, IsCallersOrder, IsCallersEntry, ComesNext}
 use Rattle.loft_history.proofs.HistoryLemmas.{is_same}
@@ -104,7 +105,7 @@ module _ (p : Resolved) (numbered : IsNumbered p) (o : RunOptions) (E : ThreadId
       start_one true u rest g on = ((tt, g.0), on g.1)
       start_one false u rest g on = on g
 
-  control_is : (c : Control) (t : ThreadId) → CarryIs p o.limits E (control_of c t)
+  control_is : (c : Control) (t : ThreadId) → CarryIs p o.limits E (order_of c t)
   control_is control.Stop t = tt
   control_is control.Suspend t = tt
   control_is control.Resume t = tt
