@@ -6,7 +6,8 @@ NAME.loft is the source, NAME.loft.args has further words, one a line, where the
 NAME.loft.stdout is all that the command has to print; the status follows from the first word of
 that (docs/COMMANDS.md). A case passes where each program gives both exactly. NAME.loft.stdout.rule
 stands for a long answer: a line `N x TEXT` is N lines, TEXT with the numbers from 0 to N - 1 in place of
-`{}`; every other line stands for itself, and all end with a line feed. In the folder `exec`
+`{}`, and those from K on in place of `{K}`; a line `N x (` is the lines up to the next line `)`, N times;
+every other line stands for itself, and all end with a line feed. In the folder `exec`
 NAME.listing stands for NAME.loft. Each source in `run` that has a report is compiled, too, and `exec`
 of its listing has to print that report.
 
@@ -36,6 +37,7 @@ FOLLOWERS = [str(FOLLOWER), f"{FOLLOWER}.by-rattle"]
 STATUSES = {b"source:": 3, b"listing:": 3, b"loft:": 2, b"log:": 4, b"files:": 5}
 SECONDS = 300
 REPEATED = re.compile(rb"([0-9]+) x (.*)")
+NUMBER = re.compile(rb"\{([0-9]*)\}")
 FOLDERS = {**{f"cases/{it}": it for it in COMMANDS}, "examples": "run", "docs/tutorial": "run"}
 
 
@@ -47,13 +49,21 @@ def ending_of(command):
 def by_rule(rule):
     """The answer for which a rule stands."""
     lines = []
-    for line in rule.split(b"\n")[:-1]:
+    rest = iter(rule.split(b"\n")[:-1])
+    for line in rest:
         repeated = REPEATED.fullmatch(line)
-        if repeated:
-            lines += [repeated[2].replace(b"{}", b"%d" % at) for at in range(int(repeated[1]))]
-        else:
+        if not repeated:
             lines.append(line)
+        elif repeated[2] == b"(":
+            lines += list(iter(lambda: next(rest), b")")) * int(repeated[1])
+        else:
+            lines += [numbered(repeated[2], at) for at in range(int(repeated[1]))]
     return b"".join(line + b"\n" for line in lines)
+
+
+def numbered(text, at):
+    """A text with numbers in place of those in braces, each larger by this one."""
+    return NUMBER.sub(lambda number: b"%d" % (int(number[1] or 0) + at), text)
 
 
 def stored_answer(source):
