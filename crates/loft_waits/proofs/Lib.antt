@@ -1,0 +1,8 @@
+pub mod AgedLemmas
+pub mod KeyLemmas
+pub mod PlaceLemmas
+pub mod KeptLemmas
+pub mod ChangeLemmas
+pub mod RangeLemmas
+pub mod WaitsLemmas
+pub mod LawLemmas

@@ -1,0 +1,4 @@
+pub mod Told
+pub mod Aged
+pub mod Places
+pub mod Ended

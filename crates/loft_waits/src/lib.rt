@@ -1,0 +1,14 @@
+//! The waits of one scheduler's linked threads: who waits for what, and who can go (docs/SEMANTICS.md, "Waiting lists").
+#![tactic(auto)]
+
+mod ended;
+mod entry;
+mod key;
+mod laws;
+mod places;
+mod plain;
+mod waits;
+mod wake;
+
+pub use laws::{counts_follow_the_board, ready_is_can_go};
+pub use waits::Waits;

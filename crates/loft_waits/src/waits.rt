@@ -1,0 +1,193 @@
+//! The waits of one scheduler's linked threads, by position.
+
+ghost use Rattle.std.specs.Prelude.{◌≡◌, ◌+◌, ◌<◌, ◌≤◌, ◌^◌, ◌++◌, ◌∷◌, [], IfOk, OnOk, OnErr, Some, None, drop, length, slice_set as set, option_and_then, MatchOption, true};
+ghost use Rattle.loft_sense.specs.WaitCodes.{number_left};
+ghost use Rattle.loft_waits.specs.Told.{wait_at, nobody, closed, no_counts, is_late, ready_at, IsNext, NobodyIn, NobodyFrom};
+
+use crate::key::{Key, ThreadKey};
+use crate::places::{Places, enter, leave_entry};
+use crate::plain::Plain;
+use crate::wake::{byte, wake_event, wake_one};
+use loft_base::{EventId, NoMemory, ThreadId, TryClone};
+use loft_orders::Wait;
+use memchr::memchr;
+use std::alloc::Global;
+use std::collections::BTreeSet;
+use std::marker::Model;
+
+/// Who waits for what, and who can go (docs/SEMANTICS.md, "Waiting lists"). Contracts see the wait at each position, what
+/// was told of events in this instant, the threads that are told as ended, and how many instants have closed.
+#[derive(Drop)]
+pub struct Waits {
+    plain: Plain,
+    /// For each position 1 where its thread can go, else 0.
+    ready: Vec<u8>,
+    places: Places,
+}
+
+impl Model for Waits {
+    ghost use Rattle.loft_waits.specs.Told.{Told};
+
+    ghost Value = { Told };
+
+    ghost use Rattle.loft_waits.specs.Places.{IsKept};
+
+    ghost view = { λ w. w.plain };
+
+    ghost invariant = { λ w. IsKept w.plain w.ready.items w.places };
+}
+
+/// The flags from a position on.
+fn rest(ready: &[u8], from: usize) -> &[u8]
+    requires { from ≤ length ready.now }
+    ensures { result.now ≡ drop from ready.now }
+{
+    ready.split_at(from).1
+}
+
+impl Waits {
+    /// No positions, and so many events, none of them present.
+    ///
+    /// # Errors
+    ///
+    /// Out of memory.
+    pub fn new(alloc: Global, events: u32) -> Result<Waits, NoMemory>
+        ensures { IfOk result (λ w. w ≡ record { waits = []; counts = no_counts events; ended = []; closes = 0 }) }
+    {
+        Ok(Waits {
+            plain: Plain::new(alloc, events)?,
+            ready: Vec::new(alloc),
+            places: BTreeSet::new(alloc),
+        })
+    }
+
+    /// One more position, after the others. Nobody waits there.
+    ///
+    /// # Errors
+    ///
+    /// Out of memory; the waits are as before.
+    pub fn grow(&mut self) -> Result<(), NoMemory>
+        ensures ok { OnOk result (self.new ≡ record self.old { waits = self.old.waits ++ nobody ∷ [] }) }
+        ensures err { OnErr result (self.new ≡ self.old) }
+    {
+        self.ready.push(0)?;
+        self.plain.grow()
+    }
+
+    /// The thread at a position where nobody waits waits so from now on. It looks at nobody else.
+    ///
+    /// # Errors
+    ///
+    /// Out of memory; the waits are as before.
+    pub fn add(&mut self, alloc: Global, pos: usize, wait: &Wait) -> Result<(), NoMemory>
+        requires within { pos < length self.old.waits }
+        requires free { wait_at self.old pos ≡ None }
+        ensures ok { OnOk result (self.new ≡ record self.old { waits = set self.old.waits pos (Some wait.now) }) }
+        ensures err { OnErr result (self.new ≡ self.old) }
+    {
+        let copy = wait.try_clone(alloc)?;
+        enter(&mut self.places, wait, self.plain.closes(), pos)?;
+        self.plain.put(pos, copy);
+        self.ready[pos] = byte(self.plain.can_go(pos));
+        Ok(())
+    }
+
+    /// Nobody waits at a position any more. It looks at nobody else, and takes no memory.
+    pub fn remove(&mut self, pos: usize)
+        requires within { pos < length self.old.waits }
+        ensures { self.new ≡ record self.old { waits = set self.old.waits pos None } }
+    {
+        let entry = self.plain.take(pos);
+        leave_entry(&mut self.places, &entry, pos);
+        self.ready[pos] = 0;
+    }
+
+    /// An event is present, with so many values so far. Looked at are those who wait for it as it comes to be present, and
+    /// those who wait for one of its new values. It takes no memory.
+    pub fn on_event(&mut self, event: EventId, count: usize)
+        requires declared { event.0 < length self.old.counts }
+        ensures { self.new ≡ record self.old { counts = set self.old.counts event.0 (Some count) } }
+    {
+        let was = self.plain.count(event);
+        self.plain.on_event(event, count);
+        wake_event(
+            &self.places,
+            event.0,
+            was,
+            count,
+            &self.plain,
+            &mut self.ready,
+        );
+    }
+
+    /// A thread has ended. Looked at are those who wait for its end. It is kept, so that a wait for its end that is added
+    /// later is over.
+    ///
+    /// # Errors
+    ///
+    /// Out of memory; the waits are as before.
+    pub fn on_ended(&mut self, thread: ThreadId) -> Result<(), NoMemory>
+        ensures ok { OnOk result (self.new ≡ record self.old { ended = self.old.ended ++ thread ∷ [] }) }
+        ensures err { OnErr result (self.new ≡ self.old) }
+    {
+        self.plain.on_ended(thread)?;
+        let key = Key::End(ThreadKey::of(thread));
+        wake_one(&self.places, key, &self.plain, &mut self.ready);
+        Ok(())
+    }
+
+    /// An instant closes in which nobody can go any more. Looked at are those whose number runs out, and those who wait for a
+    /// value that has not come. It takes no memory.
+    pub fn close(&mut self)
+        requires few { self.old.closes + 1 < 2 ^ 63 }
+        requires idle { NobodyFrom self.old 0 }
+        ensures { self.new ≡ closed self.old }
+    {
+        self.plain.close();
+        let key = Key::Close(self.plain.closes());
+        wake_one(&self.places, key, &self.plain, &mut self.ready);
+    }
+
+    /// The number left in the wait at a position, as the closes have lowered it; None where it has none.
+    pub fn left(&self, pos: usize) -> Option<i64>
+        requires within { pos < length self.now.waits }
+        ensures { result ≡ option_and_then number_left (wait_at self.now pos) }
+    {
+        self.plain.left(pos)
+    }
+
+    /// Whether the wait at a position is for a value that did not come in its instant.
+    pub fn is_late(&self, pos: usize) -> bool
+        requires within { pos < length self.now.waits }
+        ensures { result ≡ is_late (wait_at self.now pos) }
+    {
+        self.plain.is_late(pos)
+    }
+
+    /// The first position from there on whose thread can go.
+    fn first_from(&self, from: usize) -> Option<usize>
+        ensures { MatchOption result (NobodyFrom self.now from) (λ q. (from ≤ q) × (q < length self.now.waits) × (ready_at self.now q ≡ true) × NobodyIn self.now from q) }
+    {
+        if from < self.ready.len() {
+            match memchr(1, rest(self.ready.as_slice(), from)) {
+                Some(count) => Some(from + count),
+                None => None,
+            }
+        } else {
+            None
+        }
+    }
+
+    /// The first position after this one whose thread can go, else the first one at all; None exactly where nobody can go.
+    /// The first of all is the one after `usize::MAX`.
+    pub fn next_after(&self, pos: usize) -> Option<usize>
+        ensures { IsNext self.now pos result }
+    {
+        if pos < self.ready.len() {
+            if let Some(next) = self.first_from(pos + 1) {
+                return Some(next);
+            }
+        }
+        self.first_from(0)
+    }
+}
