@@ -1,7 +1,7 @@
 -- What entries are as waits.
-use Rattle.std.proofs.Common.{◌≡◌, ℕ, zero, suc, ◌+◌, ◌-◌, ◌≤◌, ◌==◌, Bool, true, false, List, [], ◌∷◌, map, set, refl, sym, ◌∙◌, ap, arith, Option, Some, None, option_map, ne_eqb}
+use Rattle.std.proofs.Common.{take, ◌≡◌, ℕ, zero, suc, ◌+◌, ◌-◌, ◌≤◌, ◌==◌, Bool, true, false, List, [], ◌∷◌, map, set, refl, sym, ◌∙◌, ap, arith, Option, Some, None, option_map, ne_eqb}
 use Rattle.std.specs.Prelude.{if◌then◌else◌, ℤ, pos, negsuc}
-use Rattle.std.specs.List.{AllByRecursion}
+use Rattle.std.specs.List.{AllByRecursion, take-map}
 use Rattle.std.proofs.lemmas.List.{map-set}
 use Rattle.std.proofs.lemmas.List.Elements.{recursion_from_All}
 use Rattle.loft_base.specs.declared.ids.EventId.{EventId}
@@ -84,3 +84,6 @@ waits_enter clock slots p w =
 
 pub waits_leave : (clock : ℕ) (slots : List (Option Entry)) (p : ℕ) → waits_of clock (set slots p None) ≡ set (waits_of clock slots) p None
 waits_leave clock slots p = waits_set clock slots p None
+
+pub waits_take : (clock n : ℕ) (slots : List (Option Entry)) → waits_of clock (take n slots) ≡ take n (waits_of clock slots)
+waits_take clock n slots = sym (take-map (option_map (wait_now clock)) n slots)

@@ -10,7 +10,7 @@ use Rattle.loft_waits.specs.declared.key.Key.TheVariants.{Event, Value, End, Clo
 use Rattle.loft_waits.specs.Told.{Told, wait_at, is_ready, ready_at}
 use Rattle.loft_waits.specs.Places.{Place, thread_key, IsListed, IsKept, KeepsOthers, SetsSome, flag}
 
-beyond : {X : Type 0} (xs : List X) (d : X) (i : ℕ) → length xs ≤ i → get_or xs i d ≡ d
+pub beyond : {X : Type 0} (xs : List X) (d : X) (i : ℕ) → length xs ≤ i → get_or xs i d ≡ d
 beyond [] d i h = refl
 beyond (x ∷ xs) d zero h = absurd (omega arith)
 beyond (x ∷ xs) d (suc i) h = beyond xs d i (omega arith)

@@ -1,8 +1,8 @@
 -- What each call of the waits keeps.
-use Rattle.std.proofs.Common.{◌≡◌, ℕ, ◌+◌, ◌-◌, ◌<◌, ◌≤◌, ◌==◌, Bool, true, false, List, [], ◌∷◌, ◌++◌, map, set, drop, refl, sym, ◌∙◌, ap, subst, arith, Option, Some, None, option_map, length, get_or, get_or-set_same, ◌⊎◌, inl, inr}
+use Rattle.std.proofs.Common.{take, ◌≡◌, ℕ, ◌+◌, ◌-◌, ◌<◌, ◌≤◌, ◌==◌, Bool, true, false, List, [], ◌∷◌, ◌++◌, map, set, drop, refl, sym, ◌∙◌, ap, subst, arith, Option, Some, None, option_map, length, get_or, get_or-set_same, ◌⊎◌, inl, inr}
 use Rattle.std.specs.Prelude.{nat_lt, unwrap_or, slice_index}
 use Rattle.std.proofs.lemmas.Bool.{ltb-true, ltb-false}
-use Rattle.std.proofs.lemmas.List.{length-map, length-drop, get_or-drop}
+use Rattle.std.proofs.lemmas.List.{length-map, length-drop, get_or-drop, length-take, get_or-take}
 use Rattle.memchr.specs.Find.{is_byte, Nowhere, NoneBefore, Passes}
 use Rattle.std.specs.BTreeSet.{BTreeSet}
 use Rattle.loft_base.specs.declared.ids.ThreadId.{ThreadId}
@@ -11,7 +11,7 @@ use Rattle.loft_sense.specs.Instant.{closed_wait}
 use Rattle.loft_waits.specs.declared.key.Key.TheVariants.{Event, Value, End, Close}
 use Rattle.loft_waits.specs.Told.{Told, wait_at, is_ready, ready_at, closed, no_counts, NobodyIn, NobodyFrom}
 use Rattle.loft_waits.specs.Places.{Place, thread_key, IsListed, IsKept, KeepsOthers, SetsSome, SetsListed, flag, names_thread, ends_in}
-use Rattle.loft_waits.proofs.KeptLemmas.{ready_beyond, listed_none, kept_set, kept_woken}
+use Rattle.loft_waits.proofs.KeptLemmas.{beyond, ready_beyond, listed_none, kept_set, kept_woken}
 use Rattle.loft_waits.proofs.ChangeLemmas.{NewValue, EventChange, event_changes, end_changes, close_changes, closed_at, closed_listed}
 
 -- a position has a wait
@@ -28,6 +28,27 @@ kept_put t u ready old new p w byte k lt keeps listed is here =
 pub kept_take : (t u : Told) (ready : List ℕ) (old new : BTreeSet Place) (p : ℕ) → IsKept t ready old → p < length t.waits → KeepsOthers p old new → u ≡ record t { waits = set t.waits p None } → IsKept u (set ready p 0) new
 kept_take t u ready old new p k lt keeps is =
     subst (λ (x : Told). IsKept x (set ready p 0) new) (sym is) (kept_set t ready old new p None k lt keeps (listed_none new t.closes p))
+
+take_free : (ws : List (Option Wait)) (n i : ℕ) → ((j : ℕ) → n ≤ j → get_or ws j None ≡ None) → get_or (take n ws) i None ≡ get_or ws i None
+take_free ws n i free = one (nat_lt i n) refl
+  where
+    one : (b : Bool) → nat_lt i n ≡ b → get_or (take n ws) i None ≡ get_or ws i None
+    one true lt = get_or-take n ws i None (ltb-true i n lt)
+    one false ge =
+        let far : n ≤ i = ltb-false i n ge in
+        let many = length-take n ws in
+        beyond (take n ws) None i (omega (arith, far, many)) ∙ sym (free i far)
+
+-- positions where nobody waits are taken away
+pub kept_less : (t u : Told) (ready : List ℕ) (places : BTreeSet Place) (n : ℕ) → IsKept t ready places → ((i : ℕ) → n ≤ i → wait_at t i ≡ None) → u ≡ record t { waits = take n t.waits } → IsKept u ready places
+kept_less t u ready places n k free is =
+    subst (λ (x : Told). IsKept x ready places) (sym is)
+    (record {
+      few = k.few;
+      many = let m = k.many in let l = length-take n t.waits in omega (arith, m, l);
+      flags = λ i. k.flags i ∙ sym (ap (λ (v : Option Wait). flag (is_ready t.counts t.ended v)) (take_free t.waits n i free));
+      listed = λ i. subst (IsListed places t.closes i) (sym (take_free t.waits n i free)) (k.listed i);
+    })
 
 -- ---- an event
 

@@ -39,6 +39,10 @@ nobody = None
 abbrev pub wait_at : Told → ℕ → Option Wait
 wait_at t p = slice_index_or t.waits p None
 
+-- nobody waits at a position from there on
+abbrev pub IsFreeFrom : Told → ℕ → Type 0
+IsFreeFrom t n = (i : ℕ) → n ≤ i → wait_at t i ≡ None
+
 -- somebody waits, and what he waits for is there
 abbrev pub is_ready : Counts → List ThreadId → Option Wait → Bool
 is_ready counts ended None = false

@@ -1,6 +1,6 @@
 //! The waits by themselves: who can go is found by asking each.
 
-ghost use Rattle.std.specs.Prelude.{◌≡◌, ◌+◌, ◌<◌, ◌^◌, ◌++◌, ◌∷◌, [], IfOk, OnOk, OnErr, Some, None, length, set, option_and_then};
+ghost use Rattle.std.specs.Prelude.{◌≡◌, ◌+◌, ◌<◌, ◌^◌, ◌++◌, ◌∷◌, [], IfOk, OnOk, OnErr, Some, None, length, set, take, option_and_then};
 ghost use Rattle.loft_sense.specs.WaitCodes.{number_left};
 ghost use Rattle.loft_waits.specs.Told.{wait_at, nobody, closed, ready_at, no_counts, is_late, count_in};
 
@@ -84,6 +84,13 @@ impl Plain {
     {
         self.slots.push(None)?;
         Ok(())
+    }
+
+    /// So many positions are left.
+    pub(crate) fn truncate(&mut self, len: usize)
+        ensures { self.new ≡ record self.old { waits = take len self.old.waits } }
+    {
+        self.slots.truncate(len);
     }
 
     /// The thread at a position waits so from now on.

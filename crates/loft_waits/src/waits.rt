@@ -1,8 +1,8 @@
 //! The waits of one scheduler's linked threads, by position.
 
-ghost use Rattle.std.specs.Prelude.{◌≡◌, ◌+◌, ◌<◌, ◌≤◌, ◌^◌, ◌++◌, ◌∷◌, [], IfOk, OnOk, OnErr, Some, None, drop, length, slice_set as set, option_and_then, MatchOption, true};
+ghost use Rattle.std.specs.Prelude.{◌≡◌, ◌+◌, ◌<◌, ◌≤◌, ◌^◌, ◌++◌, ◌∷◌, [], IfOk, OnOk, OnErr, Some, None, drop, take, length, slice_set as set, option_and_then, MatchOption, true};
 ghost use Rattle.loft_sense.specs.WaitCodes.{number_left};
-ghost use Rattle.loft_waits.specs.Told.{wait_at, nobody, closed, no_counts, is_late, ready_at, IsNext, NobodyIn, NobodyFrom};
+ghost use Rattle.loft_waits.specs.Told.{wait_at, nobody, closed, no_counts, is_late, ready_at, IsNext, IsFreeFrom, NobodyIn, NobodyFrom};
 
 use crate::key::{Key, ThreadKey};
 use crate::places::{Places, enter, leave_entry};
@@ -72,6 +72,14 @@ impl Waits {
     {
         self.ready.push(0)?;
         self.plain.grow()
+    }
+
+    /// So many positions are left, where nobody waits after them. It takes no memory.
+    pub fn truncate(&mut self, len: usize)
+        requires free { IsFreeFrom self.old len }
+        ensures { self.new ≡ record self.old { waits = take len self.old.waits } }
+    {
+        self.plain.truncate(len);
     }
 
     /// The thread at a position where nobody waits waits so from now on. It looks at nobody else.
