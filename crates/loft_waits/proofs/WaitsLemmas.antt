@@ -39,16 +39,27 @@ take_free ws n i free = one (nat_lt i n) refl
         let many = length-take n ws in
         beyond (take n ws) None i (omega (arith, far, many)) ∙ sym (free i far)
 
--- positions where nobody waits are taken away
-pub kept_less : (t u : Told) (ready : List ℕ) (places : BTreeSet Place) (n : ℕ) → IsKept t ready places → ((i : ℕ) → n ≤ i → wait_at t i ≡ None) → u ≡ record t { waits = take n t.waits } → IsKept u ready places
-kept_less t u ready places n k free is =
-    subst (λ (x : Told). IsKept x ready places) (sym is)
+-- positions where nobody waits are taken away, with their flags
+pub kept_less : (t u : Told) (ready left : List ℕ) (places : BTreeSet Place) (n : ℕ) → IsKept t ready places → ((i : ℕ) → n ≤ i → wait_at t i ≡ None) → u ≡ record t { waits = take n t.waits } → left ≡ take n ready → IsKept u left places
+kept_less t u ready left places n k free is short =
+    subst (λ (x : Told). IsKept x left places) (sym is)
+    (subst (λ (l : List ℕ). IsKept (record t { waits = take n t.waits }) l places) (sym short)
     (record {
       few = k.few;
-      many = let m = k.many in let l = length-take n t.waits in omega (arith, m, l);
-      flags = λ i. k.flags i ∙ sym (ap (λ (v : Option Wait). flag (is_ready t.counts t.ended v)) (take_free t.waits n i free));
+      many = let m = k.many in let a = length-take n t.waits in let b = length-take n ready in omega (arith, m, a, b);
+      flags = λ i. flag_at i (nat_lt i n) refl;
       listed = λ i. subst (IsListed places t.closes i) (sym (take_free t.waits n i free)) (k.listed i);
-    })
+    }))
+  where
+    is_flag : Option Wait → ℕ
+    is_flag v = flag (is_ready t.counts t.ended v)
+
+    flag_at : (i : ℕ) (b : Bool) → nat_lt i n ≡ b → get_or (take n ready) i 0 ≡ is_flag (get_or (take n t.waits) i None)
+    flag_at i true lt = get_or-take n ready i 0 (ltb-true i n lt) ∙ k.flags i ∙ sym (ap is_flag (take_free t.waits n i free))
+    flag_at i false ge =
+        let far : n ≤ i = ltb-false i n ge in
+        let many = length-take n ready in
+        beyond (take n ready) 0 i (omega (arith, far, many)) ∙ sym (ap is_flag (take_free t.waits n i free ∙ free i far))
 
 -- ---- an event
 

@@ -9,7 +9,8 @@ use std::alloc::Global;
 use std::collections::BTreeSet;
 use std::marker::Model;
 
-/// The threads that are told as ended, in the order in which they were told, with a set beside them. Contracts see the list.
+/// The threads that are told as ended, in the order in which they were told, with a set beside
+/// them. Contracts see the list.
 #[derive(Drop)]
 pub(crate) struct Ended {
     threads: Vec<ThreadId>,

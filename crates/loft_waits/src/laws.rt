@@ -1,4 +1,5 @@
-//! What the waits have to do with the passes of an instant. Each law is what the contract of an empty function says.
+//! What the waits have to do with the passes of an instant. Each law is what the contract of an
+//! empty function says.
 
 ghost use Rattle.std.specs.Prelude.{◌≡◌, ◌<◌, ℕ, ℤ, Option, Some, false, length, slice_set};
 ghost use Rattle.loft_base.specs.declared.ids.EventId.{EventId};

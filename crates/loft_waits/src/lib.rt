@@ -1,4 +1,5 @@
-//! The waits of one scheduler's linked threads: who waits for what, and who can go (docs/SEMANTICS.md, "Waiting lists").
+//! The waits of one scheduler's linked threads: who waits for what, and who can go
+//! (docs/SEMANTICS.md, "Waiting lists").
 #![tactic(auto)]
 
 mod ended;

@@ -144,7 +144,8 @@ fn unlist_events(places: &mut Places, events: &[EventId], pos: usize)
     }
 }
 
-/// A position leaves the lists in which it stands for a wait that was entered as so many instants had closed.
+/// A position leaves the lists in which it stands for a wait that was entered as so many instants
+/// had closed.
 fn leave(places: &mut Places, wait: &Wait, clock: u64, pos: usize)
     ensures { KeepsOthers pos places.old places.new }
 {
@@ -168,8 +169,8 @@ fn leave(places: &mut Places, wait: &Wait, clock: u64, pos: usize)
     }
 }
 
-/// A position is listed under each key that can make a thread go that waits so from now on. Where it is out of memory, it
-/// leaves these lists.
+/// A position is listed under each key that can make a thread go that waits so from now on. Where
+/// it is out of memory, it leaves these lists.
 pub(crate) fn enter(
     places: &mut Places,
     wait: &Wait,

@@ -28,7 +28,12 @@ impl Model for Plain {
 
     ghost use Rattle.loft_waits.specs.Aged.{waits_of, IsBefore};
 
-    ghost view = { λ w. record { waits = waits_of w.clock w.slots.items; counts = w.counts.items; ended = w.ended; closes = w.clock } };
+    ghost view = { λ w. record {
+      waits = waits_of w.clock w.slots.items;
+      counts = w.counts.items;
+      ended = w.ended;
+      closes = w.clock;
+    } };
 
     ghost invariant = { λ w. IsBefore w.clock w.slots.items };
 }
@@ -53,7 +58,8 @@ fn absent(alloc: Global, events: u32) -> Result<Vec<Option<usize>>, NoMemory>
 
 impl Plain {
     pub(crate) fn new(alloc: Global, events: u32) -> Result<Plain, NoMemory>
-        ensures { IfOk result (λ w. w ≡ record { waits = []; counts = no_counts events; ended = []; closes = 0 }) }
+        ensures { IfOk result (λ w. w
+            ≡ record { waits = []; counts = no_counts events; ended = []; closes = 0 }) }
     {
         let counts = absent(alloc, events)?;
         Ok(Plain {
@@ -79,7 +85,8 @@ impl Plain {
     }
 
     pub(crate) fn grow(&mut self) -> Result<(), NoMemory>
-        ensures ok { OnOk result (self.new ≡ record self.old { waits = self.old.waits ++ nobody ∷ [] }) }
+        ensures ok { OnOk result (self.new
+            ≡ record self.old { waits = self.old.waits ++ nobody ∷ [] }) }
         ensures err { OnErr result (self.new ≡ self.old) }
     {
         self.slots.push(None)?;
@@ -124,7 +131,8 @@ impl Plain {
     }
 
     pub(crate) fn on_ended(&mut self, thread: ThreadId) -> Result<(), NoMemory>
-        ensures ok { OnOk result (self.new ≡ record self.old { ended = self.old.ended ++ thread ∷ [] }) }
+        ensures ok { OnOk result (self.new
+            ≡ record self.old { ended = self.old.ended ++ thread ∷ [] }) }
         ensures err { OnErr result (self.new ≡ self.old) }
     {
         self.ended.push(thread)

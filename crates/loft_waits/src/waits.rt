@@ -15,8 +15,9 @@ use std::alloc::Global;
 use std::collections::BTreeSet;
 use std::marker::Model;
 
-/// Who waits for what, and who can go (docs/SEMANTICS.md, "Waiting lists"). Contracts see the wait at each position, what
-/// was told of events in this instant, the threads that are told as ended, and how many instants have closed.
+/// Who waits for what, and who can go (docs/SEMANTICS.md, "Waiting lists"). Contracts see the wait
+/// at each position, what was told of events in this instant, the threads that are told as ended,
+/// and how many instants have closed.
 #[derive(Drop)]
 pub struct Waits {
     plain: Plain,
@@ -52,7 +53,8 @@ impl Waits {
     ///
     /// Out of memory.
     pub fn new(alloc: Global, events: u32) -> Result<Waits, NoMemory>
-        ensures { IfOk result (λ w. w ≡ record { waits = []; counts = no_counts events; ended = []; closes = 0 }) }
+        ensures { IfOk result (λ w. w
+            ≡ record { waits = []; counts = no_counts events; ended = []; closes = 0 }) }
     {
         Ok(Waits {
             plain: Plain::new(alloc, events)?,
@@ -67,7 +69,8 @@ impl Waits {
     ///
     /// Out of memory; the waits are as before.
     pub fn grow(&mut self) -> Result<(), NoMemory>
-        ensures ok { OnOk result (self.new ≡ record self.old { waits = self.old.waits ++ nobody ∷ [] }) }
+        ensures ok { OnOk result (self.new
+            ≡ record self.old { waits = self.old.waits ++ nobody ∷ [] }) }
         ensures err { OnErr result (self.new ≡ self.old) }
     {
         self.ready.push(0)?;
@@ -80,6 +83,7 @@ impl Waits {
         ensures { self.new ≡ record self.old { waits = take len self.old.waits } }
     {
         self.plain.truncate(len);
+        self.ready.truncate(len);
     }
 
     /// The thread at a position where nobody waits waits so from now on. It looks at nobody else.
@@ -90,7 +94,8 @@ impl Waits {
     pub fn add(&mut self, alloc: Global, pos: usize, wait: &Wait) -> Result<(), NoMemory>
         requires within { pos < length self.old.waits }
         requires free { wait_at self.old pos ≡ None }
-        ensures ok { OnOk result (self.new ≡ record self.old { waits = set self.old.waits pos (Some wait.now) }) }
+        ensures ok { OnOk result (self.new
+            ≡ record self.old { waits = set self.old.waits pos (Some wait.now) }) }
         ensures err { OnErr result (self.new ≡ self.old) }
     {
         let copy = wait.try_clone(alloc)?;
@@ -110,8 +115,8 @@ impl Waits {
         self.ready[pos] = 0;
     }
 
-    /// An event is present, with so many values so far. Looked at are those who wait for it as it comes to be present, and
-    /// those who wait for one of its new values. It takes no memory.
+    /// An event is present, with so many values so far. Looked at are those who wait for it as it
+    /// comes to be present, and those who wait for one of its new values. It takes no memory.
     pub fn on_event(&mut self, event: EventId, count: usize)
         requires declared { event.0 < length self.old.counts }
         ensures { self.new ≡ record self.old { counts = set self.old.counts event.0 (Some count) } }
@@ -128,14 +133,15 @@ impl Waits {
         );
     }
 
-    /// A thread has ended. Looked at are those who wait for its end. It is kept, so that a wait for its end that is added
-    /// later is over.
+    /// A thread has ended. Looked at are those who wait for its end. It is kept, so that a wait for
+    /// its end that is added later is over.
     ///
     /// # Errors
     ///
     /// Out of memory; the waits are as before.
     pub fn on_ended(&mut self, thread: ThreadId) -> Result<(), NoMemory>
-        ensures ok { OnOk result (self.new ≡ record self.old { ended = self.old.ended ++ thread ∷ [] }) }
+        ensures ok { OnOk result (self.new
+            ≡ record self.old { ended = self.old.ended ++ thread ∷ [] }) }
         ensures err { OnErr result (self.new ≡ self.old) }
     {
         self.plain.on_ended(thread)?;
@@ -144,8 +150,8 @@ impl Waits {
         Ok(())
     }
 
-    /// An instant closes in which nobody can go any more. Looked at are those whose number runs out, and those who wait for a
-    /// value that has not come. It takes no memory.
+    /// An instant closes in which nobody can go any more. Looked at are those whose number runs
+    /// out, and those who wait for a value that has not come. It takes no memory.
     pub fn close(&mut self)
         requires few { self.old.closes + 1 < 2 ^ 63 }
         requires idle { NobodyFrom self.old 0 }
@@ -156,7 +162,8 @@ impl Waits {
         wake_one(&self.places, key, &self.plain, &mut self.ready);
     }
 
-    /// The number left in the wait at a position, as the closes have lowered it; None where it has none.
+    /// The number left in the wait at a position, as the closes have lowered it; None where it has
+    /// none.
     pub fn left(&self, pos: usize) -> Option<i64>
         requires within { pos < length self.now.waits }
         ensures { result ≡ option_and_then number_left (wait_at self.now pos) }
@@ -174,7 +181,9 @@ impl Waits {
 
     /// The first position from there on whose thread can go.
     fn first_from(&self, from: usize) -> Option<usize>
-        ensures { MatchOption result (NobodyFrom self.now from) (λ q. (from ≤ q) × (q < length self.now.waits) × (ready_at self.now q ≡ true) × NobodyIn self.now from q) }
+        ensures { MatchOption result (NobodyFrom self.now from)
+            (λ q. (from ≤ q) × (q < length self.now.waits) × (ready_at self.now q ≡ true)
+            × NobodyIn self.now from q) }
     {
         if from < self.ready.len() {
             match memchr(1, rest(self.ready.as_slice(), from)) {
@@ -186,8 +195,8 @@ impl Waits {
         }
     }
 
-    /// The first position after this one whose thread can go, else the first one at all; None exactly where nobody can go.
-    /// The first of all is the one after `usize::MAX`.
+    /// The first position after this one whose thread can go, else the first one at all; None
+    /// exactly where nobody can go. The first of all is the one after `usize::MAX`.
     pub fn next_after(&self, pos: usize) -> Option<usize>
         ensures { IsNext self.now pos result }
     {

@@ -84,8 +84,8 @@ fn wake_values(
     }
 }
 
-/// The flags of those are set anew for whom an event can have changed something: it had so many values where it was
-/// present, and it has so many now.
+/// The flags of those are set anew for whom an event can have changed something: it had so many
+/// values where it was present, and it has so many now.
 pub(crate) fn wake_event(
     places: &Places,
     event: u32,
