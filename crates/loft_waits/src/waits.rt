@@ -139,7 +139,7 @@ impl Waits {
     /// # Errors
     ///
     /// Out of memory; the waits are as before.
-    pub fn on_ended(&mut self, thread: ThreadId) -> Result<(), NoMemory>
+    pub fn on_ended(&mut self, _alloc: Global, thread: ThreadId) -> Result<(), NoMemory>
         ensures ok { OnOk result (self.new
             ≡ record self.old { ended = self.old.ended ++ thread ∷ [] }) }
         ensures err { OnErr result (self.new ≡ self.old) }
