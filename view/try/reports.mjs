@@ -7,22 +7,40 @@ export const VIEW = dirname(dirname(fileURLToPath(import.meta.url)));
 export const TOP = dirname(VIEW);
 const FOLDERS = ["cases/run", "cases/history", "cases/exec", "examples", "docs/tutorial"];
 const REPEATED = /^([0-9]+) x (.*)$/;
+// The page is made for reports of some 5 MB.
+const LONGEST = 6_000_000;
+const NUMBER = /\{([0-9]*)\}/g;
 
 /** The text of a file, a letter for each byte. @param {string} name from the top */
 export function bytes(name) {
   return readFileSync(join(TOP, name), "latin1");
 }
 
-/** The report for which a rule stands (cases/README.md). @param {string} rule */
-function byRule(rule) {
-  return rule.split("\n").map((line) => {
-    const repeated = REPEATED.exec(line);
-    if (repeated === null) return line;
-    return Array.from({ length: Number(repeated[1]) }, (_, at) => repeated[2].replaceAll("{}", at)).join("\n");
-  }).join("\n");
+/** A text with numbers in place of those in braces, each larger by this one. @param {string} text @param {number} at */
+function numbered(text, at) {
+  return text.replace(NUMBER, (_, from) => String(Number(from) + at));
 }
 
-/** Each stored answer that is a report. @returns {{name: string, text: string}[]} */
+/** The report for which a rule stands (cases/README.md). @param {string} rule */
+function byRule(rule) {
+  const lines = [];
+  const rest = rule.split("\n");
+  for (let next = 0; next < rest.length; next += 1) {
+    const repeated = REPEATED.exec(rest[next]);
+    if (repeated === null) {
+      lines.push(rest[next]);
+      continue;
+    }
+    const group = repeated[2] === "(" ? rest.slice(next + 1, rest.indexOf(")", next)) : null;
+    for (let at = 0; at < Number(repeated[1]); at += 1) {
+      for (const line of group ?? [numbered(repeated[2], at)]) lines.push(line);
+    }
+    if (group !== null) next += group.length + 1;
+  }
+  return lines.join("\n");
+}
+
+/** Each stored answer that is a report of at most so many bytes. @returns {{name: string, text: string}[]} */
 export function storedReports() {
   const found = [];
   for (const folder of FOLDERS) {
@@ -32,7 +50,7 @@ export function storedReports() {
       if (file.endsWith(".stdout.rule")) found.push({ name, text: byRule(bytes(name)) });
     }
   }
-  return found.filter(({ text }) => text.startsWith("loft-report "));
+  return found.filter(({ text }) => text.startsWith("loft-report ") && text.length <= LONGEST);
 }
 
 /** A report of many instants of two schedulers, with a thread that goes to and fro. @param {number} instants */
