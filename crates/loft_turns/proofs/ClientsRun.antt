@@ -5,6 +5,7 @@ use Rattle.std.proofs.lemmas.List.{drop-drop, length-append}
 use Rattle.std.proofs.lemmas.List.FromFn.{length-map-range_with_len, get_or-map-range_with_len}
 use Rattle.std.proofs.Math.ListN.{set}
 use Rattle.std.specs.Prelude.{if◌then◌else◌, ◌&&◌, drop}
+use Rattle.std.specs.Option.{option_map_or}
 use Rattle.std.proofs.lemmas.List.Sums.{fold-append}
 use Rattle.loft_tree.specs.declared.heads.ClientOrder.{ClientOrder}
 use Rattle.loft_tree.specs.declared.heads.ClientOrder.TheVariants as client
@@ -20,7 +21,7 @@ use Rattle.loft_orders.specs.declared.order.Sent.{Sent}
 use Rattle.loft_orders.specs.declared.order.To.{To}
 use Rattle.loft_orders.specs.declared.order.To.TheVariants.{Sched, Others, All, Workers}
 use Rattle.loft_sense.specs.Machine.{Prog, heads}
-use Rattle.loft_history.specs.Clients.{orders_from, orders_or_none, outside_of}
+use Rattle.loft_history.specs.Clients.{orders_from, outside_of}
 use Rattle.loft_history.specs.History.{ClientBy, unsent, is_create, creates, entry_of_first, entry_of, creates_step, instant_step, unsent_step}
 use Rattle.loft_history.specs.Legal.{of, FitsOne}
 use Rattle.loft_history.proofs.HistoryLemmas.{log-append, unsent_none}
@@ -171,7 +172,7 @@ orders_now x o r c m run first k = by (k == c) refl
     h = r.world.history
 
     all : ℕ → List ClientOrder
-    all j = orders_or_none (slice_get (heads x).clients j)
+    all j = option_map_or (λ d. d.orders) (slice_get (heads x).clients j) []
 
     other : k == c ≡ false → unsent (heads x) k (h ++ Client c m ∷ []) ≡ orders_left x k (h ++ Client c m ∷ []) (gave (h ++ Client c m ∷ []) k)
     other is =
