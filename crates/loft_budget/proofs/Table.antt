@@ -1,6 +1,6 @@
 -- The steps of modules, as deep as they run others, are those of their bodies.
 use Rattle.std.proofs.Common.{◌≡◌, ℕ, zero, suc, ◌<◌, ◌≤◌, Bool, true, false, Option, Some, None, refl, sym, ap, ◌∙◌, subst, arith}
-use Rattle.std.specs.Prelude.{◌&&◌, ◌||◌, is_some, nat_le, if◌then◌else◌, slice_get, unwrap_or}
+use Rattle.std.specs.Prelude.{is_none, ◌&&◌, ◌||◌, is_some, nat_le, if◌then◌else◌, slice_get, unwrap_or}
 use Rattle.std.proofs.lemmas.Bool.{and_parts}
 use Rattle.loft_base.specs.declared.ids.ModuleId.{ModuleId}
 use Rattle.loft_tree.specs.Resolved.{Step, Do, Hold, Call, Choose, Loop, Times, Body, Empty, Then, Resolved}
@@ -8,7 +8,7 @@ use Rattle.loft_sense.specs.Tree.{body_at}
 use Rattle.loft_stand.specs.Numbered.{StepNumbered, BodyNumbered, IsNumbered}
 use Rattle.loft_budget.specs.declared.steps.Steps.{Steps}
 use Rattle.loft_budget.specs.Steps.{plus, followed, either, one_more, loop_steps, literal, times_steps, steps_or_none, step_steps, body_steps}
-use Rattle.loft_budget.specs.Bounds.{is_none, step_runs_bounded, runs_bounded, step_loops_end, loops_end, or_zero, bound_of, most_bound, bounded_steps, steps_within}
+use Rattle.loft_budget.specs.Bounds.{step_runs_bounded, runs_bounded, step_loops_end, loops_end, or_zero, bound_of, most_bound, bounded_steps, steps_within}
 use Rattle.loft_budget.proofs.Sums.{AtMost}
 use Rattle.loft_budget.proofs.Order.{Within, HasWay}
 use Rattle.loft_budget.proofs.WorkSteps.{CountFine, StepFine, BodyFine, way_body}

@@ -1,6 +1,6 @@
 -- A module has at most one verdict, and a bound exactly where the verdict says so.
 use Rattle.std.proofs.Common.{◌≡◌, ℕ, zero, suc, ◌+◌, ◌<◌, ◌≤◌, Bool, true, false, List, [], ◌∷◌, ◌++◌, map, Option, Some, None, slice_get, refl, sym, ap, ◌∙◌, subst, arith}
-use Rattle.std.specs.Prelude.{◌↔◌, length, ◌||◌, is_some, unwrap_or}
+use Rattle.std.specs.Prelude.{is_none, ◌↔◌, length, ◌||◌, is_some, unwrap_or}
 use Rattle.std.specs.Option.{option_map}
 use Rattle.std.proofs.lemmas.Option.{slice_get-map}
 use Rattle.std.proofs.lemmas.Bool.{and_parts, le-leb, leb-true}
@@ -11,7 +11,7 @@ use Rattle.loft_tree.specs.Resolved.{Empty, Body, exp_of, step_of, body_of, reso
 use Rattle.loft_sense.specs.Tree.{body_at}
 use Rattle.loft_budget.specs.declared.steps.Steps.{Steps}
 use Rattle.loft_budget.specs.Steps.{literal, body_steps}
-use Rattle.loft_budget.specs.Bounds.{is_none, step_runs_bounded, runs_bounded, step_loops_end, loops_end, bound_of, most_bound, steps_within, HasBound}
+use Rattle.loft_budget.specs.Bounds.{step_runs_bounded, runs_bounded, step_loops_end, loops_end, bound_of, most_bound, steps_within, HasBound}
 use Rattle.loft_budget.specs.declared.verdict.Verdict.{Verdict}
 use Rattle.loft_budget.specs.declared.verdict.Verdict.TheVariants.{Bound, Recursive, Runs, Endless, Large}
 use Rattle.loft_budget.specs.Verdicts.{RunAt, runs_of, runs_in, endless_if, endless_of, endless_in, statements_or_none, statements_at, RunsIt, Reaches, runs, on, FirstRun, IsRecursive, IsUnbounded, RunsBounded, endless_at, steps_at, IsVerdict}
