@@ -1,5 +1,5 @@
 -- What holds at each entry of a list, of a longer list and of a prefix.
-use Rattle.std.proofs.Common.{◌≡◌, List, [], ◌∷◌, ◌++◌, ap, subst, append_assoc}
+use Rattle.std.proofs.Common.{◌≡◌, List, [], ◌∷◌, ◌++◌, refl, ap, ◌∙◌, subst, append_assoc}
 use Rattle.loft_orders.specs.declared.entry.Entry.{Entry}
 use Rattle.loft_history.specs.Legal.{AtEach}
 
