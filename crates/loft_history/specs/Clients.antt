@@ -23,6 +23,10 @@ orders_from h c k (client.Create s m arguments ∷ os) = record { to = Sched s; 
 orders_from h c k (client.Control control t s ∷ os) = record { to = Sched s; order = order_of control t } ∷ orders_from h c k os
 orders_from h c k (client.Broadcast e value ∷ os) = record { to = Sched (home h e); order = order.Broadcast e value } ∷ orders_from h c k os
 
+-- a client's orders as the source has them, none if it has no such client
+abbrev pub orders_of : Heads → ℕ → List ClientOrder
+orders_of h c = option_map_or (λ d. d.orders) (slice_get h.clients c) []
+
 -- all that a client of the source sends, in the order of the text
 abbrev pub outside_of : Heads → ℕ → List Sent
-outside_of h c = orders_from h c 0 (option_map_or (λ d. d.orders) (slice_get h.clients c) [])
+outside_of h c = orders_from h c 0 (orders_of h c)
