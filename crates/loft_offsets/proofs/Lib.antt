@@ -1,0 +1,9 @@
+pub mod Alike
+pub mod Declared
+pub mod Faults
+pub mod Uses
+pub mod Named
+pub mod Numbered
+pub mod Heads
+pub mod Placed
+pub mod SamePrograms
