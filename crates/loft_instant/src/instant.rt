@@ -13,7 +13,6 @@ ghost use Rattle.loft_sense.specs.Instant.{sent_by, leavers, changes as changes_
 
 use crate::batch::Batch;
 use crate::shared::{changes, keep_values, shared_values};
-use crate::tally::{first_tally, tally_after};
 use crate::told::tell_all;
 use loft_base::{Limits, NoMemory, SchedId, Sequence, SharedId, ThreadId};
 use loft_board::Board;
@@ -21,6 +20,7 @@ use loft_effect::Around;
 use loft_orders::{Changes, InstantNote, Numbers, Order, Orders, Sents, Threads};
 use loft_passes::{Interpreter, Runner, begin_all, close_all, passes};
 use loft_sense::Tally;
+use loft_tally::{first_tally, tally_after};
 use loft_tree::{Heads, Place};
 use std::alloc::Global;
 
@@ -83,6 +83,15 @@ impl State {
             tally: first_tally(heads, scheduler),
         })
     }
+}
+
+/// The same list in no more room than it needs, as what is kept for the whole run.
+fn fitted<T: Drop>(list: Sequence<T>) -> Sequence<T>
+    ensures { result ≡ list }
+{
+    let mut items = list.into_vec();
+    items.shrink_to_fit();
+    Sequence::from_vec(items)
 }
 
 impl<I: Interpreter> Setting<I> {
@@ -286,6 +295,8 @@ impl<I: Interpreter> Setting<I> {
             ..
         } = around;
         board.reset();
+        let acts = fitted(acts);
+        let sent = fitted(sent);
         let note = InstantNote {
             number: tally.number + 1,
             marks,

@@ -6,7 +6,6 @@ mod engine;
 mod instant;
 mod rest;
 mod shared;
-mod tally;
 mod told;
 
 pub use engine::InstantEngine;

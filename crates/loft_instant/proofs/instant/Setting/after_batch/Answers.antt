@@ -24,12 +24,12 @@ returns-clause-note g c =
     let s = c.args.self.now.scheduler in
     let m = machine_before s c.args.shared c.args.made c.args.tally in
     let a = applied_of c.args.batch in
-    note_so x m a (walk_of c.run.new.linked.items c.in_ok-around.around false) (walk_from x c.args.self.now.limits.budget m a) c.in_ok-around.ensures
+    rw (c.fitted-acts.ensures, c.fitted-sent.ensures) (note_so x m a (walk_of c.run.new.linked.items c.in_ok-around.around false) (walk_from x c.args.self.now.limits.budget m a) c.in_ok-around.ensures
     c.close.new.sent (a.sent ++ sent_by (Sched s) c.in_ok-around.around.acts) c.in_ok-stands.stands c.in_ok-stands.changed
     refl
     c.in_ok-stands.ensures.sent c.in_ok-stands.ensures.stands
     (c.in_ok-stands.ensures.changed
-    ∙ ap (λ (l : List ℤ). changes (shared_of (heads x) s) l c.in_ok-around.around.shared) (c.as_slice.ensures ∙ c.requires.before))
+    ∙ ap (λ (l : List ℤ). changes (shared_of (heads x) s) l c.in_ok-around.around.shared) (c.as_slice.ensures ∙ c.requires.before)))
 
 pub returns-clause-board : goal.returns-clause-board
 returns-clause-board g c =

@@ -1,6 +1,6 @@
 use Rattle.std.proofs.Common.{◌≡◌, ◌+◌, ◌≤◌, drop}
 use Rattle.loft_sense.specs.Tally.{unlinked_in}
-use Rattle.loft_instant.proofs.tally.unlinked_in.Given as goal
+use Rattle.loft_tally.proofs.tally.unlinked_in.Given as goal
 
 -- those so far, and those of what is left
 abbrev pub invariant-loop-sent : goal.invariant-loop-sent
