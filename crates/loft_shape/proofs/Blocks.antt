@@ -1,13 +1,12 @@
 -- The text of the blocks and of the left-over part is the bytes that were kept of them.
-use Rattle.std.proofs.Common.{◌≡◌, ℕ, zero, suc, ◌-◌, ◌<◌, Bool, true, false, ◌==◌, ◌||◌, List, [], ◌∷◌, ◌++◌, length, append_assoc, Option, Some, refl, sym, ap, subst, ◌∙◌, arith, if◌then◌else◌}
+use Rattle.std.proofs.Common.{◌≡◌, ℕ, zero, suc, ◌-◌, ◌<◌, Bool, true, false, ◌==◌, List, [], ◌∷◌, ◌++◌, length, append_assoc, Option, Some, refl, sym, ap, subst, ◌∙◌, arith, if◌then◌else◌}
 use Rattle.std.proofs.lemmas.List.{append-nil}
-use Rattle.std.specs.List.{list_all, list_any, flat_map}
-use Rattle.std.specs.Str.{bytes_eq}
+use Rattle.std.specs.List.{list_all, flat_map}
 use Rattle.loft_spelling.specs.Sets.{value_of}
 use Rattle.loft_spelling.specs.Parts.{Left}
 use Rattle.loft_spelling.proofs.Sets.{and_both}
 use Rattle.loft_shape.specs.Word.{spelling, word_of}
-use Rattle.loft_shape.specs.Sets.{menu, block_words, final_words, thread_words, changed_words, standing_words, leaving_words, act_words, batch_words, line_words, set_of, names}
+use Rattle.loft_shape.specs.Sets.{menu, block_words, final_words, thread_words, batch_words, line_words, names}
 use Rattle.loft_shape.specs.Grammar.{after, after_blocks, after_final, after_line, after_end, blank, blank_id, feed, other_name, shared, thread}
 use Rattle.loft_shape.specs.Told.{Report, Told, kept, keeps, enters, note}
 use Rattle.loft_shape.specs.Report.{grammar}
@@ -25,8 +24,8 @@ use Rattle.loft_shape.specs.declared.part.Stage.{Stage}
 use Rattle.loft_shape.specs.declared.part.Stage.TheVariants as stage
 use Rattle.loft_shape.proofs.WordLemmas.{AllOf, each}
 use Rattle.loft_shape.proofs.Batch.{to_batch}
-use Rattle.loft_shape.proofs.Spelled.{Sp, top, only_bytes, One, one}
-use Rattle.loft_shape.proofs.Kept.{plain, plain_note, plain_joined, plain_after, Open, Unfinished, Inside, Keeping, Kept, kept_law, begun, begin_law, flat_push}
+use Rattle.loft_shape.proofs.Spelled.{Sp, top, only_bytes}
+use Rattle.loft_shape.proofs.Kept.{plain, plain_note, plain_joined, plain_after, Open, Unfinished, Inside, Keeping, kept_law, begun, begin_law, flat_push}
 
 -- the last line
 abbrev pub ended_text : List ℕ

@@ -1,8 +1,8 @@
 -- No byte that may go on with a spelling may begin what comes after it.
-use Rattle.std.proofs.Common.{◌≡◌, ℕ, ◌-◌, Bool, true, false, ◌==◌, List, [], ◌∷◌, ◌++◌, length, map, codes, Option, Some, None, refl, sym, subst, ◌∙◌, arith, ◌⊎◌, inl, inr, if◌then◌else◌}
+use Rattle.std.proofs.Common.{◌≡◌, ℕ, ◌-◌, Bool, true, false, ◌==◌, List, [], ◌∷◌, ◌++◌, length, map, refl, sym, subst, ◌∙◌, arith, ◌⊎◌, inl, inr, if◌then◌else◌}
 use Rattle.std.specs.List.{list_any}
 use Rattle.loft_lex.specs.Bytes.{is_name_byte, max_number}
-use Rattle.loft_spelling.specs.Sets.{is_prefix, words, numbers}
+use Rattle.loft_spelling.specs.Sets.{is_prefix}
 use Rattle.loft_spelling.specs.Script.{IsSpelled}
 use Rattle.loft_spelling.specs.Stops.{IsTaken}
 use Rattle.loft_spelling.specs.Parts.{Left, script}
@@ -11,7 +11,6 @@ use Rattle.loft_shape.specs.Word.{spelling, word_of}
 use Rattle.loft_shape.specs.Sets.{names, counts, integers, values, sign, signs, number_set, choice_words, block_words, final_words, thread_words, line_words, batch_words, order_words, wait_words, reason_words, menu, set_of}
 use Rattle.loft_shape.specs.Grammar.{start, after, after_number, after_maker, after_blocks, after_final, after_choice, after_line, after_order, after_wait, after_reason, head_is, begins_number, frames, thread, blank, feed, other_name}
 use Rattle.loft_shape.specs.Report.{grammar, beginning}
-use Rattle.loft_shape.specs.declared.word.Word.{Word}
 use Rattle.loft_shape.specs.declared.word.Word.TheVariants as word
 use Rattle.loft_shape.specs.declared.part.Part.{Part}
 use Rattle.loft_shape.specs.declared.part.Part.TheVariants as part

@@ -1,9 +1,9 @@
 -- The test of each part's set tells exactly which bytes are a prefix of a spelling.
-use Rattle.std.proofs.Common.{◌≡◌, ℕ, ◌≤◌, Bool, true, false, ◌==◌, List, [], ◌∷◌, map, codes, refl, arith, if◌then◌else◌}
+use Rattle.std.proofs.Common.{◌≡◌, ℕ, Bool, true, false, ◌==◌, List, [], ◌∷◌, map, codes, refl, arith, if◌then◌else◌}
 use Rattle.std.specs.List.{list_any}
 use Rattle.std.specs.Str.{bytes_eq}
 use Rattle.loft_lex.specs.Bytes.{max_number}
-use Rattle.loft_spelling.specs.Sets.{words, numbers, is_prefix}
+use Rattle.loft_spelling.specs.Sets.{words, is_prefix}
 use Rattle.loft_spelling.proofs.Sets.{Honest, honest_either, honest_words, honest_lines, honest_numbers, honest_signed}
 use Rattle.loft_shape.specs.Word.{spelling}
 use Rattle.loft_shape.specs.Sets.{names, makers, least, counts, integers, values, sign, signs, number_set, choice_words, block_words, final_words, thread_words, changed_words, standing_words, leaving_words, act_words, batch_words, line_words, order_words, wait_words, reason_words, menu, set_of}

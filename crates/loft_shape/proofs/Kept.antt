@@ -1,5 +1,5 @@
 -- What a kept spelling adds to the text of a report.
-use Rattle.std.proofs.Common.{◌≡◌, ℕ, Bool, true, false, ◌&&◌, List, [], ◌∷◌, ◌++◌, append_assoc, Option, Some, refl, sym, ap, ◌∙◌, if◌then◌else◌}
+use Rattle.std.proofs.Common.{◌≡◌, ℕ, Bool, true, false, List, [], ◌∷◌, ◌++◌, append_assoc, refl, sym, ap, ◌∙◌, if◌then◌else◌}
 use Rattle.std.proofs.lemmas.List.{append-nil}
 use Rattle.std.proofs.lemmas.Grind.{flat_map-append}
 use Rattle.std.specs.List.{list_all, flat_map}
@@ -9,7 +9,6 @@ use Rattle.loft_shape.specs.Sets.{set_of, order_words, wait_words, reason_words}
 use Rattle.loft_shape.specs.Grammar.{after, after_maker, after_order, after_wait, after_reason, frames, feed, other_name, begins_number, head_is}
 use Rattle.loft_shape.specs.Told.{Report, Told, in_last_block, kept, keeps, note}
 use Rattle.loft_shape.specs.Text.{line_of, head_text, block_text, body_text}
-use Rattle.loft_shape.specs.declared.word.Word.{Word}
 use Rattle.loft_shape.specs.declared.word.Word.TheVariants as word
 use Rattle.loft_shape.specs.declared.raw.RawBlock.{RawBlock}
 use Rattle.loft_shape.specs.declared.part.Part.{Part}

@@ -1,14 +1,14 @@
 -- A report has one text.
-use Rattle.std.proofs.Common.{◌≡◌, ℕ, zero, suc, ◌-◌, ◌^◌, ◌<◌, ◌≤◌, Bool, true, false, ◌==◌, List, [], ◌∷◌, ◌++◌, length, append_assoc, Option, Some, None, inl, inr, refl, sym, ap, subst, ◌∙◌, arith, if◌then◌else◌}
+use Rattle.std.proofs.Common.{◌≡◌, ℕ, zero, suc, ◌-◌, ◌^◌, ◌<◌, Bool, true, false, ◌==◌, List, [], ◌∷◌, ◌++◌, length, append_assoc, Some, refl, sym, ap, subst, ◌∙◌, arith, if◌then◌else◌}
 use Rattle.std.proofs.lemmas.List.{append-nil}
 use Rattle.std.specs.Fmt.{decimal}
-use Rattle.std.specs.List.{list_all, flat_map}
+use Rattle.std.specs.List.{flat_map}
 use Rattle.loft_lex.specs.Bytes.{max_number}
 use Rattle.loft_spelling.specs.Sets.{value_of, is_number}
 use Rattle.loft_spelling.specs.Parts.{Left}
 use Rattle.loft_shape.specs.Word.{spelling, word_of}
 use Rattle.loft_shape.specs.Sets.{set_of, number_set, menu, block_words, choice_words}
-use Rattle.loft_shape.specs.Grammar.{start, after, after_blocks, after_choice, blank, feed, number_line}
+use Rattle.loft_shape.specs.Grammar.{after, after_blocks, after_choice, blank, feed, number_line}
 use Rattle.loft_shape.specs.Told.{Report, Told, nothing_told, chosen, keeps, enters, number_told, note}
 use Rattle.loft_shape.specs.Report.{grammar, Shape}
 use Rattle.loft_shape.specs.Text.{line_of, choice_text, head_text, body_text, text_of}
@@ -22,8 +22,8 @@ use Rattle.loft_shape.specs.declared.part.NumberKind.{NumberKind}
 use Rattle.loft_shape.specs.declared.part.NumberKind.TheVariants as number
 use Rattle.loft_shape.specs.declared.part.NameRole.TheVariants as role
 use Rattle.loft_shape.proofs.WordLemmas.{AllOf, each, by_word}
-use Rattle.loft_shape.proofs.Spelled.{Sp, top, only_bytes, number_is, One, one}
-use Rattle.loft_shape.proofs.Blocks.{Remains, ended_text, first_block}
+use Rattle.loft_shape.proofs.Spelled.{Sp, top, only_bytes, number_is, one}
+use Rattle.loft_shape.proofs.Blocks.{ended_text, first_block}
 
 -- ---- the choices
 

@@ -1,10 +1,10 @@
 -- A text is one report, or stops at one place.
-use Rattle.std.proofs.Common.{◌≡◌, ℕ, ◌+◌, ◌<◌, ◌≤◌, Bool, true, false, List, ◌++◌, length, length-append, Result, Ok, Err, ◌⊎◌, inl, inr, refl, sym, ap, ◌∙◌, arith}
+use Rattle.std.proofs.Common.{◌≡◌, ℕ, ◌+◌, ◌<◌, List, ◌++◌, length, Result, Ok, Err, ◌⊎◌, inl, inr, refl, sym, ap, ◌∙◌}
 use Rattle.loft_spelling.specs.Reading.{answer, run, opening, State}
 use Rattle.loft_spelling.specs.Parts.{Left, script, takes}
 use Rattle.loft_spelling.proofs.Tested.{Tested}
 use Rattle.loft_spelling.proofs.Honest.{tested}
-use Rattle.loft_spelling.proofs.Run.{answered, answer_stops, stopped_answers, taken_answered, given_up, stopped_early, run_stopped}
+use Rattle.loft_spelling.proofs.Bytewise.{answered, answer_stops, stopped_answers, taken_answered, given_up, stopped_early, run_stopped}
 use Rattle.loft_spelling.proofs.Clear.{taken_spelled}
 use Rattle.loft_shape.specs.Told.{Report}
 use Rattle.loft_shape.specs.Report.{grammar, beginning, Shape, StopsAt}

@@ -1,5 +1,5 @@
 -- The grammar of reports: which parts come after a spelling of each part (docs/REPORT.md).
-use Rattle.std.specs.Prelude.{ℕ, ◌-◌, Bool, true, false, ◌==◌, ◌||◌, List, [], ◌∷◌, ◌++◌, Option, Some, None, if◌then◌else◌}
+use Rattle.std.specs.Prelude.{ℕ, ◌-◌, Bool, false, ◌==◌, ◌||◌, List, [], ◌∷◌, ◌++◌, Option, Some, if◌then◌else◌}
 use Rattle.loft_spelling.specs.Sets.{is_digit, value_of}
 use Rattle.loft_shape.specs.Word.{word_of}
 use Rattle.loft_shape.specs.declared.word.Word.{Word}

@@ -1,9 +1,8 @@
 -- Where no byte that may go on with a spelling may begin what comes after it, a text that is spelled is taken.
-use Rattle.std.proofs.Common.{◌≡◌, ℕ, Bool, true, false, not, ◌&&◌, ◌||◌, List, [], ◌∷◌, ◌++◌, refl, sym, ap, subst, ◌∙◌}
-use Rattle.loft_spelling.specs.Sets.{Set}
+use Rattle.std.proofs.Common.{◌≡◌, ℕ, Bool, true, false, not, ◌&&◌, ◌||◌, List, [], ◌∷◌, ◌++◌, refl, sym, subst, ◌∙◌}
 use Rattle.loft_spelling.specs.Script.{Spells, IsSpelled}
-use Rattle.loft_spelling.specs.Stops.{IsBegun, IsLast, Takes, TakenBy, IsTaken}
-use Rattle.loft_spelling.specs.Parts.{Grammar, Left, parts_whole, parts_next, script}
+use Rattle.loft_spelling.specs.Stops.{IsLast, TakenBy, IsTaken}
+use Rattle.loft_spelling.specs.Parts.{Grammar, Left, parts_next, script}
 use Rattle.std.proofs.lemmas.List.{append-nil}
 use Rattle.loft_spelling.proofs.Sets.{Honest, and_both, both_and}
 

@@ -1,8 +1,7 @@
 -- A grammar whose sets are honest can be read byte by byte.
-use Rattle.std.proofs.Common.{◌≡◌, ℕ, true, false, List, [], ◌∷◌, ◌++◌, refl, sym, ◌∙◌}
-use Rattle.loft_spelling.specs.Sets.{Set}
+use Rattle.std.proofs.Common.{◌≡◌, ℕ, true, false, List, [], ◌∷◌, ◌++◌, refl}
 use Rattle.loft_spelling.specs.Stops.{IsBegun}
-use Rattle.loft_spelling.specs.Parts.{Grammar, Left, parts_over, parts_whole, parts_begun, script, takes}
+use Rattle.loft_spelling.specs.Parts.{Grammar, parts_over, parts_whole, parts_begun, script, takes}
 use Rattle.loft_spelling.proofs.Sets.{Honest}
 use Rattle.loft_spelling.proofs.Tested.{Tested}
 

@@ -1,6 +1,5 @@
 -- A set takes the same bytes however they are found, so a text is taken in one way, or stops at one place.
-use Rattle.std.proofs.Common.{◌≡◌, ℕ, zero, suc, ◌+◌, ◌<◌, true, false, List, [], ◌∷◌, ◌++◌, length, refl, sym, ap, subst, ◌∙◌, append_assoc, arith, inl, inr}
-use Rattle.std.proofs.lemmas.List.{append-nil}
+use Rattle.std.proofs.Common.{◌≡◌, ℕ, zero, suc, ◌+◌, true, false, List, [], ◌∷◌, ◌++◌, length, refl, sym, ap, subst, ◌∙◌, append_assoc, arith, inl, inr}
 use Rattle.loft_spelling.specs.Script.{Script}
 use Rattle.loft_spelling.specs.Reading.{Test}
 use Rattle.loft_spelling.proofs.Tested.{Tested}

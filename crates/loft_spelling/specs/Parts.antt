@@ -1,7 +1,7 @@
 -- Grammars by parts. A part of a text begins with one of a set of spellings, and the whole spelling tells which parts come after it.
-use Rattle.std.specs.Prelude.{◌≡◌, ℕ, Bool, true, false, List, [], ◌∷◌, ◌++◌}
+use Rattle.std.specs.Prelude.{ℕ, Bool, true, false, List, [], ◌∷◌, ◌++◌}
 use Rattle.loft_spelling.specs.Sets.{Set}
-use Rattle.loft_spelling.specs.Script.{Script, IsSpelled}
+use Rattle.loft_spelling.specs.Script.{Script}
 use Rattle.loft_spelling.specs.Reading.{Test}
 
 -- Told is what is told of a text, and note adds a spelling of a part to it. Which spellings a part has may depend on what was told before.

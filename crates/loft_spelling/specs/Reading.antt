@@ -1,5 +1,5 @@
 -- Reading byte by byte. `takes at w b` tests whether the bytes w, a prefix of a spelling, are still one with b after them.
-use Rattle.std.specs.Prelude.{◌≡◌, ℕ, zero, suc, Bool, true, false, List, [], ◌∷◌, ◌++◌, length, Option, Some, None, Result, Ok, Err, if◌then◌else◌}
+use Rattle.std.specs.Prelude.{ℕ, suc, Bool, List, [], ◌∷◌, ◌++◌, length, Option, Some, None, Result, Ok, Err, if◌then◌else◌}
 use Rattle.loft_spelling.specs.Script.{Script}
 
 abbrev pub Test : Script → Type 0

@@ -1,5 +1,5 @@
 -- Grammars of bytes. At each place of a text stands one of a set of spellings, and the whole spelling tells at which place the text goes on.
-use Rattle.std.specs.Prelude.{◌≡◌, ℕ, Bool, true, false, List, [], ◌∷◌, ◌++◌}
+use Rattle.std.specs.Prelude.{◌≡◌, ℕ, Bool, true, List, [], ◌∷◌, ◌++◌}
 
 -- The places between spellings, which also tell what was read so far; nothing more may stand at a place that is over.
 pub record Script : Type 1 where

@@ -1,6 +1,6 @@
 -- Sets of spellings, each with the test whether bytes are a prefix of one of them.
 use Rattle.std.specs.Prelude.{ℕ, zero, suc, ◌+◌, ◌*◌, ◌-◌, Bool, true, false, not, nat_le, ◌==◌, ◌&&◌, ◌||◌, List, [], ◌∷◌}
-use Rattle.std.specs.List.{list_any, list_all, fold}
+use Rattle.std.specs.List.{list_any, list_all}
 use Rattle.std.specs.Str.{bytes_eq}
 
 -- the bytes are a spelling; the bytes are a prefix of one

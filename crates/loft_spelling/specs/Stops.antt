@@ -1,5 +1,5 @@
 -- Where a text stops. A set of spellings takes bytes as long as the bytes taken are a prefix of one of its spellings.
-use Rattle.std.specs.Prelude.{◌≡◌, ℕ, zero, suc, ◌+◌, ◌<◌, Bool, true, false, List, [], ◌∷◌, ◌++◌, length, ◌⊎◌}
+use Rattle.std.specs.Prelude.{◌≡◌, ℕ, zero, suc, ◌+◌, ◌<◌, true, false, List, [], ◌∷◌, ◌++◌, length, ◌⊎◌}
 use Rattle.loft_spelling.specs.Script.{Script}
 
 -- the bytes are a prefix of a spelling that may stand there

@@ -1,8 +1,7 @@
 -- Reading byte by byte takes a text, or tells where it stops; and in pieces it gives the same.
 use Rattle.std.proofs.Common.{◌≡◌, ℕ, zero, suc, ◌+◌, ◌<◌, Bool, true, false, List, [], ◌∷◌, ◌++◌, length, Result, Ok, Err, Some, None, Option, refl, sym, ap, subst, ◌∙◌, append_assoc, length-append, arith, inl, inr}
-use Rattle.std.proofs.lemmas.List.{append-nil}
 use Rattle.loft_spelling.specs.Script.{Script}
-use Rattle.loft_spelling.specs.Stops.{IsBegun, IsLast, Takes, TakenBy, IsTaken, StopsAfter, Stops}
+use Rattle.loft_spelling.specs.Stops.{IsBegun, IsLast, Takes, IsTaken, Stops}
 use Rattle.loft_spelling.specs.Reading.{Test, State, later, enter, step, then_run, run, ended, or_end, closed, opening, answer}
 use Rattle.loft_spelling.proofs.Tested.{Tested}
 use Rattle.loft_spelling.proofs.Same.{one_taken, taken_never_stops, one_stop}
