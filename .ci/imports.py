@@ -10,6 +10,7 @@ import sys
 
 TOP = pathlib.Path(__file__).resolve().parent.parent
 IMPORT = re.compile(r"^[ \t]*(pub use|ghost use|use)\b[^{};\n]*\{([^{}]*)\}", re.M)
+PATH = re.compile(r"^[ \t]*(pub use|ghost use|use)\b[ \t]+Rattle\.[^{}\n]*$", re.M)
 COMMENT = re.compile(r"^[ \t]*(//|--).*$", re.M)
 TRAIT = re.compile(r"\btrait (\w+)")
 TRAITS_OF_STD = {"Read", "Write"}
@@ -46,7 +47,7 @@ def is_used(name, text):
 
 def unused(text, traits):
     """The line and the name of each import that isn't used."""
-    body = COMMENT.sub("", IMPORT.sub("", text))
+    body = COMMENT.sub("", PATH.sub("", IMPORT.sub("", text)))
     for found in IMPORT.finditer(text):
         kind, names = found.groups()
         line = text.count("\n", 0, found.start(1)) + 1

@@ -56,7 +56,7 @@ wants "compile" 0 answer compile "$source"
 mv "$room/answer" "$room/listing"
 input_of() { if [ "$1" = exec ]; then echo "$room/listing"; else echo "$source"; fi; }
 
-for command in run show check compile exec; do
+for command in run show check compile exec bound; do
     wants "$command, the output is full" 6 full "$command" "$(input_of "$command")"
     wants "$command, a missing file" 5 answer "$command" "$room/missing"
     wrote "$command, a missing file" "$room/fault"

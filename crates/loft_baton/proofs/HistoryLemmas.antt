@@ -1,7 +1,8 @@
 -- Entries by their actors, prefixes of lists, and what is in a list.
-use Rattle.std.proofs.Common.{◌≡◌, Bool, true, false, true≢false, cond, ◌||◌, ltb, List, [], ◌∷◌, ◌++◌, length, drop, refl, sym, ap, ◌∙◌, subst, append_assoc, append-nil, eqb-true}
+use Rattle.std.proofs.Common.{◌≡◌, ◌≤◌, Bool, true, false, true≢false, cond, ◌||◌, ltb, ltb-true, ltb-false, List, [], ◌∷◌, ◌++◌, length, drop, slice_index_or, refl, sym, ap, ap₂, ◌∙◌, subst, append_assoc, append-nil, eqb-true}
 use Rattle.std.specs.List.{All}
 use mathlib.Core.List.{IsPrefix}
+use native.Mathlib.Omega.{arith}
 use Rattle.std.proofs.lemmas.Grind.{flat_map-append}
 use Rattle.std.proofs.lemmas.List.Elements.{All-head, All-tail, filter-append}
 use Rattle.std.proofs.lemmas.List.Folds.{list_any-append, Any-from_list_any}
@@ -58,6 +59,29 @@ module _ {A : Type 0} where
 
   pub prefix_rest : (a b : List A) → IsPrefix a b → a ++ drop (length a) b ≡ b
   prefix_rest a b p = ap (λ l. a ++ l) (front_rest b a p.0 (sym p.1)) ∙ p.1
+
+  -- of two lists that begin one list, the shorter begins the longer
+  pub prefix_short : (a b r s : List A) → a ++ r ≡ b ++ s → length a ≤ length b → IsPrefix a b
+  prefix_short [] b r s e few = (b, refl)
+  prefix_short (x ∷ a) [] r s e few = absurd (omega (arith, few))
+  prefix_short (x ∷ a) (y ∷ b) r s e few =
+      let more = prefix_short a b r s (ap (drop 1) e) (omega (arith, few)) in
+      (more.0, ap₂ (λ z zs. z ∷ zs) (ap (λ l. slice_index_or l 0 x) e) more.1)
+
+module _ (a b h : List Entry) (p : IsPrefix a h) (q : IsPrefix b h) where
+  pub longer_first : IsPrefix a (longer a b)
+  longer_first =
+      elim (ltb (length a) (length b)) as (λ t. ltb (length a) (length b) ≡ t → IsPrefix a (cond t b a)) [
+        | true ↦ (λ less. prefix_short a b p.0 q.0 (p.1 ∙ sym q.1) (omega (arith, ltb-true (length a) (length b) less)))
+        | false ↦ (λ _. prefix_refl a a refl)
+      ] refl
+
+  pub longer_second : IsPrefix b (longer a b)
+  longer_second =
+      elim (ltb (length a) (length b)) as (λ t. ltb (length a) (length b) ≡ t → IsPrefix b (cond t b a)) [
+        | true ↦ (λ _. prefix_refl b b refl)
+        | false ↦ (λ most. prefix_short b a q.0 p.0 (q.1 ∙ sym p.1) (omega (arith, ltb-false (length a) (length b) most)))
+      ] refl
 
 pub longer_is : (P : List Entry → Type 0) (a b : List Entry) → P a → P b → P (longer a b)
 longer_is P a b p q = elim (ltb (length a) (length b)) as (λ t. P (cond t b a)) [ true ↦ q | false ↦ p ]

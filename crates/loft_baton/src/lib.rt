@@ -10,4 +10,4 @@ mod rule;
 
 pub use baton::{Baton, Held, Pass};
 pub use knows::{Knows, Own, Stage};
-pub use laws::closed_histories_are_legal;
+pub use laws::{closed_histories_are_legal, joined_passes_have_seen_both};

@@ -1,10 +1,9 @@
 //! What stands first in a body: a `run` of a marked module, a loop that needn't end.
 
-ghost use Rattle.std.specs.Prelude.{◌≡◌, ◌||◌, Option, Some, None, is_some};
+ghost use Rattle.std.specs.Prelude.{is_none, ◌≡◌, ◌||◌, Option, Some, None, is_some};
 ghost use Rattle.loft_tree.specs.NamedView.{term_of, statement_of, statements_of};
 ghost use Rattle.loft_tree.specs.Resolved.{exp_of, body_of};
 ghost use Rattle.loft_budget.specs.Steps.{literal, body_steps};
-ghost use Rattle.loft_budget.specs.Bounds.{is_none};
 ghost use Rattle.loft_body.specs.Capped.{entry, TableIsSmall};
 ghost use Rattle.loft_budget.specs.Verdicts.{runs_of, runs_in, endless_if, endless_of, endless_in};
 ghost use Rattle.loft_body.specs.First.{mark_of, is_it, has_mark, first_marked, first_of};

@@ -25,7 +25,7 @@ use Rattle.loft_sense.specs.Instant.{instant, replay}
 use Rattle.loft_sense.specs.Async.{async}
 use Rattle.loft_history.specs.History.{sent_in, log, starts_of, replayed}
 use Rattle.loft_history.specs.Legal.{actor_of, AtEach, IsDeclared, IsLegal, ComesNext}
-use Rattle.loft_history.proofs.GrowthLemmas.{at_each_before}
+use Rattle.loft_history.proofs.AtEachLemmas.{at_each_before}
 use Rattle.loft_history.proofs.LegalEntries.{legal_exactly}
 use Rattle.loft_stand.specs.Numbered.{IsNumbered}
 use Rattle.loft_stand.proofs.HistoryWalk.{HistoryHolds}

@@ -1,14 +1,14 @@
 -- The steps of modules, as deep as they run others, are those of their bodies.
 use Rattle.std.proofs.Common.{◌≡◌, ℕ, zero, suc, ◌<◌, ◌≤◌, Bool, true, false, Option, Some, None, refl, sym, ap, ◌∙◌, subst, arith}
-use Rattle.std.specs.Prelude.{◌&&◌, ◌||◌, is_some, nat_le, if◌then◌else◌, slice_get}
+use Rattle.std.specs.Prelude.{is_none, ◌&&◌, ◌||◌, is_some, nat_le, if◌then◌else◌, slice_get, unwrap_or}
 use Rattle.std.proofs.lemmas.Bool.{and_parts}
 use Rattle.loft_base.specs.declared.ids.ModuleId.{ModuleId}
 use Rattle.loft_tree.specs.Resolved.{Step, Do, Hold, Call, Choose, Loop, Times, Body, Empty, Then, Resolved}
-use Rattle.loft_sense.specs.Tree.{body_or_empty, body_at}
+use Rattle.loft_sense.specs.Tree.{body_at}
 use Rattle.loft_stand.specs.Numbered.{StepNumbered, BodyNumbered, IsNumbered}
 use Rattle.loft_budget.specs.declared.steps.Steps.{Steps}
 use Rattle.loft_budget.specs.Steps.{plus, followed, either, one_more, loop_steps, literal, times_steps, steps_or_none, step_steps, body_steps}
-use Rattle.loft_budget.specs.Bounds.{is_none, step_runs_bounded, runs_bounded, step_loops_end, loops_end, or_zero, bound_of, most_bound, bounded_steps, steps_within}
+use Rattle.loft_budget.specs.Bounds.{step_runs_bounded, runs_bounded, step_loops_end, loops_end, or_zero, bound_of, most_bound, bounded_steps, steps_within}
 use Rattle.loft_budget.proofs.Sums.{AtMost}
 use Rattle.loft_budget.proofs.Order.{Within, HasWay}
 use Rattle.loft_budget.proofs.WorkSteps.{CountFine, StepFine, BodyFine, way_body}
@@ -126,7 +126,7 @@ asked_if of b v true true false e f g h = absurd cc
 asked_if of b v true false small e f g h = absurd cc
 asked_if of b v false loops small e f g h = absurd cc
 
-asked_some : (of : ModuleId → Option Steps) (o : Option Body) (v : Steps) → bounded_steps of o ≡ Some v → (b : Body) × (o ≡ Some b) × Asked of (body_or_empty o) v
+asked_some : (of : ModuleId → Option Steps) (o : Option Body) (v : Steps) → bounded_steps of o ≡ Some v → (b : Body) × (o ≡ Some b) × Asked of (unwrap_or o Empty) v
 asked_some of None v e = absurd cc
 asked_some of (Some b) v e = (b, refl, asked_if of b v _ _ _ refl refl refl e)
 
@@ -142,7 +142,7 @@ module _ (p : Resolved) where
 
   pub answered : (k : ℕ) (m : ModuleId) (b : Body) (v : Steps) → slice_get p.bodies m.0 ≡ Some b → Asked (steps_within p k) (body_at p m) v → steps_within p (suc k) m ≡ Some v
   answered k m b v at a =
-      ap (bounded_steps (steps_within p k)) at ∙ bounded_by (steps_within p k) b v (subst (λ (o : Option Body). Asked (steps_within p k) (body_or_empty o) v) at a)
+      ap (bounded_steps (steps_within p k)) at ∙ bounded_by (steps_within p k) b v (subst (λ (o : Option Body). Asked (steps_within p k) (unwrap_or o Empty) v) at a)
 
   abbrev Goes : ℕ → Type 0
   Goes k = (m : ModuleId) (v : Steps) → steps_within p k m ≡ Some v → steps_within p (suc k) m ≡ Some v

@@ -1,17 +1,17 @@
 -- A module has at most one verdict, and a bound exactly where the verdict says so.
 use Rattle.std.proofs.Common.{◌≡◌, ℕ, zero, suc, ◌+◌, ◌<◌, ◌≤◌, Bool, true, false, List, [], ◌∷◌, ◌++◌, map, Option, Some, None, slice_get, refl, sym, ap, ◌∙◌, subst, arith}
-use Rattle.std.specs.Prelude.{◌↔◌, length, ◌||◌, is_some}
+use Rattle.std.specs.Prelude.{is_none, ◌↔◌, length, ◌||◌, is_some, unwrap_or}
 use Rattle.std.specs.Option.{option_map}
 use Rattle.std.proofs.lemmas.Option.{slice_get-map}
 use Rattle.std.proofs.lemmas.Bool.{and_parts, le-leb, leb-true}
 use Rattle.loft_base.specs.declared.ids.ModuleId.{ModuleId}
 use Rattle.loft_tree.specs.Fits.{Each}
 use Rattle.loft_tree.specs.NamedTree.{NamedStatement, Assign, AssignCreate, Create, PrintText, PrintValue, Cooperate, Generate, Await, Select, Get, Join, ControlThread, Broadcast, Link, Unlink, Run, Halt, If, While, Repeat, NamedStatements, Done, Then, NamedModule, NamedProgram}
-use Rattle.loft_tree.specs.Resolved.{Body, exp_of, step_of, body_of, resolved_of}
-use Rattle.loft_sense.specs.Tree.{body_or_empty, body_at}
+use Rattle.loft_tree.specs.Resolved.{Empty, Body, exp_of, step_of, body_of, resolved_of}
+use Rattle.loft_sense.specs.Tree.{body_at}
 use Rattle.loft_budget.specs.declared.steps.Steps.{Steps}
 use Rattle.loft_budget.specs.Steps.{literal, body_steps}
-use Rattle.loft_budget.specs.Bounds.{is_none, step_runs_bounded, runs_bounded, step_loops_end, loops_end, bound_of, most_bound, steps_within, HasBound}
+use Rattle.loft_budget.specs.Bounds.{step_runs_bounded, runs_bounded, step_loops_end, loops_end, bound_of, most_bound, steps_within, HasBound}
 use Rattle.loft_budget.specs.declared.verdict.Verdict.{Verdict}
 use Rattle.loft_budget.specs.declared.verdict.Verdict.TheVariants.{Bound, Recursive, Runs, Endless, Large}
 use Rattle.loft_budget.specs.Verdicts.{RunAt, runs_of, runs_in, endless_if, endless_of, endless_in, statements_or_none, statements_at, RunsIt, Reaches, runs, on, FirstRun, IsRecursive, IsUnbounded, RunsBounded, endless_at, steps_at, IsVerdict}
@@ -66,7 +66,7 @@ first_unique P rs a b f g =
 
 -- ---- bodies with their offsets
 
-get_body : (ms : List NamedModule) (k : ℕ) → body_or_empty (slice_get (map (λ (m : NamedModule). body_of m.body) ms) k) ≡ body_of (statements_or_none (slice_get ms k))
+get_body : (ms : List NamedModule) (k : ℕ) → unwrap_or (slice_get (map (λ (m : NamedModule). body_of m.body) ms) k) Empty ≡ body_of (statements_or_none (slice_get ms k))
 get_body [] k = refl
 get_body (m ∷ ms) zero = refl
 get_body (m ∷ ms) (suc k) = get_body ms k

@@ -1,10 +1,10 @@
 -- The steps of the work that is left: each step leaves at least one fewer.
 use Rattle.std.proofs.Common.{◌≡◌, inl, inr, ℕ, zero, suc, ◌+◌, ◌*◌, ◌<◌, ◌==◌, Bool, true, false, List, [], ◌∷◌, Option, Some, None, refl, sym, subst, arith}
-use Rattle.std.specs.Prelude.{ℤ, pos, negsuc, if◌then◌else◌}
+use Rattle.std.specs.Prelude.{ℤ, pos, negsuc, if◌then◌else◌, drop}
 use Rattle.loft_base.specs.declared.ids.ModuleId.{ModuleId}
 use Rattle.loft_tree.specs.Resolved.{Exp, Number, Slot, Shared, Special, Unary, Binary, Pause, Cooperate, Await, Get, Join, Link, Unlink, Halt, Step, Do, Hold, Call, Choose, Loop, Times, Body, Empty, Then}
 use Rattle.loft_sense.specs.Run.{Next, Finish, Stuck, Acts, Advances, Tests, Counts, Holds, Runs}
-use Rattle.loft_sense.specs.Tree.{Work, Begin, Again, Turns, body_then, next_begin, next_turn, next_work, first_some, at_stop, first_count, rest_of, after_step, after_body}
+use Rattle.loft_sense.specs.Tree.{Work, Begin, Again, Turns, body_then, next_begin, next_turn, next_work, first_some, at_stop, first_count, after_step, after_body}
 use Rattle.loft_budget.specs.declared.steps.Steps.{Steps}
 use Rattle.loft_budget.specs.Steps.{only_through, followed, either, one_more, turning, turns_of, literal, times_steps, pause_steps, steps_or_none, step_steps, body_steps}
 use Rattle.loft_budget.proofs.Order.{Less, less_refl, less_trans, followed_less, one_more_less, followed_twice, nothing_first, one_first, push, either_first, either_second, last_test, begin_turns, sure_turn, turn, HasWay, way_followed, way_either, way_one_more}
@@ -217,7 +217,7 @@ module _ (of : ModuleId → Option Steps) where
     after_fine_step (Call here m arguments) k cs w f g = at_fine here k w g
     after_fine_step (Choose test x y) k cs w f g = first_fine (after_body x k cs w) (after_body y k cs w) (after_fine_body x k cs w f.0 g) (after_fine_body y k cs w f.1 g)
     after_fine_step (Loop test x) k cs w f g = after_fine_body x k cs (Again test x ∷ w) f.0 (f.0, f.1, g)
-    after_fine_step (Times count x) k cs w f g = after_fine_body x k (rest_of cs) (Turns (first_count cs) x ∷ w) f.0 (f.0, g)
+    after_fine_step (Times count x) k cs w f g = after_fine_body x k (drop 1 cs) (Turns (first_count cs) x ∷ w) f.0 (f.0, g)
 
     after_fine_body : (b : Body) (k : ℕ) (cs : List ℤ) (w : List Work) → BodyFine b → WorkFine w → IfFine (after_body b k cs w)
     after_fine_body Empty k cs w f g = tt

@@ -1,5 +1,5 @@
 -- Modules whose threads never pass a number of steps in an instant (docs/SEMANTICS.md, "Step bounds").
-use Rattle.std.specs.Prelude.{◌≡◌, ◌⊎◌, ℕ, zero, suc, ◌≤◌, nat_le, Bool, true, false, ◌&&◌, ◌||◌, List, [], ◌∷◌, Option, Some, None, is_some, max, slice_get, if◌then◌else◌}
+use Rattle.std.specs.Prelude.{◌≡◌, ◌⊎◌, ℕ, zero, suc, ◌≤◌, nat_le, Bool, true, ◌&&◌, ◌||◌, List, [], ◌∷◌, Option, Some, None, is_some, is_none, max, slice_get, if◌then◌else◌}
 use Rattle.loft_base.specs.declared.ids.ModuleId.{ModuleId}
 use Rattle.loft_tree.specs.Resolved.{Step, Call, Choose, Loop, Times, Body, Empty, Then, Resolved}
 use Rattle.loft_base.specs.declared.ids.ThreadId.{ThreadId}
@@ -15,10 +15,6 @@ use Rattle.loft_orders.specs.declared.thread.Frame.{Frame}
 use Rattle.loft_orders.specs.declared.thread.Thread.{Thread}
 use Rattle.loft_budget.specs.declared.steps.Steps.{Steps}
 use Rattle.loft_budget.specs.Steps.{plus, literal, body_steps}
-
-abbrev pub is_none : Option ℕ → Bool
-is_none None = true
-is_none (Some n) = false
 
 -- with the steps of the modules that have a bound
 module _ (of : ModuleId → Option Steps) where

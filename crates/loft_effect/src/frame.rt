@@ -1,14 +1,14 @@
 //! The values of a new frame (docs/SEMANTICS.md, "Machine").
 
-ghost use Rattle.std.specs.Prelude.{◌≡◌, IfOk, slice_get};
-ghost use Rattle.loft_sense.specs.Heads.{locals_or_none, first_value as first_value_of, first_values as first_values_of};
+ghost use Rattle.std.specs.Prelude.{◌≡◌, IfOk};
+ghost use Rattle.loft_sense.specs.Heads.{locals_of, first_value as first_value_of, first_values as first_values_of};
 
 use loft_base::{ModuleId, NoMemory, Sequence, ThreadId, Value, Values};
 use loft_tree::{Heads, Kind, SlotHead};
 
 /// The local variables of a module, none where there is no such module.
 fn locals(heads: &Heads, module: ModuleId) -> &[SlotHead]
-    ensures { result.now ≡ locals_or_none (slice_get heads.now.modules «module».0) }
+    ensures { result.now ≡ locals_of heads.now «module» }
 {
     match heads.modules.as_slice().get(module.0 as usize) {
         Some(signature) => signature.locals.as_slice(),

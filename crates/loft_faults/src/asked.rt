@@ -24,12 +24,13 @@ start A.m();
 ";
 
 /// Each command, with the contents of the file that it reads.
-pub static COMMANDS: [(&str, &[u8]); 5] = [
+pub static COMMANDS: [(&str, &[u8]); 6] = [
     ("run", TWO_PRINTS),
     ("exec", LISTING),
     ("show", TWO_PRINTS),
     ("check", TWO_PRINTS),
     ("compile", TWO_PRINTS),
+    ("bound", TWO_PRINTS),
 ];
 
 /// The words of a command that reads the file `a`.

@@ -1,5 +1,5 @@
 -- An actor's own list goes on exactly by its next entry.
-use Rattle.std.proofs.Common.{◌≡◌, ℕ, ◌==◌, ◌≤◌, ◌<◌, Bool, true, false, ◌||◌, List, [], ◌∷◌, ◌++◌, length, refl, sym, ◌∙◌, ap, subst, append_assoc}
+use Rattle.std.proofs.Common.{◌≡◌, ℕ, ◌==◌, ◌≤◌, ◌<◌, Bool, true, false, ◌||◌, List, [], ◌∷◌, ◌++◌, length, refl, sym, ◌∙◌, ap, subst}
 use Rattle.std.specs.Prelude.{◌↔◌, ◌&&◌, not, nat_lt, drop, if◌then◌else◌, IsTrue, All}
 use Rattle.std.specs.List.{AllByRecursion}
 use Rattle.std.proofs.lemmas.Bool.{ltb-true, ltb-false}
@@ -19,37 +19,9 @@ use Rattle.loft_sense.specs.Instant.{Replayed}
 use Rattle.loft_sense.specs.Async.{async}
 use Rattle.loft_history.specs.Clients.{made_by, outside_of}
 use Rattle.loft_history.specs.History.{in_instant, is_open, unposted_after, unposted, unsent_after, unsent, has_turn, sent_last}
-use Rattle.loft_history.specs.Legal.{actor_of, same_actor, of, AtEach, IsFirst, TakeTurns, IsDue, Works, Gives, IsCallersOrder, FitsOne, IsCall, Calls, IsFaithful, IsNextOf}
+use Rattle.loft_history.specs.Legal.{actor_of, same_actor, of, IsFirst, TakeTurns, IsDue, Works, Gives, IsCallersOrder, FitsOne, IsCall, Calls, IsFaithful, IsNextOf}
+use Rattle.loft_history.proofs.AtEachLemmas.{at_each-append, at_each_before}
 use Rattle.loft_history.proofs.OwnLemmas.{replayed_own, creates_own}
-
--- ---- lists of entries
-
-same_head : {a b : Entry} {xs ys : List Entry} → a ∷ xs ≡ b ∷ ys → a ≡ b
-same_head e = cc
-
-same_rest : {a b : Entry} {xs ys : List Entry} → a ∷ xs ≡ b ∷ ys → xs ≡ ys
-same_rest e = cc
-
-none_inside : {Q : Type 0} (before : List Entry) (e : Entry) (after : List Entry) → [] ≡ before ++ e ∷ after → Q
-none_inside [] e after q = cc
-none_inside (b ∷ before) e after q = cc
-
--- what holds at each entry holds so after one more entry, where it holds at that
-pub at_each-append : (P : List Entry → Entry → Type 0) (h : List Entry) (e : Entry) → AtEach P h → P h e → AtEach P (h ++ e ∷ [])
-at_each-append P [] e each now [] f after q = subst (P []) (same_head q) now
-at_each-append P [] e each now (b ∷ before) f after q = none_inside before f after (same_rest q)
-at_each-append P (d ∷ h) e each now [] f after q = subst (P []) (same_head q) (each [] d h refl)
-at_each-append P (d ∷ h) e each now (b ∷ before) f after q =
-    subst (λ (c : Entry). P (c ∷ before) f) (same_head q)
-    (at_each-append (λ (l : List Entry). P (d ∷ l)) h e (λ l g k r. each (d ∷ l) g k (ap (λ (m : List Entry). d ∷ m) r)) now before f after (same_rest q))
-
--- nothing holds of no entry
-pub at_each_none : (P : List Entry → Entry → Type 0) → AtEach P []
-at_each_none P before e after q = none_inside before e after q
-
--- what holds at each entry does so in a prefix of the history
-pub at_each_before : (P : List Entry → Entry → Type 0) (before after : List Entry) → AtEach P (before ++ after) → AtEach P before
-at_each_before P before after each b e a same = each b e (a ++ after) (ap (λ (l : List Entry). l ++ after) same ∙ append_assoc b (e ∷ a) after)
 
 -- ---- a scheduler's list
 

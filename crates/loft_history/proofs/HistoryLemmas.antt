@@ -3,6 +3,7 @@ use Rattle.std.proofs.Common.{◌≡◌, ℕ, Bool, true, false, List, [], ◌�
 use Rattle.std.proofs.lemmas.List.{map-append}
 use Rattle.std.proofs.lemmas.List.Folds.{fold_stays}
 use Rattle.std.specs.Prelude.{◌↔◌, if◌then◌else◌, not, ◌&&◌, nat_lt, IsTrue, ◌<◌, ◌≤◌, ◌==◌, drop}
+use Rattle.std.specs.Option.{option_map_or}
 use Rattle.std.proofs.lemmas.Bool.{eqb-true, lt-ltb, ltb-true, ltb-false}
 use Rattle.std.proofs.lemmas.Option.{slice_get_past}
 use Rattle.loft_base.specs.declared.ids.SchedId.{SchedId}
@@ -16,7 +17,7 @@ use Rattle.loft_orders.specs.declared.note.InstantNote.{InstantNote}
 use Rattle.loft_base.specs.declared.options.RunOptions.{RunOptions}
 use Rattle.loft_sense.specs.Heads.{same_scheduler}
 use Rattle.loft_sense.specs.Machine.{Prog, heads}
-use Rattle.loft_history.specs.Clients.{orders_from, orders_or_none, outside_of}
+use Rattle.loft_history.specs.Clients.{orders_from, outside_of}
 use Rattle.loft_history.specs.History.{Choice, TakeBy, GiveBy, PickBy, PostBy, ClientBy, choice_of, log, is_open, jobs, unposted, unsent_step, unsent_after, unsent, has_turn, entry_of_first, pick_of, entry_of, with_entry, waiting, replayed, sent_last, hist_on, hist, HasEnded}
 
 -- a scheduler is itself
@@ -148,7 +149,7 @@ unsent_stays c (Client d sent) = still_none (c == d)
     still_none false = refl
 
 outside_none : (h : Heads) (c : ℕ) → length h.clients ≤ c → outside_of h c ≡ []
-outside_none h c beyond = ap (λ (d : Option ClientHead). orders_from h c 0 (orders_or_none d)) (slice_get_past h.clients c beyond)
+outside_none h c beyond = ap (λ (d : Option ClientHead). orders_from h c 0 (option_map_or (λ d. d.orders) d [])) (slice_get_past h.clients c beyond)
 
 pub unsent_none : (h : Heads) (c : ℕ) (es : List Entry) → length h.clients ≤ c → unsent h c es ≡ []
 unsent_none h c es beyond = ap (λ (left : List Sent). unsent_after c left es) (outside_none h c beyond) ∙ fold_stays (unsent_step c) [] (unsent_stays c) es

@@ -13,7 +13,8 @@ use Rattle.loft_base.specs.declared.options.RunOptions.{RunOptions}
 use Rattle.loft_sense.specs.Machine.{Prog, heads}
 use Rattle.loft_history.specs.History.{Choice, TakeBy, GiveBy, PickBy, PostBy, ClientBy, choice_of, is_open, waiting, jobs, unposted, unsent, replayed, has_turn, sent_last, entry_of_first, pick_of, entry_of, hist_on, hist}
 use Rattle.loft_history.specs.Legal.{actor_of, same_actor, of, IsFirst, TakesDue, IsFaithful, IsDeclared, IsLegal, IsNoCaller, HasNoCallers, IsCallersEntry, ComesNext, IsNextOf}
-use Rattle.loft_history.proofs.GrowthLemmas.{at_each-append, at_each_none, grows}
+use Rattle.loft_history.proofs.AtEachLemmas.{at_each-append, at_each_none}
+use Rattle.loft_history.proofs.GrowthLemmas.{grows}
 use Rattle.loft_history.proofs.HistoryLemmas.{is_same, same_self, from_first, same_history, on_if, on_first, on_pick, choice_kept, unsent_none}
 
 -- ---- one more entry

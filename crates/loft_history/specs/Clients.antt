@@ -1,13 +1,12 @@
 -- The orders of a program's clients, as they are sent (docs/SEMANTICS.md, "History").
-use Rattle.std.specs.Prelude.{ℕ, ◌+◌, List, [], ◌∷◌, Option, Some, None, slice_get}
+use Rattle.std.specs.Prelude.{ℕ, ◌+◌, List, [], ◌∷◌, slice_get}
+use Rattle.std.specs.Option.{option_map_or}
 use Rattle.loft_base.specs.declared.ids.Maker.TheVariants as maker
 use Rattle.loft_base.specs.declared.ids.ThreadId.{ThreadId}
 use Rattle.loft_tree.specs.declared.heads.ClientOrder.{ClientOrder}
 use Rattle.loft_tree.specs.declared.heads.ClientOrder.TheVariants as client
-use Rattle.loft_tree.specs.declared.heads.Client.{Client}
 use Rattle.loft_tree.specs.declared.heads.Heads.{Heads}
 use Rattle.loft_sense.specs.Statements.{order_of}
-use Rattle.loft_orders.specs.declared.order.Order.{Order}
 use Rattle.loft_orders.specs.declared.order.Order.TheVariants as order
 use Rattle.loft_orders.specs.declared.order.To.TheVariants.{Sched}
 use Rattle.loft_orders.specs.declared.order.Sent.{Sent}
@@ -24,10 +23,10 @@ orders_from h c k (client.Create s m arguments ∷ os) = record { to = Sched s; 
 orders_from h c k (client.Control control t s ∷ os) = record { to = Sched s; order = order_of control t } ∷ orders_from h c k os
 orders_from h c k (client.Broadcast e value ∷ os) = record { to = Sched (home h e); order = order.Broadcast e value } ∷ orders_from h c k os
 
-abbrev pub orders_or_none : Option Client → List ClientOrder
-orders_or_none None = []
-orders_or_none (Some c) = c.orders
+-- a client's orders as the source has them, none if it has no such client
+abbrev pub orders_of : Heads → ℕ → List ClientOrder
+orders_of h c = option_map_or (λ d. d.orders) (slice_get h.clients c) []
 
 -- all that a client of the source sends, in the order of the text
 abbrev pub outside_of : Heads → ℕ → List Sent
-outside_of h c = orders_from h c 0 (orders_or_none (slice_get h.clients c))
+outside_of h c = orders_from h c 0 (orders_of h c)

@@ -10,7 +10,8 @@ use Rattle.loft_sense.specs.Around.{Around}
 use Rattle.loft_sense.specs.Passes.{Runner, Walk, passes}
 use Rattle.loft_sense.specs.Rest.{is_spent}
 use Rattle.loft_sense.specs.Instant.{instant}
-use Rattle.loft_sense.proofs.AroundLemmas.{applied_events, instant_creates, instant_number, passes_follow}
+use Rattle.loft_sense.proofs.InstantLemmas.{applied_events, instant_creates, instant_number}
+use Rattle.loft_sense.proofs.AroundLemmas.{passes_follow}
 use Rattle.loft_sense.proofs.TallyLemmas.{unspent_number}
 use Rattle.loft_instant.specs.declared.instant.State.{State}
 use Rattle.loft_instant.specs.States.{machine_with, machine_of, IsReady}

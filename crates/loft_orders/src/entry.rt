@@ -1,6 +1,7 @@
 //! The entries of a history, and who makes them (docs/SEMANTICS.md, "History").
 
-use crate::order::{Orders, Sent, Sents};
+use crate::note::BoxedSent;
+use crate::order::{Orders, Sents};
 use crate::shared_thread::SharedThread;
 use loft_base::SchedId;
 
@@ -22,7 +23,7 @@ pub enum Entry {
     /// A worker takes the unlinked thread that has waited longest.
     Pick { w: u32, job: SharedThread },
     /// One order of a worker is accepted.
-    Post { w: u32, sent: Sent },
+    Post { w: u32, sent: BoxedSent },
     /// One order of a client is accepted.
-    Client { c: u32, sent: Sent },
+    Client { c: u32, sent: BoxedSent },
 }

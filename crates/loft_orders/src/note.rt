@@ -5,7 +5,7 @@ ghost use Rattle.std.specs.Prelude.{◌≡◌, IfOk};
 use crate::line::Line;
 use crate::order::{End, Marks, Sent, Sents};
 use crate::thread::{Thread, Threads};
-use loft_base::{EventId, NoMemory, Sequence, SharedId, ThreadId};
+use loft_base::{EventId, NoMemory, Sequence, SharedId, ThreadId, TryClone};
 use std::alloc::Global;
 use std::marker::Model;
 
@@ -24,8 +24,8 @@ pub type Standings = Sequence<Standing>;
 /// The values of shared variables.
 pub type Numbers = Sequence<i64>;
 
-/// An order and its address, in memory of their own: so acts are small, of which most send nothing.
-/// Contracts see what is sent.
+/// An order and its address, in memory of their own: so acts and entries are small, of which most
+/// send nothing or hold a list. Contracts see what is sent.
 #[derive(Drop)]
 pub struct BoxedSent {
     sent: Box<Sent>,
@@ -46,6 +46,13 @@ impl BoxedSent {
     {
         let sent = Box::new(alloc, sent)?;
         Ok(BoxedSent { sent })
+    }
+
+    /// A copy of what is sent, in memory of its own. `NoMemory` comes where there is none.
+    pub fn copy_of(alloc: Global, sent: &Sent) -> Result<BoxedSent, NoMemory>
+        ensures { IfOk result (λ boxed. boxed ≡ sent.now) }
+    {
+        BoxedSent::new(alloc, sent.try_clone(alloc)?)
     }
 
     /// What is sent.

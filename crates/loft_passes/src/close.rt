@@ -137,8 +137,8 @@ pub fn close_all(
         ≡ map closed_thread (filter has_run (filter stays (runners_of runners.old.items)))) }
     ensures sent { OnOk result (sent.new ≡ sent.old ++ leavers_of (runners_of runners.old.items)) }
 {
-    let mut stands = Sequence::new(alloc);
-    stands.reserve(count_ran(runners.as_slice()))?;
+    let room = Vec::with_capacity(alloc, count_ran(runners.as_slice()))?;
+    let mut stands = Sequence::from_vec(room);
     let mut leavers = Leavers::with_capacity(alloc, count_leavers(runners.as_slice()))?;
     close_each(alloc, runners, &mut stands, &mut leavers)?;
     keep_held(runners);

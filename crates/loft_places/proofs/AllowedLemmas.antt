@@ -1,6 +1,6 @@
 -- What is known of a legal history, and what of an entry that comes next.
 use Rattle.std.proofs.Common.{◌≡◌, ◌==◌, ◌⊎◌, inl, inr, ℕ, zero, suc, ◌+◌, ◌<◌, Bool, true, false, List, [], ◌∷◌, ◌++◌, length, Some, refl, sym, ap, ◌∙◌, subst, append-nil}
-use Rattle.std.specs.Prelude.{All, slice_get, ◌&&◌, not, nat_lt, drop, if◌then◌else◌}
+use Rattle.std.specs.Prelude.{All, ◌&&◌, not, nat_lt, drop, if◌then◌else◌}
 use Rattle.std.proofs.lemmas.Bool.{and_parts, ltb-true, eqb-true}
 use Rattle.std.proofs.lemmas.List.Sums.{fold-append}
 use Rattle.loft_base.specs.declared.ids.SchedId.{SchedId}
@@ -26,7 +26,7 @@ use Rattle.loft_sense.specs.Fits.{Fits}
 use Rattle.loft_sense.specs.Instant.{instant, Replayed, one_more, replay_on, replay}
 use Rattle.loft_sense.specs.Async.{async}
 use Rattle.loft_sense.specs.Statements.{order_of}
-use Rattle.loft_history.specs.Clients.{made_by, orders_from, orders_or_none, outside_of}
+use Rattle.loft_history.specs.Clients.{made_by, orders_from, outside_of, orders_of}
 use Rattle.loft_history.specs.History.{log, is_open, waiting, jobs, ends_block, unposted_after, unposted, unsent_after, unsent, is_create, creates_after, creates, replayed, has_turn, sent_last, entry_of_first, pick_of, creates_step, unposted_step, unsent_step}
 use Rattle.loft_history.specs.Legal.{of, IsCallersOrder, FitsOne, IsLegal, ComesNext}
 use Rattle.loft_sense.proofs.ReplayLemmas.{replay_on-append}
@@ -371,7 +371,7 @@ module _ (x : Prog) (well : IsWellFormed x) (o : RunOptions) where
     fits = starts_wait x well o;
     logs = λ s. refl;
     benches = λ w. inl (refl, refl);
-    numbers = λ c. (orders_or_none (slice_get (heads x).clients c), refl);
+    numbers = λ c. (orders_of (heads x) c, refl);
   }
 
   -- ---- all histories

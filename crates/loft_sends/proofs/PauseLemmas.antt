@@ -12,7 +12,7 @@ use Rattle.loft_tree.specs.Fits.{Each}
 use Rattle.loft_tree.specs.NamedTree as tree
 use Rattle.loft_tree.specs.NamedTree.{NamedStatement, NamedStatements, NamedModule, NamedProgram}
 use Rattle.loft_tree.specs.NamedFits.{BodiesHold, NamedFits}
-use Rattle.loft_tree.specs.Resolved.{Pause, Cooperate, Await, Get, Join, Link, Unlink, Halt, Resolved, step_of, body_of, resolved_of}
+use Rattle.loft_tree.specs.Resolved.{Empty, Pause, Cooperate, Await, Get, Join, Link, Unlink, Halt, Resolved, step_of, body_of, resolved_of}
 use Rattle.loft_place.specs.Links as links
 use Rattle.loft_place.specs.Links.{GoesThrough, Goes, IsPlaced}
 use Rattle.loft_place.proofs.Declared.{module_goes}
@@ -23,7 +23,7 @@ use Rattle.loft_code.specs.Leads.{IsModule as IsCodeModule, IsReached, Passes}
 use Rattle.loft_code.proofs.Leading.{valid_passes, leads_on}
 use Rattle.loft_sense.specs.Machine.{Prog, Tree, Code, heads}
 use Rattle.loft_sense.specs.Code.{lines_at, stop_from}
-use Rattle.loft_sense.specs.Tree.{body_or_empty, body_at, first_some}
+use Rattle.loft_sense.specs.Tree.{body_at, first_some}
 use Rattle.loft_sense.specs.Stands.{StopKind, Begins, Pauses, Calls, StopAt, begin_of, begin_or_unlinked, end_or_unlinked, leads_step, leads, stop_in_step, stop_in, tree_stop, kind_of, stop_before, stop_at_line, code_stop, program_stop}
 use Rattle.loft_stand.specs.WellFormed.{IsWellFormed, IsValidCode}
 use Rattle.loft_stand.proofs.ListLemmas.{within_some}
@@ -126,7 +126,7 @@ module _ (h : Heads) where
 
 -- the body of a module that is declared
 module_body : (h : Heads) (ms : List Signature) (xs : List NamedModule) (k : ℕ) (head : Signature) → BodiesHold h ms xs → slice_get ms k ≡ Some head
-    → (x : NamedModule) × (slice_get xs k ≡ Some x) × (body_or_empty (slice_get (map (λ m. body_of m.body) xs) k) ≡ body_of x.body)
+    → (x : NamedModule) × (slice_get xs k ≡ Some x) × (unwrap_or (slice_get (map (λ m. body_of m.body) xs) k) Empty ≡ body_of x.body)
 module_body h [] [] k head hold at = absurd cc
 module_body h [] (x ∷ xs) k head hold at = absurd hold
 module_body h (m ∷ ms) [] k head hold at = absurd hold

@@ -1,19 +1,16 @@
 -- What a run of a thread leaves around it follows on what it found.
-use Rattle.std.proofs.Common.{◌≡◌, ℕ, zero, suc, ◌+◌, ◌≤◌, Bool, true, false, List, [], ◌∷◌, ◌++◌, Option, Some, None, length, map, refl, sym, subst, ap, ◌∙◌, arith, zero-add}
+use Rattle.std.proofs.Common.{◌≡◌, ℕ, zero, suc, ◌+◌, ◌≤◌, Bool, true, false, List, [], ◌∷◌, ◌++◌, Option, Some, None, length, refl, sym, subst, ap, ◌∙◌, arith, zero-add}
 use Rattle.std.specs.Prelude.{ℤ, pos, int_le, ◌<ℤ◌, if◌then◌else◌, nat_lt, slice_set}
 use Rattle.std.specs.List.{count_by}
 use Rattle.std.proofs.lemmas.List.Sums.{sum_by-append}
-use Rattle.std.proofs.lemmas.List.{append-nil, length-set, length-replicate}
+use Rattle.std.proofs.lemmas.List.{append-nil, length-set}
 use Rattle.std.proofs.lemmas.Grind.{common_steps}
 use Rattle.loft_base.specs.declared.ids.EventId.{EventId}
 use Rattle.loft_base.specs.declared.ids.ModuleId.{ModuleId}
-use Rattle.loft_base.specs.declared.ids.SchedId.{SchedId}
 use Rattle.loft_base.specs.declared.ids.ThreadId.{ThreadId}
 use Rattle.loft_base.specs.declared.ids.Value.{Value}
-use Rattle.loft_board.specs.Board.{values as event_values, generate, generate_all}
+use Rattle.loft_board.specs.Board.{values as event_values, generate}
 use Rattle.loft_tree.specs.declared.heads.Heads.{Heads}
-use Rattle.loft_tree.specs.declared.heads.Place.{Place}
-use Rattle.loft_tree.specs.declared.heads.Place.TheVariants.{Sched}
 use Rattle.loft_tree.specs.Resolved.{Target, ToSlot, ToShared, Action, Assign, Make, PrintText, PrintValue, Generate, ControlThread, Broadcast, Pause, Cooperate, Await, Get, Join, Link, Unlink, Halt}
 use Rattle.loft_orders.specs.declared.thread.Thread.{Thread}
 use Rattle.loft_orders.specs.declared.thread.Wait.{Wait}
@@ -23,16 +20,14 @@ use Rattle.loft_orders.specs.declared.note.Act.TheVariants as act
 use Rattle.loft_orders.specs.declared.order.At.{At}
 use Rattle.loft_orders.specs.declared.order.End.{End}
 use Rattle.loft_orders.specs.declared.order.End.TheVariants.{Over, Flood}
-use Rattle.loft_sense.specs.declared.limits.TheConstants.{MAX_FRAMES, MAX_ENTRIES, MAX_LINKED}
-use Rattle.loft_base.specs.declared.options.Limits.{Limits}
-use Rattle.loft_orders.specs.declared.order.Order.{Order}
+use Rattle.loft_sense.specs.declared.limits.TheConstants.{MAX_FRAMES}
 use Rattle.loft_orders.specs.declared.order.Order.TheVariants as order
-use Rattle.loft_sense.specs.Machine.{Prog, Tree, Code, Mach, heads}
+use Rattle.loft_sense.specs.Machine.{Prog, Tree, Code, heads}
 use Rattle.loft_sense.specs.Around.{Around, Beside, with_act, entered}
 use Rattle.loft_sense.specs.Eval.{eval, eval_all, eval_if, number_of, number_if, thread_or}
 use Rattle.loft_sense.specs.CanGo.{has_any, is_index, is_known}
 use Rattle.loft_sense.specs.Statements.{Effect, GoesOn, Waits, Leaves, Dies, Now, if_value, goes_on, most_entries, code_ok, one_made, is_up, hold, set_if, with_code, target_of, did, begun, answered}
-use Rattle.loft_sense.specs.LawWords.{is_entry, generated_in, ended_in, Tells, instant_walk}
+use Rattle.loft_sense.specs.LawWords.{is_entry, Tells}
 use Rattle.loft_sense.specs.WaitCodes.{IsPending}
 use Rattle.loft_sense.specs.Run.{Next, Finish, Stuck, Acts, Advances, Tests, Counts, Holds, Runs, Control, Active, Outcome, Held, Left, Ended, ends, live, effect_on, test_on, count_on, run_on, begun_frame, stopped, step, step_on, no_step, going, go_on, go, here, beside, actives_of}
 use Rattle.loft_sense.specs.Tree.{tree}
@@ -41,9 +36,6 @@ use Rattle.loft_sense.specs.Passes.{Runner, run_of, around_after, pass, passes}
 use Rattle.loft_sense.specs.Moments.{Moment, IsKeptByRuns}
 use Rattle.loft_sense.proofs.MomentLemmas.{kept_by_pass, kept_by_passes}
 use Rattle.loft_sense.proofs.TellLemmas.{told_twice, told_nothing, IsQuiet, told_quiet}
-use Rattle.loft_sense.specs.Apply.{Applied, is_linked, apply_order, apply_orders, unapplied, apply}
-use Rattle.loft_sense.specs.Tally.{tally_after}
-use Rattle.loft_sense.specs.Instant.{runner_of, around_of, instant}
 
 -- what b is after some statements that found a
 pub record Follows (a b : Around) : Type 0 where
@@ -337,77 +329,3 @@ pass_follows x rs around = kept_by_pass x (FollowsOn around) (follows_on x aroun
 
 pub passes_follow : (x : Prog) (rs : List Runner) (around : Around) → Follows around (passes x rs around).around
 passes_follow x rs around = kept_by_passes x (FollowsOn around) (follows_on x around) rs around (same around)
-
--- ---- instants
-
-applied_chosen : (n : ℕ) (b : Bool) (v w : Applied) → length v.board ≡ n → length w.board ≡ n → length (if b then v else w).board ≡ n
-applied_chosen n true v w p q = p
-applied_chosen n false v w p q = q
-
-applied_order : (h : Heads) (s : SchedId) (a : Applied) (o : Order) → length (apply_order h s a o).board ≡ length a.board
-applied_order h s a (order.Create t m args) = applied_chosen (length a.board) (nat_lt (length a.linked) MAX_LINKED) _ _ refl refl
-applied_order h s a (order.Arrive t) = refl
-applied_order h s a (order.Stop t) = applied_chosen (length a.board) (is_linked t a.linked) _ _ refl refl
-applied_order h s a (order.Suspend t) = applied_chosen (length a.board) (is_linked t a.linked) _ _ refl refl
-applied_order h s a (order.Resume t) = applied_chosen (length a.board) (is_linked t a.linked) _ _ refl refl
-applied_order h s a (order.Broadcast event value) = length-set a.board event.0 _
-applied_order h s a (order.Ended t end) = refl
-
-applied_orders : (h : Heads) (s : SchedId) (a : Applied) (os : List Order) → length (apply_orders h s a os).board ≡ length a.board
-applied_orders h s a [] = refl
-applied_orders h s a (o ∷ os) = applied_orders h s (apply_order h s a o) os ∙ applied_order h s a o
-
--- a batch keeps the number of events
-pub applied_events : (x : Prog) (m : Mach) (batch : List Order) → length (apply x m batch).board ≡ length (heads x).events
-applied_events x m batch = applied_orders (heads x) m.s (unapplied (heads x) m) batch ∙ length-replicate (length (heads x).events) None
-
-instant_follows : (x : Prog) (limits : Limits) (m : Mach) (batch : List Order) → Follows (around_of m (apply x m batch)) (instant_walk x limits m batch).around
-instant_follows x limits m batch = let a = apply x m batch in passes_follow x (map (runner_of limits.budget) a.linked) (around_of m a)
-
--- the acts of an instant tell its board, from that of its batch
-pub instant_board : (x : Prog) (limits : Limits) (m : Mach) (batch : List Order) → (instant_walk x limits m batch).around.board ≡ generate_all (generated_in (instant x limits m batch).note.acts) (apply x m batch).board
-unfolding instant
-instant_board x limits m batch =
-    let p = (instant_follows x limits m batch).tells in
-    p.board ∙ ap (λ (acts : List Act). generate_all (generated_in acts) (apply x m batch).board) (sym p.acts)
-
--- and the threads known after it
-pub instant_known : (x : Prog) (limits : Limits) (m : Mach) (batch : List Order) → (instant x limits m batch).machine.known ≡ (apply x m batch).known ++ ended_in (instant x limits m batch).note.acts
-unfolding instant
-instant_known x limits m batch =
-    let p = (instant_follows x limits m batch).tells in
-    p.known ∙ ap (λ (acts : List Act). (apply x m batch).known ++ ended_in acts) (sym p.acts)
-
-few_at : (s : SchedId) (a : Around) → a.place ≡ Sched s → a.entries ≤ most_entries a.place → a.entries ≤ MAX_ENTRIES
-few_at s a e h = subst (λ (p : Place). a.entries ≤ most_entries p) e h
-
-few_entries : (x : Prog) (limits : Limits) (m : Mach) (batch : List Order) → (instant_walk x limits m batch).around.entries ≤ MAX_ENTRIES
-few_entries x limits m batch =
-    let p = instant_follows x limits m batch in
-    few_at m.s (instant_walk x limits m batch).around p.place (p.few (omega arith))
-
-pub instant_entries : (x : Prog) (limits : Limits) (m : Mach) (batch : List Order) → count_by is_entry (instant x limits m batch).note.acts ≤ MAX_ENTRIES
-unfolding instant
-instant_entries x limits m batch =
-    let e = (instant_follows x limits m batch).acts in
-    let f = few_entries x limits m batch in
-    omega (arith, e, f)
-
-pub instant_creates : (x : Prog) (limits : Limits) (m : Mach) (batch : List Order) → (instant x limits m batch).machine.made ≤ m.made + MAX_ENTRIES
-unfolding instant
-instant_creates x limits m batch =
-    let e = (instant_follows x limits m batch).made in
-    let f = few_entries x limits m batch in
-    omega (arith, e, f)
-
-pub instant_shared : (x : Prog) (limits : Limits) (m : Mach) (batch : List Order) → length (instant x limits m batch).machine.shared ≡ length m.shared
-unfolding instant
-instant_shared x limits m batch = (instant_follows x limits m batch).shared
-
-pub instant_number : (x : Prog) (limits : Limits) (m : Mach) (batch : List Order) → (instant x limits m batch).machine.tally.number ≡ m.tally.number + 1
-unfolding instant tally_after
-instant_number x limits m batch = refl
-
-pub instant_scheduler : (x : Prog) (limits : Limits) (m : Mach) (batch : List Order) → (instant x limits m batch).machine.s ≡ m.s
-unfolding instant
-instant_scheduler x limits m batch = refl

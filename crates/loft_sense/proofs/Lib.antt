@@ -2,6 +2,7 @@ pub mod StepLemmas
 pub mod MomentLemmas
 pub mod TellLemmas
 pub mod AroundLemmas
+pub mod InstantLemmas
 pub mod PassLemmas
 pub mod RunnerLemmas
 pub mod EventLemmas

@@ -1,5 +1,5 @@
 -- Where a thread goes on in a source tree: by the list of the work that is left in a module (docs/SEMANTICS.md, "Tree").
-use Rattle.std.specs.Prelude.{ℕ, zero, suc, ℤ, pos, negsuc, List, [], ◌∷◌, reverse, Option, Some, None, if◌then◌else◌, ◌==◌, slice_get}
+use Rattle.std.specs.Prelude.{ℕ, zero, suc, ℤ, pos, negsuc, List, [], ◌∷◌, drop, reverse, Option, Some, None, unwrap_or, if◌then◌else◌, ◌==◌, slice_get}
 use Rattle.loft_base.specs.declared.ids.ModuleId.{ModuleId}
 use Rattle.loft_tree.specs.Resolved.{Exp, Pause, Step, Do, Hold, Call, Choose, Loop, Times, Body, Empty, Then, Resolved}
 use Rattle.loft_sense.specs.Run.{Next, Finish, Acts, Advances, Tests, Counts, Holds, Runs, Control}
@@ -60,10 +60,6 @@ abbrev pub first_count : List ℤ → ℤ
 first_count [] = pos 0
 first_count (n ∷ ns) = n
 
-abbrev pub rest_of : List ℤ → List ℤ
-rest_of [] = []
-rest_of (n ∷ ns) = ns
-
 -- What is left once stop k has ended, where w is left after the statement or the body and these are the counts in it, from
 -- the outside in: the rest of its own body, then outwards the rest after each `if`, the next test or turn of each loop and
 -- the rest after that.
@@ -74,7 +70,7 @@ abbrev mutual
   after_step (Call here m arguments) k counts w = at_stop here k w
   after_step (Choose test first second) k counts w = first_some (after_body first k counts w) (after_body second k counts w)
   after_step (Loop test body) k counts w = after_body body k counts (Again test body ∷ w)
-  after_step (Times count body) k counts w = after_body body k (rest_of counts) (Turns (first_count counts) body ∷ w)
+  after_step (Times count body) k counts w = after_body body k (drop 1 counts) (Turns (first_count counts) body ∷ w)
 
   pub after_body : Body → ℕ → List ℤ → List Work → Option (List Work)
   after_body Empty k counts w = None
@@ -101,21 +97,13 @@ pause_of_step s = None
 
 -- ---- the control of trees
 
--- the body of a module, and an empty one where there is none
-abbrev pub body_or_empty : Option Body → Body
-body_or_empty None = Empty
-body_or_empty (Some b) = b
-
+-- the body of a module, an empty one if there is no such module
 abbrev pub body_at : Resolved → ModuleId → Body
-body_at p m = body_or_empty (slice_get p.bodies m.0)
-
-abbrev pub work_or_none : Option (List Work) → List Work
-work_or_none None = []
-work_or_none (Some w) = w
+body_at p m = unwrap_or (slice_get p.bodies m.0) Empty
 
 -- the work that is left in a module once stop k has ended
 abbrev pub after : Resolved → ModuleId → ℕ → List ℤ → List Work
-after p m k counts = work_or_none (after_body (body_at p m) k counts [])
+after p m k counts = unwrap_or (after_body (body_at p m) k counts []) []
 
 -- what stop k of a module waits for; the begin, which counts as stop 0, waits for nothing
 abbrev pub pause_at : Resolved → ModuleId → ℕ → Option Pause

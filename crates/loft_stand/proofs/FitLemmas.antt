@@ -1,5 +1,5 @@
 -- The bodies of a placed program whose names are correct fit.
-use Rattle.std.proofs.Common.{◌≡◌, ℕ, zero, suc, ◌<◌, Bool, true, false, List, [], ◌∷◌, ◌++◌, map, length, Option, Some, None, slice_get, refl, sym, ap, ◌∙◌, subst}
+use Rattle.std.proofs.Common.{◌≡◌, ℕ, zero, suc, ◌<◌, Bool, true, false, List, [], ◌∷◌, ◌++◌, map, length, Option, Some, None, slice_get, refl, sym, ap, ◌∙◌, subst, unwrap_or}
 use Rattle.loft_base.specs.declared.ids.SharedId.{SharedId}
 use Rattle.loft_base.specs.declared.ids.ModuleId.{ModuleId}
 use Rattle.loft_tree.specs.declared.kinds.Kind.{Kind}
@@ -17,11 +17,11 @@ use Rattle.loft_tree.specs.NamedTree as tree
 use Rattle.loft_tree.specs.NamedTree.{EventUse, NamedExpression, NamedCreation, NamedStatement, NamedStatements, NamedModule, NamedProgram}
 use Rattle.loft_tree.specs.NamedFits as named
 use Rattle.loft_tree.specs.NamedFits.{OperandsAgree, BodyHolds, BodiesHold, NamedFits, StatementHolds, StatementsHold, slots_of}
-use Rattle.loft_tree.specs.Resolved.{Body, exp_of, exp_if, exps_of, target_of, events_of, step_of, body_of, resolved_of}
+use Rattle.loft_tree.specs.Resolved.{Empty, Body, exp_of, exp_if, exps_of, target_of, events_of, step_of, body_of, resolved_of}
 use Rattle.loft_place.specs.Links as links
 use Rattle.loft_place.specs.Links.{Need, IsThere, IsMet, AreMet, term_needs, terms_needs, value_needs, target_needs, event_need, events_needs, shared_home, GoesThrough, Goes, IsPlaced}
 use Rattle.loft_place.proofs.Declared.{module_goes}
-use Rattle.loft_sense.specs.Tree.{body_or_empty, body_at}
+use Rattle.loft_sense.specs.Tree.{body_at}
 use Rattle.loft_sense.specs.Stands.{begin_of, begin_or_unlinked, end_or_unlinked, leads_step, leads}
 use Rattle.loft_stand.proofs.ListLemmas.{within_some}
 use Rattle.loft_stand.specs.WorkFits.{IsShared, IsEvent, HasKind, IsInt, IsValue, TargetHasKind, ArgumentsFit, CallFits, StepFits, BodyFits}
@@ -210,7 +210,7 @@ module _ (h : Heads) (slots : List Kind) where
 
 -- the body of a module that is declared
 module_body : (h : Heads) (ms : List Signature) (xs : List NamedModule) (k : ℕ) (head : Signature) → BodiesHold h ms xs → slice_get ms k ≡ Some head
-    → (x : NamedModule) × (slice_get xs k ≡ Some x) × BodyHolds h head x.body × (body_or_empty (slice_get (map (λ m. body_of m.body) xs) k) ≡ body_of x.body)
+    → (x : NamedModule) × (slice_get xs k ≡ Some x) × BodyHolds h head x.body × (unwrap_or (slice_get (map (λ m. body_of m.body) xs) k) Empty ≡ body_of x.body)
 module_body h [] [] k head hold at = absurd cc
 module_body h [] (x ∷ xs) k head hold at = absurd hold
 module_body h (m ∷ ms) [] k head hold at = absurd hold

@@ -30,7 +30,7 @@ use Rattle.loft_history.specs.Legal.{AtEach, IsCallersOrder, FitsOne, IsLegal, I
 use Rattle.loft_orders.specs.Lines.{text_of}
 use Rattle.loft_history.specs.Report.{head_lines, block_lines, scheduler_lines, left_line, schedulers_from, left_part, report_lines, report}
 use Rattle.loft_history.proofs.HistoryLemmas.{choice_kept}
-use Rattle.loft_history.proofs.GrowthLemmas.{at_each_before}
+use Rattle.loft_history.proofs.AtEachLemmas.{at_each_before}
 use Rattle.loft_history.proofs.LegalEntries.{split_on, legal_exactly}
 use Rattle.loft_stand.specs.WellFormed.{IsWellFormed}
 use Rattle.loft_stand.specs.Alike.{RunsAlike}

@@ -21,7 +21,7 @@ use Rattle.loft_sense.specs.Fits.{Fits}
 use Rattle.loft_sense.specs.Instant.{Replayed, one_more, replay_on, replay}
 use Rattle.loft_history.specs.History.{sends, sent_in, starts_of, waiting_after, waiting, job_before, jobs_sent, jobs_after, jobs, unposted, unsent, replayed}
 use Rattle.loft_history.specs.Legal.{IsLegal, IsCallersEntry, ComesNext}
-use Rattle.loft_sense.proofs.AroundLemmas.{instant_shared}
+use Rattle.loft_sense.proofs.InstantLemmas.{instant_shared}
 use Rattle.loft_history.proofs.LegalEntries.{legal_exactly}
 use Rattle.loft_stand.specs.Points.{HasValues}
 use Rattle.loft_stand.specs.Machines.{ThreadFits, MachFits, FitsAt, SentFits}

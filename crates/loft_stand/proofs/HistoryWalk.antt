@@ -22,7 +22,7 @@ use Rattle.loft_sense.specs.Async.{async}
 use Rattle.loft_history.specs.Clients.{outside_of}
 use Rattle.loft_history.specs.History.{choice_of, sends, sent_in, log, is_open, orders_to, starts_of, waiting_step, waiting_after, waiting, jobs_sent, jobs_step, jobs_after, jobs, unposted_step, unposted, unsent_step, unsent, replayed, has_turn, sent_last, entry_of_first, pick_of, entry_of}
 use Rattle.loft_history.specs.Legal.{AtEach, IsCallersEntry, ComesNext}
-use Rattle.loft_sense.proofs.AroundLemmas.{instant_scheduler}
+use Rattle.loft_sense.proofs.InstantLemmas.{instant_scheduler}
 use Rattle.loft_history.proofs.HistoryLemmas.{is_same, on_if, on_first, on_pick, log-append}
 use Rattle.loft_history.proofs.LegalEntries.{split_on}
 use Rattle.loft_stand.proofs.ListLemmas.{each_append, each_parts, each_drop}

@@ -1,6 +1,6 @@
 -- A frame that stands keeps its counts where it goes on.
 use Rattle.std.proofs.Common.{◌≡◌, ℕ, zero, suc, ◌+◌, ◌≤◌, ◌==◌, Bool, true, false, List, [], ◌∷◌, ◌++◌, length, reverse, Option, Some, None, refl, sym, ap, ◌∙◌, subst, arith, append-nil}
-use Rattle.std.specs.Prelude.{ℤ, if◌then◌else◌}
+use Rattle.std.specs.Prelude.{ℤ, if◌then◌else◌, unwrap_or, drop}
 use Rattle.std.proofs.lemmas.List.{reverse-reverse}
 use Rattle.loft_tree.specs.declared.heads.Place.{Place}
 use Rattle.loft_tree.specs.declared.heads.Heads.{Heads}
@@ -8,7 +8,7 @@ use Rattle.loft_tree.specs.Resolved.{Step, Do, Hold, Call, Choose, Loop, Times, 
 use Rattle.loft_orders.specs.declared.thread.Frame.{Frame}
 use Rattle.loft_sense.specs.Machine.{Tree}
 use Rattle.loft_sense.specs.Run.{frame_of, point_of, active_of}
-use Rattle.loft_sense.specs.Tree.{Work, Again, Turns, body_then, counts_in, first_some, at_stop, first_count, rest_of, after_step, after_body, body_at, work_or_none, tree}
+use Rattle.loft_sense.specs.Tree.{Work, Again, Turns, body_then, counts_in, first_some, at_stop, first_count, after_step, after_body, body_at, tree}
 use Rattle.loft_sense.specs.Stands.{StopAt, Begins, begin_of, leads_step, stop_in_step, stop_in, program_stop, FrameStands}
 use Rattle.loft_stand.proofs.LeftLemmas.{counts_before, reverse_one}
 
@@ -38,7 +38,7 @@ keeps_at here k w at cs = by (here == k)
     by false = tt
 
 -- one repeat further out
-keeps_turns : (d : ℕ) (cs there : List ℤ) (a : Option (List Work)) (e : Option StopAt) → Keeps (d + 1) (rest_of cs) (first_count cs ∷ there) a e → Keeps d cs there a e
+keeps_turns : (d : ℕ) (cs there : List ℤ) (a : Option (List Work)) (e : Option StopAt) → Keeps (d + 1) (drop 1 cs) (first_count cs ∷ there) a e → Keeps d cs there a e
 keeps_turns d cs there None None k = tt
 keeps_turns d [] there (Some w) (Some at) k = let less : d ≤ at.depth = omega (arith, k.0) in (less, λ e. absurd (omega (arith, e, k.0)))
 keeps_turns d (c ∷ cs) there (Some w) (Some at) k =
@@ -57,7 +57,7 @@ module _ (h : Heads) where
         keeps_first d cs (counts_in w) (after_body x k cs w) (after_body y k cs w) (stop_in h x k d p) (stop_in h y k d p) (body_keeps x k d p cs w) (body_keeps y k d p cs w)
     step_keeps (Loop test x) k d p cs w = body_keeps x k d p cs (Again test x ∷ w)
     step_keeps (Times count x) k d p cs w =
-        keeps_turns d cs (counts_in w) (after_body x k (rest_of cs) (Turns (first_count cs) x ∷ w)) (stop_in h x k (d + 1) p) (body_keeps x k (d + 1) p (rest_of cs) (Turns (first_count cs) x ∷ w))
+        keeps_turns d cs (counts_in w) (after_body x k (drop 1 cs) (Turns (first_count cs) x ∷ w)) (stop_in h x k (d + 1) p) (body_keeps x k (d + 1) p (drop 1 cs) (Turns (first_count cs) x ∷ w))
 
     body_keeps : (b : Body) (k d : ℕ) (p : Place) (cs : List ℤ) (w : List Work) → Keeps d cs (counts_in w) (after_body b k cs w) (stop_in h b k d p)
     body_keeps Empty k d p cs w = tt
@@ -66,7 +66,7 @@ module _ (h : Heads) where
         (subst (λ (l : List ℤ). Keeps d cs l (after_step s k cs (body_then b w)) (stop_in_step h s k d p)) (counts_before b w) (step_keeps s k d p cs (body_then b w)))
         (body_keeps b k d (leads_step h s p) cs w)
 
-kept_by : (cs : List ℤ) (o : Option (List Work)) (s : Option StopAt) (at : StopAt) → s ≡ Some at → length cs ≡ at.depth → Keeps 0 cs [] o s → reverse (counts_in (work_or_none o)) ≡ cs
+kept_by : (cs : List ℤ) (o : Option (List Work)) (s : Option StopAt) (at : StopAt) → s ≡ Some at → length cs ≡ at.depth → Keeps 0 cs [] o s → reverse (counts_in (unwrap_or o [])) ≡ cs
 kept_by cs None None at e n k = absurd cc
 kept_by cs (Some w) (Some other) at e n k =
     let same : other ≡ at = cc in

@@ -1,11 +1,11 @@
 -- The work that is left at a stop is what comes after it.
 use Rattle.std.proofs.Common.{◌≡◌, ℕ, zero, suc, ◌+◌, ⊎_elim, inl, inr, List, [], ◌∷◌, ◌++◌, Option, Some, None, refl, sym, ap, ◌∙◌, subst, append-nil, append_assoc, ◌==◌, Bool, true, false}
-use Rattle.std.specs.Prelude.{◌⊎◌, ℤ, pos, negsuc, reverse, if◌then◌else◌}
+use Rattle.std.specs.Prelude.{◌⊎◌, ℤ, pos, negsuc, reverse, if◌then◌else◌, unwrap_or, drop}
 use Rattle.std.proofs.lemmas.List.{reverse-append}
 use Rattle.loft_base.specs.declared.ids.ModuleId.{ModuleId}
 use Rattle.loft_tree.specs.Resolved.{Exp, Step, Do, Hold, Call, Choose, Loop, Times, Body, Empty, Then, Resolved}
 use Rattle.loft_sense.specs.Run.{Next, Finish, Stuck, Acts, Advances, Tests, Counts, Holds, Runs}
-use Rattle.loft_sense.specs.Tree.{Work, Begin, Again, Turns, body_then, next_begin, next_turn, next_work, counts_in, first_some, at_stop, first_count, rest_of, after_step, after_body, body_at, work_or_none}
+use Rattle.loft_sense.specs.Tree.{Work, Begin, Again, Turns, body_then, next_begin, next_turn, next_work, counts_in, first_some, at_stop, first_count, after_step, after_body, body_at}
 use Rattle.loft_stand.specs.Numbered.{stops_in, body_stops, StepNumbered, BodyNumbered, IsNumbered}
 use Rattle.loft_stand.specs.Left.{LeadsTo, IsLeft, begins, resumes, goes_on, LeavesAfter}
 use Rattle.loft_stand.proofs.NumberLemmas.{elsewhere, found_here, neither, in_first, in_second, none_some, IsOutside, outside_left, outside_right, outside_one, apart}
@@ -20,7 +20,7 @@ mutual
       neither (after_body x k cs w) (after_body y k cs w)
       (outside_body x n k cs w h.0 (outside_left k n (body_stops x) (body_stops y) o)) (outside_body y (n + body_stops x) k cs w h.1 (outside_right k n (body_stops x) (body_stops y) o))
   outside_step (Loop test x) n k cs w h o = outside_body x n k cs (Again test x ∷ w) h o
-  outside_step (Times count x) n k cs w h o = outside_body x n k (rest_of cs) (Turns (first_count cs) x ∷ w) h o
+  outside_step (Times count x) n k cs w h o = outside_body x n k (drop 1 cs) (Turns (first_count cs) x ∷ w) h o
 
   outside_body : (b : Body) (n k : ℕ) (cs : List ℤ) (w : List Work) → BodyNumbered b n → IsOutside k n (body_stops b) → after_body b k cs w ≡ None
   outside_body Empty n k cs w h o = refl
@@ -190,7 +190,7 @@ module _ (whole : Body) where
         first_of_two (after_body x k cs w) (after_body y k cs w) (after_in_body x k cs w (first_in test x y w h) i) (after_in_body y k cs w (second_in test x y w h) i)
     after_in_step (Loop test x) k cs w h i = after_in_body x k cs (Again test x ∷ w) (loop_in test x w h) (loop_in test x w h, i)
     after_in_step (Times count x) k cs w h i =
-        after_in_body x k (rest_of cs) (Turns (first_count cs) x ∷ w) (turns_in count x w h (first_count cs)) (turns_in count x w h, i)
+        after_in_body x k (drop 1 cs) (Turns (first_count cs) x ∷ w) (turns_in count x w h (first_count cs)) (turns_in count x w h, i)
 
     after_in_body : (b : Body) (k : ℕ) (cs : List ℤ) (w : List Work) → InBody b w → In w → IfIn (after_body b k cs w)
     after_in_body Empty k cs w h i = tt
@@ -198,7 +198,7 @@ module _ (whole : Body) where
         first_of_two (after_step s k cs (body_then b w)) (after_body b k cs w)
         (after_in_step s k cs (body_then b w) (head_in s b w h) (in_before b w (rest_in s b w h) i)) (after_in_body b k cs w (rest_in s b w h) i)
 
-  none_in : (o : Option (List Work)) → IfIn o → In (work_or_none o)
+  none_in : (o : Option (List Work)) → IfIn o → In (unwrap_or o [])
   none_in None h = tt
   none_in (Some w) h = h
 
@@ -220,8 +220,8 @@ module _ (p : Resolved) (numbered : IsNumbered p) (m : ModuleId) where
   leaves_by (Advances w) h = tt
   leaves_by (Tests test v w) h = tt
   leaves_by (Counts count f) h = tt
-  leaves_by (Holds k pause w) h = ap work_or_none h.1
-  leaves_by (Runs k called arguments w) h = ap work_or_none h.1
+  leaves_by (Holds k pause w) h = ap (λ (o : Option (List Work)). unwrap_or o []) h.1
+  leaves_by (Runs k called arguments w) h = ap (λ (o : Option (List Work)). unwrap_or o []) h.1
 
   pub leaves_after : (w : List Work) → IsLeft p m w → LeavesAfter p m (next_work w)
   leaves_after w l = leaves_by (next_work w) (next_in (body_at p m) w (left_in l))

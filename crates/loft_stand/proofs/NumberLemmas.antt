@@ -1,6 +1,6 @@
 -- What is outside the numbers of a body is no stop of it; programs whose names are correct have numbered stops.
 use Rattle.std.proofs.Common.{◌≡◌, ℕ, zero, suc, ◌+◌, ◌<◌, ◌≤◌, ◌==◌, inl, inr, Bool, true, false, List, [], ◌∷◌, map, Option, Some, None, slice_get, refl, sym, ap, ◌∙◌, subst, arith}
-use Rattle.std.specs.Prelude.{◌⊎◌, if◌then◌else◌}
+use Rattle.std.specs.Prelude.{◌⊎◌, if◌then◌else◌, unwrap_or}
 use Rattle.std.proofs.lemmas.Bool.{eq-eqb, eqb-true, cases_lt}
 use Rattle.loft_tree.specs.declared.heads.Signature.{Signature}
 use Rattle.loft_tree.specs.declared.heads.Heads.{Heads}
@@ -8,8 +8,8 @@ use Rattle.loft_tree.specs.Stops as named
 use Rattle.loft_tree.specs.NamedTree as tree
 use Rattle.loft_tree.specs.NamedTree.{NamedStatement, NamedStatements, NamedModule, NamedProgram}
 use Rattle.loft_tree.specs.NamedFits.{BodiesHold, NamedFits}
-use Rattle.loft_tree.specs.Resolved.{step_of, body_of, resolved_of}
-use Rattle.loft_sense.specs.Tree.{first_some, at_stop, body_or_empty}
+use Rattle.loft_tree.specs.Resolved.{Empty, step_of, body_of, resolved_of}
+use Rattle.loft_sense.specs.Tree.{first_some, at_stop}
 use Rattle.loft_stand.specs.Numbered.{stops_in, body_stops, StepNumbered, BodyNumbered, IsNumbered}
 
 -- ---- a look-up of stops
@@ -121,7 +121,7 @@ mutual
   body_numbered (tree.Then first rest) n h =
       (step_numbered first n h.0, subst (λ k. BodyNumbered (body_of rest) (n + k)) (sym (stops_same first)) (body_numbered rest (n + named.stops_in first) h.1))
 
-bodies_numbered : (h : Heads) (ms : List Signature) (xs : List NamedModule) (k : ℕ) → BodiesHold h ms xs → BodyNumbered (body_or_empty (slice_get (map (λ m. body_of m.body) xs) k)) 0
+bodies_numbered : (h : Heads) (ms : List Signature) (xs : List NamedModule) (k : ℕ) → BodiesHold h ms xs → BodyNumbered (unwrap_or (slice_get (map (λ m. body_of m.body) xs) k) Empty) 0
 bodies_numbered h [] [] k hold = tt
 bodies_numbered h [] (x ∷ xs) k hold = absurd hold
 bodies_numbered h (m ∷ ms) [] k hold = tt

@@ -1,6 +1,7 @@
 -- What fits where it is sent, and what a batch that fits leaves.
 use Rattle.std.proofs.Common.{◌≡◌, ◌<◌, ℕ, zero, suc, ◌+◌, Bool, true, false, List, [], ◌∷◌, ◌++◌, length, Option, Some, None, slice_get, refl, sym, ap, ◌∙◌, subst, arith}
 use Rattle.std.specs.Prelude.{if◌then◌else◌, nat_lt}
+use Rattle.std.specs.Option.{option_map_or}
 use Rattle.std.specs.Prelude.{All}
 use Rattle.std.proofs.lemmas.List.{length-set}
 use Rattle.loft_history.specs.History.{is_addressed, orders_to, starts_from}
@@ -38,13 +39,13 @@ use Rattle.loft_orders.specs.declared.order.To.{To}
 use Rattle.loft_orders.specs.declared.order.To.TheVariants as to
 use Rattle.loft_orders.specs.declared.thread.Thread.{Thread}
 use Rattle.loft_orders.specs.declared.thread.Wait.TheVariants as wait
-use Rattle.loft_sense.specs.Heads.{same_scheduler, scheduler_or_first, first_values}
+use Rattle.loft_sense.specs.Heads.{scheduler, same_scheduler, first_values}
 use Rattle.loft_history.specs.Legal.{FitsOne}
 use Rattle.loft_sense.specs.Machine.{Prog, heads}
 use Rattle.loft_sense.specs.CanGo.{same_thread}
 use Rattle.loft_sense.specs.Stands.{begin_of, begin_or_unlinked, ValuesAgree, Stands}
 use Rattle.loft_sense.specs.Statements.{order_of}
-use Rattle.loft_history.specs.Clients.{orders_from, orders_or_none, outside_of}
+use Rattle.loft_history.specs.Clients.{orders_from, outside_of}
 use Rattle.loft_sense.specs.Fits.{IsMaker, IsThread, IsValue, ThreadNames, EndNames, Fits}
 use Rattle.loft_sense.specs.Apply.{Applied, new_thread, with_last, is_linked, without_first, suspend, tell_end, apply_order, apply_orders}
 use Rattle.loft_sense.specs.Instant.{sent_by}
@@ -237,7 +238,7 @@ none_past [] i none within = absurd (omega (arith, within))
 none_past (a ∷ xs) zero none within = absurd cc
 none_past (a ∷ xs) (suc i) none within = none_past xs i none (omega (arith, within))
 
-home_there : (h : Heads) (e : EventId) (there : Option EventHead) → slice_get h.events e.0 ≡ there → Each (EventHolds h) h.events → e.0 < length h.events → IsScheduler h (scheduler_or_first there)
+home_there : (h : Heads) (e : EventId) (there : Option EventHead) → slice_get h.events e.0 ≡ there → Each (EventHolds h) h.events → e.0 < length h.events → IsScheduler h (option_map_or (λ x. x.scheduler) there (scheduler 0))
 home_there h e None at all within = none_past h.events e.0 at within
 home_there h e (Some event) at all within = (each_at (EventHolds h) h.events e.0 event all at).scheduler
 
@@ -249,7 +250,7 @@ orders_for_one x c k (client.Broadcast e value ∷ os) events f =
     ((home_there (heads x) e (slice_get (heads x).events e.0) refl events f.0.0.0, record { declared = f.0.0.0; there = refl }), orders_for_one x c k os events f.1)
 
 client_for_one : (x : Prog) (c : ℕ) (there : Option Client) → slice_get (heads x).clients c ≡ there → Each (EventHolds (heads x)) (heads x).events → Each (Orders (heads x)) (heads x).clients
-    → Each (IsForOne x) (orders_from (heads x) c 0 (orders_or_none there))
+    → Each (IsForOne x) (orders_from (heads x) c 0 (option_map_or (λ d. d.orders) there []))
 client_for_one x c None at events all = tt
 client_for_one x c (Some client) at events all = orders_for_one x c 0 client.orders events (each_at (Orders (heads x)) (heads x).clients c client all at)
 

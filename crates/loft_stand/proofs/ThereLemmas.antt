@@ -1,6 +1,7 @@
 -- What an expression that fits asks for is there.
 use Rattle.std.proofs.Common.{◌≡◌, ℕ, zero, suc, ◌<◌, Bool, true, false, cond, List, [], ◌∷◌, length, take, filter, Some, slice_get, refl, sym, ap, ◌∙◌, subst, arith}
 use Rattle.std.specs.Prelude.{ℤ, pos, negsuc}
+use Rattle.std.specs.Option.{option_map_or}
 use Rattle.std.proofs.lemmas.Bool.{eq-eqb, ltb-true}
 use Rattle.std.proofs.lemmas.List.{length-map}
 use Rattle.std.proofs.lemmas.Option.{slice_get_within}
@@ -10,7 +11,7 @@ use Rattle.loft_base.specs.declared.ids.SharedId.{SharedId}
 use Rattle.loft_tree.specs.declared.heads.Place.{Place}
 use Rattle.loft_tree.specs.declared.heads.SharedHead.{SharedHead}
 use Rattle.loft_tree.specs.declared.heads.Heads.{Heads}
-use Rattle.loft_sense.specs.Heads.{is_at, shared_values, rank, rank_among}
+use Rattle.loft_sense.specs.Heads.{is_at, shared_values, rank}
 use Rattle.loft_sense.specs.Around.{Around, Beside}
 use Rattle.loft_sense.specs.Machine.{Prog, heads}
 use Rattle.loft_sense.specs.Run.{Active}
@@ -42,7 +43,7 @@ shared_there h place shared x is all_there =
     let size : length shared ≡ length (shared_values h s) = subst (λ p. HasValues h p (length shared)) (sym is.2) all_there in
     let all : length (shared_values h s) ≡ length (filter (is_at s) h.shared) = length-map (filter (is_at s) h.shared) (λ y. y.value) in
     let before : length (filter (is_at s) (take x.0 h.shared)) < length (filter (is_at s) h.shared) = fewer_before s h.shared x.0 head is.1 (eq-eqb s.0 s.0 refl) in
-    let same : rank h x ≡ length (filter (is_at s) (take x.0 h.shared)) = ap (λ o. rank_among (take x.0 h.shared) o) is.1 in
+    let same : rank h x ≡ length (filter (is_at s) (take x.0 h.shared)) = ap (λ o. option_map_or (λ v. length (filter (is_at v.scheduler) (take x.0 h.shared))) o 0) is.1 in
     within_some shared (rank h x) (omega (arith, size, all, before, same))
 
 -- so it is at each point of a run that begins with a value for each

@@ -26,7 +26,7 @@ use Rattle.loft_history.specs.Clients.{outside_of}
 use Rattle.loft_sense.specs.Fits.{Fits}
 use Rattle.loft_history.specs.History.{sends, sent_in, starts_of, log, waiting, jobs, unposted, replayed}
 use Rattle.loft_history.specs.Legal.{AtEach, IsLegal, ComesNext}
-use Rattle.loft_history.proofs.GrowthLemmas.{at_each_before}
+use Rattle.loft_history.proofs.AtEachLemmas.{at_each_before}
 use Rattle.loft_history.proofs.LegalEntries.{legal_exactly}
 use Rattle.loft_stand.specs.Machines.{ThreadFits, SentFits}
 use Rattle.loft_stand.specs.WellFormed.{IsWellFormed}

@@ -1,6 +1,6 @@
 -- What is claimed of new threads, and kept by each run and each close, holds of the threads of each history, wherever they are.
 use Rattle.std.proofs.Common.{◌≡◌, ℕ, Bool, true, false, cond, List, [], ◌∷◌, ◌++◌, map, filter, length, Option, Some, None, refl, sym, subst, ap}
-use Rattle.std.specs.Prelude.{if◌then◌else◌, ◌==◌, nat_lt, not, is_some, slice_get}
+use Rattle.std.specs.Prelude.{if◌then◌else◌, ◌==◌, nat_lt, not, is_some}
 use Rattle.std.proofs.lemmas.Bool.{eqb-true}
 use Rattle.loft_base.specs.declared.ids.ModuleId.{ModuleId}
 use Rattle.loft_base.specs.declared.ids.SchedId.{SchedId}
@@ -32,7 +32,7 @@ use Rattle.loft_sense.specs.Moments.{Moment, IsKeptByRuns}
 use Rattle.loft_sense.specs.Apply.{Applied, new_thread, is_linked, with_last, without_first, suspend, tell_end, apply_order, apply_orders, unapplied, apply}
 use Rattle.loft_sense.specs.Instant.{runner_of, around_of, closed_wait, closed, stays, leaver, leavers, sent_by, instant}
 use Rattle.loft_sense.specs.Async.{alone, block_sent, async}
-use Rattle.loft_history.specs.Clients.{orders_or_none, outside_of}
+use Rattle.loft_history.specs.Clients.{outside_of, orders_of}
 use Rattle.loft_sense.specs.Fits.{Fits}
 use Rattle.loft_history.specs.History.{sends, is_addressed, orders_to, starts_of, jobs_sent}
 use Rattle.loft_history.specs.Legal.{AtEach, IsCallersEntry, ComesNext}
@@ -315,7 +315,7 @@ module _ (x : Prog) (well : IsWellFormed x) (P : Claim) (M N : Grant) (h : Premi
     clients = λ c.
         let sent = outside_of (heads x) c in
         each_both (SentFits x) SentSo sent (outside_fits x well c)
-        (each_both (SentCarries P) (λ m. IsGranted M m.order) sent (clients_carry x P c 0 (orders_or_none (slice_get (heads x).clients c))) (h.clients c));
+        (each_both (SentCarries P) (λ m. IsGranted M m.order) sent (clients_carry x P c 0 (orders_of (heads x) c)) (h.clients c));
     routes = threads_routed;
   }
 

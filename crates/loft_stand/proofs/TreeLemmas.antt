@@ -1,6 +1,6 @@
 -- A placed program leads on: the bodies of its modules fit, and the stops in them are those of the modules.
 use Rattle.std.proofs.Common.{◌≡◌, ℕ, zero, suc, ◌≤◌, inl, List, [], length, Option, Some, None, slice_get, refl, sym, ap, ◌∙◌, subst, arith}
-use Rattle.std.specs.Prelude.{ℤ}
+use Rattle.std.specs.Prelude.{ℤ, unwrap_or}
 use Rattle.std.proofs.lemmas.List.{length-reverse}
 use Rattle.loft_base.specs.declared.ids.ModuleId.{ModuleId}
 use Rattle.loft_tree.specs.declared.heads.Place.{Place}
@@ -11,7 +11,7 @@ use Rattle.loft_tree.specs.Resolved.{Body, resolved_of}
 use Rattle.loft_place.specs.Links.{IsPlaced}
 use Rattle.loft_sense.specs.Machine.{Prog, Tree}
 use Rattle.loft_sense.specs.Run.{Next, Finish, Stuck, Acts, Advances, Tests, Counts, Holds, Runs}
-use Rattle.loft_sense.specs.Tree.{Work, body_then, next_work, counts_in, after_body, body_at, work_or_none, after}
+use Rattle.loft_sense.specs.Tree.{Work, body_then, next_work, counts_in, after_body, body_at, after}
 use Rattle.loft_sense.specs.Stands.{Pauses, Calls, StopAt, begin_of, end_of, begin_or_unlinked, place_after, leads, stop_in, tree_stop}
 use Rattle.loft_stand.specs.WorkFits.{NextFits, BodyFits}
 use Rattle.loft_stand.specs.WorkAgrees.{BodyAgrees}
@@ -95,7 +95,7 @@ module _ (n : NamedProgram) (fits : NamedFits n) (placed : IsPlaced n) where
     of_left at w f = record { there = record { fits = f.fits; agrees = f.agrees }; counts = length-reverse (counts_in w) ∙ f.counts; kind = f.kind }
 
     of_after : (at : StopAt) (o : Option (List Work)) (s : Option StopAt) → s ≡ Some at → AfterFits n.heads stops (slots_of head) head.end o s
-        → IsAfter program m head at (work_or_none o)
+        → IsAfter program m head at (unwrap_or o [])
     of_after at None None e f = absurd cc
     of_after at (Some w) (Some other) e f = let same : other ≡ at = cc in subst (λ a. IsAfter program m head a w) same (of_left other w f)
     of_after at None (Some other) e f = absurd f

@@ -1,7 +1,7 @@
 -- Values of their kinds, and what expressions that fit have as values.
 use Rattle.std.proofs.Common.{◌&&◌, IsTrue, ◌≡◌, ℕ, zero, suc, Bool, true, false, List, [], ◌∷◌, ◌++◌, map, Option, Some, None, slice_get, refl, sym, subst}
 use Rattle.std.specs.Prelude.{ℤ, pos, if◌then◌else◌, slice_set, unwrap_or}
-use Rattle.std.specs.Option.{option_map, option_and_then}
+use Rattle.std.specs.Option.{option_map, option_and_then, option_map_or}
 use Rattle.loft_base.specs.declared.ids.ModuleId.{ModuleId}
 use Rattle.loft_base.specs.declared.ids.ThreadId.{ThreadId}
 use Rattle.loft_base.specs.declared.ids.Value.{Value}
@@ -21,7 +21,7 @@ use Rattle.loft_tree.specs.Fits.{Each, IfThere}
 use Rattle.loft_tree.specs.HeadsFit.{is_of, agree, kinds_of}
 use Rattle.loft_tree.specs.NamedFits.{slots_of}
 use Rattle.loft_tree.specs.Resolved.{Exp, Number, Slot, Shared, Special, Unary, Binary}
-use Rattle.loft_sense.specs.Heads.{first_value, first_values, locals_or_none}
+use Rattle.loft_sense.specs.Heads.{first_value, first_values}
 use Rattle.loft_sense.specs.Around.{Beside}
 use Rattle.loft_sense.specs.Eval.{number_of, truth, unary_value, binary_value, eval, eval_all, eval_if}
 use Rattle.loft_sense.specs.Fits.{IsThread, IsValue}
@@ -94,7 +94,7 @@ locals_fit h t (x ∷ xs) is = (first_fits h t x.kind is, locals_fit h t xs is)
 pub first_values_fit : (h : Heads) (t : ThreadId) (m : ModuleId) (head : Signature) (arguments : List Value) → IsThread h t → slice_get h.modules m.0 ≡ Some head → ValuesFit h (kinds_of head.parameters) arguments
     → ValuesFit h (slots_of head) (first_values h t m arguments)
 first_values_fit h t m head arguments is at fit =
-    subst (λ o. ValuesFit h (slots_of head) (arguments ++ map (λ x. first_value t x.kind) (locals_or_none o))) (sym at)
+    subst (λ o. ValuesFit h (slots_of head) (arguments ++ map (λ x. first_value t x.kind) (option_map_or (λ s. s.locals) o []))) (sym at)
     (values_append h (kinds_of head.parameters) (kinds_of head.locals) arguments (map (λ x. first_value t x.kind) head.locals) fit (locals_fit h t head.locals is))
 
 -- ---- expressions

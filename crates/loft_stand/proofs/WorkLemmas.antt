@@ -1,12 +1,12 @@
 -- The work that is left goes on fitting, its stops go on being those of the module, and so it is with what is left after a stop.
 use Rattle.std.proofs.Common.{◌≡◌, ℕ, zero, suc, ◌+◌, ◌==◌, Bool, true, false, List, [], ◌∷◌, length, Option, Some, None, refl, sym, ap, ◌∙◌, subst, arith}
-use Rattle.std.specs.Prelude.{ℤ, pos, negsuc, if◌then◌else◌}
+use Rattle.std.specs.Prelude.{ℤ, pos, negsuc, if◌then◌else◌, drop}
 use Rattle.loft_tree.specs.declared.kinds.Kind.{Kind}
 use Rattle.loft_tree.specs.declared.heads.Place.{Place}
 use Rattle.loft_tree.specs.declared.heads.Heads.{Heads}
 use Rattle.loft_tree.specs.Resolved.{Step, Do, Hold, Call, Choose, Loop, Times, Body, Empty, Then}
 use Rattle.loft_sense.specs.Run.{Next, Finish, Stuck, Acts, Advances, Tests, Counts, Holds, Runs}
-use Rattle.loft_sense.specs.Tree.{Work, Begin, Again, Turns, body_then, next_begin, next_turn, next_work, counts_in, first_some, at_stop, first_count, rest_of, after_step, after_body}
+use Rattle.loft_sense.specs.Tree.{Work, Begin, Again, Turns, body_then, next_begin, next_turn, next_work, counts_in, first_some, at_stop, first_count, after_step, after_body}
 use Rattle.loft_sense.specs.Stands.{Pauses, Calls, StopAt, place_after, end_of, leads_step, leads, stop_in_step, stop_in}
 use Rattle.loft_stand.specs.WorkFits.{NextFits, StepFits, BodyFits, WorkFits}
 use Rattle.loft_stand.proofs.LeftLemmas.{counts_before}
@@ -148,7 +148,7 @@ module _ (h : Heads) (stops : ℕ → Option StopAt) where
           let m : length (counts_in t) ≡ d + 1 = omega (arith, n) in
           let fits : WorkFits h slots t p q = (e.1, e.2, g) in
           let agrees : WorkAgrees h stops t p = (subst (λ c. BodyAgrees h stops x (suc c) p) (sym n) f, i) in
-          after_body_fits x k (d + 1) (rest_of cs) t p q m e.1 (subst (λ c. BodyAgrees h stops x c p) one_more f)
+          after_body_fits x k (d + 1) (drop 1 cs) t p q m e.1 (subst (λ c. BodyAgrees h stops x c p) one_more f)
           (subst (λ r. WorkFits h slots t r q) (sym e.2) fits) (subst (λ r. WorkAgrees h stops t r) (sym e.2) agrees)
 
       pub after_body_fits : (b : Body) (k d : ℕ) (cs : List ℤ) (w : List Work) (p q : Place) → length (counts_in w) ≡ d → BodyFits h slots b p → BodyAgrees h stops b d p

@@ -9,11 +9,11 @@ use Rattle.loft_orders.specs.declared.entry.Actor.TheVariants as actor
 use Rattle.loft_orders.specs.declared.entry.Entry.{Entry}
 use Rattle.loft_orders.specs.declared.entry.Entry.TheVariants.{Take, Give, Pick, Post, Client}
 use Rattle.loft_orders.specs.declared.order.Sent.{Sent}
-use Rattle.loft_history.specs.Clients.{orders_from, outside_of}
+use Rattle.loft_history.specs.Clients.{orders_from, outside_of, orders_of}
 use Rattle.loft_history.specs.History.{is_create, creates_after, creates, unsent}
 use Rattle.loft_history.specs.Legal.{of, Gives}
 use Rattle.loft_history.proofs.OwnLemmas.{given}
-use Rattle.loft_steps.specs.Clients.{orders_of, orders_at}
+use Rattle.loft_steps.specs.Clients.{orders_at}
 
 one_on : (i : ℕ) → suc (i + 1) ≡ suc i + 1
 one_on i = omega arith

@@ -1,14 +1,10 @@
 -- The orders of a client of the source, one after another (docs/SEMANTICS.md, "History").
-use Rattle.std.specs.Prelude.{ℕ, ◌<◌, List, drop, length, slice_get}
+use Rattle.std.specs.Prelude.{ℕ, ◌<◌, List, drop, length}
 use Rattle.loft_tree.specs.declared.heads.Heads.{Heads}
 use Rattle.loft_tree.specs.declared.heads.ClientOrder.{ClientOrder}
 use Rattle.loft_tree.specs.declared.heads.ClientOrder.TheVariants as client
 use Rattle.loft_orders.specs.declared.order.Sent.{Sent}
-use Rattle.loft_history.specs.Clients.{orders_from, orders_or_none}
-
--- all orders of a client, as the source has them
-abbrev pub orders_of : Heads → ℕ → List ClientOrder
-orders_of h c = orders_or_none (slice_get h.clients c)
+use Rattle.loft_history.specs.Clients.{orders_from, orders_of}
 
 -- the orders of a client from this index on, as they are sent, where its next create has this number
 abbrev pub orders_at : Heads → ℕ → ℕ → ℕ → List Sent

@@ -3,9 +3,9 @@
 ghost use Rattle.std.specs.Prelude.{◌≡◌, ◌∷◌, [], ◌+◌, ◌^◌, ◌<◌, drop, IfOk, IsTrue, is_some, slice_get};
 ghost use Rattle.std.specs.Option.{option_map};
 ghost use Rattle.loft_tree.specs.Fits.{Each};
-ghost use Rattle.loft_history.specs.Clients.{orders_from};
+ghost use Rattle.loft_history.specs.Clients.{orders_from, orders_of};
 ghost use Rattle.loft_sense.specs.Statements.{order_of as order_by};
-ghost use Rattle.loft_steps.specs.Clients.{orders_of, orders_at, HasEvent};
+ghost use Rattle.loft_steps.specs.Clients.{orders_at, HasEvent};
 
 use loft_base::{Maker, NoMemory, Sequence, ThreadId};
 use loft_orders::{Order, Sent, To};

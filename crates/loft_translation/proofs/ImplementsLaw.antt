@@ -1,5 +1,5 @@
 -- The code of a program does what the program does.
-use Rattle.std.proofs.Common.{◌≡◌, ℕ, zero, suc, ◌+◌, ◌<◌, ◌⊎◌, inl, inr, List, [], ◌∷◌, ◌++◌, length, map, reverse, Some, None, slice_get, refl, sym, ap, ◌∙◌, subst}
+use Rattle.std.proofs.Common.{◌≡◌, ℕ, zero, suc, ◌+◌, ◌<◌, ◌⊎◌, inl, inr, List, [], ◌∷◌, ◌++◌, length, map, reverse, Some, None, slice_get, refl, sym, ap, ◌∙◌, subst, unwrap_or}
 use Rattle.std.proofs.lemmas.Option.{slice_get_within}
 use Rattle.loft_base.specs.declared.ids.ModuleId.{ModuleId}
 use Rattle.loft_tree.specs.declared.heads.Place.{Place}
@@ -13,7 +13,7 @@ use Rattle.loft_orders.specs.declared.thread.Wait.{Wait}
 use Rattle.loft_sense.specs.Around.{Around}
 use Rattle.loft_sense.specs.Machine.{Tree}
 use Rattle.loft_sense.specs.Run.{point_of, active_of, go}
-use Rattle.loft_sense.specs.Tree.{Work, body_then, next_work, body_or_empty, body_at, stop_at, pause_of_step, after_body, work_or_none, after, tree}
+use Rattle.loft_sense.specs.Tree.{Work, body_then, next_work, body_at, stop_at, pause_of_step, after_body, after, tree}
 use Rattle.loft_sense.specs.Code.{Point, point, next_point, lines_at, stop_from, after_or_past, pause_in, code}
 use Rattle.loft_sense.specs.Stands.{StopAt, begin_of, leads_step, stop_in, program_stop, FrameStands, OuterStand, FramesStand, Stands}
 use Rattle.loft_translation.specs.Compiled.{step_lines, body_lines, compiled}
@@ -89,7 +89,7 @@ module _ (p : Resolved) (whole : IsWhole p) where
           ap (λ x. pause_of_step (stop_at x (suc k))) (body_is p m b e)
           ∙ sym (module_pause p.heads b (begin_of p.heads m) (length p.bodies) (whole_body p whole m b e) (suc k) [])
           ∙ ap (λ ls. pause_in ls (suc k)) (sym (lines_are p m b e))
-      by (inr e) = ap (λ o. pause_of_step (stop_at (body_or_empty o) (suc k))) e ∙ ap (λ ls. pause_in ls (suc k)) (sym (no_lines p m e))
+      by (inr e) = ap (λ o. pause_of_step (stop_at (unwrap_or o Empty) (suc k))) e ∙ ap (λ ls. pause_in ls (suc k)) (sym (no_lines p m e))
 
   next_in : (m : ModuleId) (w : List Work) (q : Point) → IsIn m w q → NextAgrees (IsOne p.heads (length p.bodies)) (IsIn m) (next_work w) (next_point (lines_at (compiled p) m) q)
   next_in m w q is =
@@ -119,7 +119,7 @@ module _ (p : Resolved) (whole : IsWhole p) where
       let ls = code_of p.heads b here in
       let there = ap (λ x. stop_in p.heads x (suc k) 0 here) (sym (body_is p m b e)) ∙ stop in
       let goes = module_goes p.heads b here (length p.bodies) (whole_body p whole m b e) (suc k) f.counts at there same in
-      let by_body = subst (λ x. StandsFor ls p.heads (work_or_none (after_body x (suc k) f.counts [])) (point (after_or_past (stop_from 0 ls (suc k)) ls) (reverse f.counts))) (sym (body_is p m b e)) goes in
+      let by_body = subst (λ x. StandsFor ls p.heads (unwrap_or (after_body x (suc k) f.counts []) []) (point (after_or_past (stop_from 0 ls (suc k)) ls) (reverse f.counts))) (sym (body_is p m b e)) goes in
       (b, e, subst (λ ks. StandsFor ls p.heads (after p m (suc k) f.counts) (point (after_or_past (stop_from 0 ks (suc k)) ks) (reverse f.counts))) (sym (lines_are p m b e)) by_body)
 
   frame_in : (f : Frame) (at : StopAt) → FrameStands (Tree p) f at → IsIn f.module (point_of (tree p) f f.stop) (point_of (code (compiled p)) f f.stop)

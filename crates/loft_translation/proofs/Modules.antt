@@ -7,10 +7,10 @@ use Rattle.std.proofs.lemmas.Option.{slice_get-get_or}
 use Rattle.loft_base.specs.declared.ids.ModuleId.{ModuleId}
 use Rattle.loft_tree.specs.declared.heads.Place.{Place}
 use Rattle.loft_tree.specs.declared.heads.Heads.{Heads}
-use Rattle.loft_tree.specs.Resolved.{Step, Body, Resolved}
+use Rattle.loft_tree.specs.Resolved.{Empty, Step, Body, Resolved}
 use Rattle.loft_code.specs.Operations.{Line}
 use Rattle.loft_code.specs.Operations as op
-use Rattle.loft_sense.specs.Tree.{Work, body_then, after_body, body_or_empty, body_at, work_or_none, stop_at, pause_of_step}
+use Rattle.loft_sense.specs.Tree.{Work, body_then, after_body, body_at, stop_at, pause_of_step}
 use Rattle.loft_sense.specs.Code.{point, lines_at, stop_from, after_or_past, pause_at}
 use Rattle.loft_sense.specs.Stands.{Begins, StopAt, begin_of, leads, stop_in, stop_before, stop_at_line, line_stop}
 use Rattle.loft_translation.specs.Compiled.{line, body_lines, module_lines, modules_from, compiled}
@@ -45,7 +45,7 @@ module _ (lines : List Line) (h : Heads) (cs : List ℤ) where
   pause_found (found is) = is.pause
 
   goes_found : {q : Option ℕ} {w : Option (List Work)} {at : Option StopAt} {s : Option Step} (here : StopAt) → Found lines h 0 cs [] q w at s → at ≡ Some here → length cs ≡ here.depth
-      → StandsFor lines h (work_or_none w) (point (after_or_past q lines) (reverse cs))
+      → StandsFor lines h (unwrap_or w []) (point (after_or_past q lines) (reverse cs))
   goes_found here nowhere e same = absurd cc
   goes_found here (found {q} {w} {at} {s} is) e same =
       let at_is : at ≡ here = cc in
@@ -100,7 +100,7 @@ module _ (h : Heads) (b : Body) (here : Place) where
     module_pause = pause_found (code_of h b here) h cs module_found
 
     pub module_goes : (at : StopAt) → stop_in h b k 0 here ≡ Some at → length cs ≡ at.depth
-        → StandsFor (code_of h b here) h (work_or_none (after_body b k cs [])) (point (after_or_past (stop_from 0 (code_of h b here) k) (code_of h b here)) (reverse cs))
+        → StandsFor (code_of h b here) h (unwrap_or (after_body b k cs []) []) (point (after_or_past (stop_from 0 (code_of h b here) k) (code_of h b here)) (reverse cs))
     module_goes at e same = goes_found (code_of h b here) h cs at module_found e same
 
 -- ---- modules by their numbers
@@ -125,7 +125,7 @@ module _ (p : Resolved) (m : ModuleId) where
   no_lines e = lines_by ∙ ap (λ o. unwrap_or (option_map (module_lines p.heads m) o) []) e
 
   pub body_is : (b : Body) → slice_get p.bodies m.0 ≡ Some b → body_at p m ≡ b
-  body_is b e = ap body_or_empty e
+  body_is b e = ap (λ (o : Option Body). unwrap_or o Empty) e
 
   -- it has a body, or not
   pub body_or_not : ((b : Body) × (slice_get p.bodies m.0 ≡ Some b)) ⊎ (slice_get p.bodies m.0 ≡ None)

@@ -1,5 +1,5 @@
 -- Placed programs are whole.
-use Rattle.std.proofs.Common.{◌≡◌, ℕ, zero, suc, ◌≤◌, List, [], ◌∷◌, length, map, Option, Some, None, slice_get, refl, sym, ap, subst, arith}
+use Rattle.std.proofs.Common.{◌≡◌, ℕ, zero, suc, ◌≤◌, List, [], ◌∷◌, length, map, Option, Some, None, slice_get, refl, sym, ap, subst, arith, unwrap_or}
 use Rattle.std.proofs.lemmas.Option.{slice_get_within}
 use Rattle.loft_base.specs.declared.ids.ModuleId.{ModuleId}
 use Rattle.loft_tree.specs.declared.kinds.Kind.{Kind}
@@ -10,7 +10,7 @@ use Rattle.loft_tree.specs.NamedTree.{NamedModule, NamedProgram}
 use Rattle.loft_tree.specs.NamedFits.{BodiesHold, NamedFits, slots_of}
 use Rattle.loft_tree.specs.Resolved.{Step, Do, Hold, Call, Choose, Loop, Times, Body, Empty, Then, body_of, resolved_of}
 use Rattle.loft_place.specs.Links.{IsPlaced}
-use Rattle.loft_sense.specs.Tree.{body_or_empty, body_at}
+use Rattle.loft_sense.specs.Tree.{body_at}
 use Rattle.loft_sense.specs.Stands.{begin_or_unlinked, begin_of, leads_step}
 use Rattle.loft_stand.specs.WorkFits.{StepFits, BodyFits}
 use Rattle.loft_stand.proofs.FitLemmas.{module_fits}
@@ -44,7 +44,7 @@ as_many h (m ∷ ms) [] hold = absurd hold
 as_many h (m ∷ ms) (x ∷ xs) hold = omega (arith, as_many h ms xs hold.1)
 
 -- a module that isn't declared has no body
-no_body : (h : Heads) (ms : List Signature) (xs : List NamedModule) (k : ℕ) → BodiesHold h ms xs → slice_get ms k ≡ None → body_or_empty (slice_get (map (λ m. body_of m.body) xs) k) ≡ Empty
+no_body : (h : Heads) (ms : List Signature) (xs : List NamedModule) (k : ℕ) → BodiesHold h ms xs → slice_get ms k ≡ None → unwrap_or (slice_get (map (λ m. body_of m.body) xs) k) Empty ≡ Empty
 no_body h [] [] k hold none = refl
 no_body h [] (x ∷ xs) k hold none = absurd hold
 no_body h (m ∷ ms) [] k hold none = refl

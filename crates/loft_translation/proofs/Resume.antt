@@ -1,7 +1,7 @@
 -- The stops of a body and of its code: each is found in both, is the same in both, and after it the point in the code stands
 -- for the work that is left.
 use Rattle.std.proofs.Common.{◌≡◌, ℕ, ◌+◌, ◌≤◌, ◌==◌, Bool, true, false, List, [], ◌∷◌, ◌++◌, length, reverse, Option, Some, None, slice_get, refl, sym, ap, ◌∙◌, subst, arith, append_assoc}
-use Rattle.std.specs.Prelude.{ℤ, if◌then◌else◌}
+use Rattle.std.specs.Prelude.{ℤ, if◌then◌else◌, drop}
 use Rattle.std.specs.Option.{option_and_then}
 use Rattle.std.proofs.lemmas.List.{reverse-append}
 use Rattle.loft_tree.specs.declared.heads.Place.{Place}
@@ -9,7 +9,7 @@ use Rattle.loft_tree.specs.declared.heads.Heads.{Heads}
 use Rattle.loft_tree.specs.Resolved.{Step, Do, Hold, Call, Choose, Loop, Times, Body, Empty, Then}
 use Rattle.loft_code.specs.Operations.{Line, stop_of}
 use Rattle.loft_code.specs.Operations as op
-use Rattle.loft_sense.specs.Tree.{Work, Again, Turns, body_then, counts_in, first_some, first_count, rest_of, after_step, after_body, stop_at_step, stop_at, pause_of_step as pause_of_step}
+use Rattle.loft_sense.specs.Tree.{Work, Again, Turns, body_then, counts_in, first_some, first_count, after_step, after_body, stop_at_step, stop_at, pause_of_step as pause_of_step}
 use Rattle.loft_sense.specs.Code.{point, is_number, stop_from, pause_of_operation, pause_at}
 use Rattle.loft_sense.specs.Stands.{StopKind, Pauses, Calls, StopAt, end_of, place_after, leads_step, leads, stop_in_step, stop_in, kind_of, stop_before, stop_at_line}
 use Rattle.loft_translation.specs.Compiled.{line, step_lines, body_lines}
@@ -117,11 +117,11 @@ module _ (lines : List Line) (h : Heads) where
   found_here p d l there kind s cs w false e is waits next rest = nowhere
 
   -- inside a `repeat` there is one more count
-  found_turn : (d : ℕ) (cs ts : List ℤ) {q : Option ℕ} {w : Option (List Work)} {at : Option StopAt} {s : Option Step} → Found (d + 1) (rest_of cs) (first_count cs ∷ ts) q w at s → Found d cs ts q w at s
+  found_turn : (d : ℕ) (cs ts : List ℤ) {q : Option ℕ} {w : Option (List Work)} {at : Option StopAt} {s : Option Step} → Found (d + 1) (drop 1 cs) (first_count cs ∷ ts) q w at s → Found d cs ts q w at s
   found_turn d cs ts nowhere = nowhere
   found_turn d cs ts (found {q} {w} {at} {s} is) = found (record { stop = is.stop; pause = is.pause; deep = omega (arith, is.deep); goes = goes cs is.deep is.goes })
     where
-      goes : (cs : List ℤ) → d + 1 ≤ at.depth → (d + 1 + length (rest_of cs) ≡ at.depth → StandsFor lines h w (point (q + 1) (reverse (rest_of cs) ++ (first_count cs ∷ ts))))
+      goes : (cs : List ℤ) → d + 1 ≤ at.depth → (d + 1 + length (drop 1 cs) ≡ at.depth → StandsFor lines h w (point (q + 1) (reverse (drop 1 cs) ++ (first_count cs ∷ ts))))
           → d + length cs ≡ at.depth → StandsFor lines h w (point (q + 1) (reverse cs ++ ts))
       goes [] deep on same = absurd (omega arith)
       goes (n ∷ cs) deep on same = subst (λ ns. StandsFor lines h w (point (q + 1) ns)) (sym (reverse_one n cs ts)) (on (omega arith))
@@ -167,7 +167,7 @@ module _ (lines : List Line) (h : Heads) where
           let again = does_back lines h j q (d + 1) past (leads h x here) _ (Turns (first_count cs) x) w parts.back loop.has.0 refl (record { depth = d + 1; here = here; code = loop }) rest in
           let back : LineIs j (d + 1) (leads h x here) = record { is = _; at = parts.back; depth = refl; place = refl } in
           found_at d cs refl (before_last (q + 1) (body_lines h x (q + 1) (d + 1) here) (line (leads h x here) (d + 1) (op.Jump q)) k refl)
-          (found_turn d cs (counts_in w) (found_body x k (q + 1) (d + 1) j here (rest_of cs) (Turns (first_count cs) x ∷ w) whole parts.body back again))
+          (found_turn d cs (counts_in w) (found_body x k (q + 1) (d + 1) j here (drop 1 cs) (Turns (first_count cs) x ∷ w) whole parts.body back again))
 
       pub found_body : (b : Body) (k p d past : ℕ) (here : Place) (cs : List ℤ) (w : List Work) → BodyIsWhole h n b here → Between lines p (body_lines h b p d here) past → LineIs past d (leads h b here) → Does lines h past w
           → Found d cs (counts_in w) (stop_from p (body_lines h b p d here) k) (after_body b k cs w) (stop_in h b k d here) (stop_at b k)

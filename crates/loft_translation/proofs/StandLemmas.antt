@@ -1,5 +1,5 @@
 -- The same threads stand in a program and in its code: they have as many stops, and each is the same in both.
-use Rattle.std.proofs.Common.{◌≡◌, ℕ, zero, suc, ◌+◌, inl, inr, false, List, [], ◌∷◌, ◌++◌, length, reverse, Option, Some, None, slice_get, refl, sym, ap, ◌∙◌, subst, arith, count_by, cond, add-zero, ◌⊎◌}
+use Rattle.std.proofs.Common.{◌≡◌, ℕ, zero, suc, ◌+◌, inl, inr, false, List, [], ◌∷◌, ◌++◌, length, reverse, Option, Some, None, slice_get, refl, sym, ap, ◌∙◌, subst, arith, count_by, cond, add-zero, ◌⊎◌, unwrap_or}
 use Rattle.std.proofs.lemmas.List.Sums.{sum_by-append}
 use Rattle.std.proofs.lemmas.Option.{slice_get_within}
 use Rattle.loft_base.specs.declared.ids.ModuleId.{ModuleId}
@@ -15,7 +15,7 @@ use Rattle.loft_orders.specs.declared.thread.Frame.{Frame}
 use Rattle.loft_orders.specs.declared.thread.Thread.{Thread}
 use Rattle.loft_orders.specs.declared.thread.Wait.{Wait}
 use Rattle.loft_sense.specs.Machine.{Prog, Tree, Code}
-use Rattle.loft_sense.specs.Tree.{body_or_empty, body_at}
+use Rattle.loft_sense.specs.Tree.{body_at}
 use Rattle.loft_sense.specs.Code.{lines_at}
 use Rattle.loft_sense.specs.Stands.{StopAt, begin_of, leads_step, leads, stop_in, line_stop, program_stop, ValuesAgree, FrameStands, OuterStand, FramesStand, Stands}
 use Rattle.loft_stand.specs.Numbered.{stops_in, body_stops}
@@ -94,7 +94,7 @@ module _ (p : Resolved) where
 
       by : ((b : Body) × (slice_get p.bodies m.0 ≡ Some b)) ⊎ (slice_get p.bodies m.0 ≡ None) → stops (lines_at (compiled p) m) ≡ body_stops (body_at p m)
       by (inl (b, e)) = ap stops (lines_are p m b e) ∙ code_counted b ∙ ap body_stops (sym (body_is p m b e))
-      by (inr e) = ap stops (no_lines p m e) ∙ ap (λ o. body_stops (body_or_empty o)) (sym e)
+      by (inr e) = ap stops (no_lines p m e) ∙ ap (λ o. body_stops (unwrap_or o Empty)) (sym e)
 
   module _ (whole : IsWhole p) (m : ModuleId) (b : Body) (is : slice_get p.bodies m.0 ≡ Some b) where
     -- its body, where it begins

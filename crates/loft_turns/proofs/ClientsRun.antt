@@ -20,14 +20,14 @@ use Rattle.loft_orders.specs.declared.order.Sent.{Sent}
 use Rattle.loft_orders.specs.declared.order.To.{To}
 use Rattle.loft_orders.specs.declared.order.To.TheVariants.{Sched, Others, All, Workers}
 use Rattle.loft_sense.specs.Machine.{Prog, heads}
-use Rattle.loft_history.specs.Clients.{orders_from, orders_or_none, outside_of}
+use Rattle.loft_history.specs.Clients.{orders_from, outside_of, orders_of}
 use Rattle.loft_history.specs.History.{ClientBy, unsent, is_create, creates, entry_of_first, entry_of, creates_step, instant_step, unsent_step}
 use Rattle.loft_history.specs.Legal.{of, FitsOne}
 use Rattle.loft_history.proofs.HistoryLemmas.{log-append, unsent_none}
 use Rattle.loft_history.proofs.OwnLemmas.{given}
 use Rattle.loft_sense.specs.Heads.{scheduler}
 use Rattle.loft_world.specs.State.{State, IsToOne, IsForClients, with_entry}
-use Rattle.loft_steps.specs.Clients.{orders_at, orders_of, HasEvent}
+use Rattle.loft_steps.specs.Clients.{orders_at, HasEvent}
 use Rattle.loft_turns.specs.Course.{stand_after, hand_after, gave, orders_left, Course, IsRun, CanRun, Moves}
 use Rattle.loft_turns.proofs.CourseLemmas.{moved_by, stays}
 use Rattle.loft_turns.proofs.RunsOn.{grown, hand_kept, hand_is, gave_more, same_stand_by, same_map, set_one, from_none}
@@ -171,7 +171,7 @@ orders_now x o r c m run first k = by (k == c) refl
     h = r.world.history
 
     all : ℕ → List ClientOrder
-    all j = orders_or_none (slice_get (heads x).clients j)
+    all j = orders_of (heads x) j
 
     other : k == c ≡ false → unsent (heads x) k (h ++ Client c m ∷ []) ≡ orders_left x k (h ++ Client c m ∷ []) (gave (h ++ Client c m ∷ []) k)
     other is =

@@ -16,7 +16,7 @@ use Rattle.loft_sense.specs.Rest.{is_spent}
 use Rattle.loft_sense.proofs.TallyLemmas.{unspent_number}
 use Rattle.loft_sense.specs.Instant.{Replayed, replay}
 use Rattle.loft_history.specs.History.{Choice, TakeBy, GiveBy, ClientBy, in_instant, is_open, jobs, unposted, unsent, replayed, has_turn, waiting, sent_last, entry_of_first, pick_of, entry_of, HasEnded, instant_step, unposted_step, unsent_step}
-use Rattle.loft_sense.proofs.AroundLemmas.{instant_number}
+use Rattle.loft_sense.proofs.InstantLemmas.{instant_number}
 use Rattle.loft_history.proofs.HistoryLemmas.{unsent_none, on_first}
 use Rattle.loft_base.specs.Options.{HasWorkers}
 use Rattle.loft_turns.specs.Course.{Stand, Moves}

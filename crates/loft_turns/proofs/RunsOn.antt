@@ -1,5 +1,5 @@
 -- A run with one entry more.
-use Rattle.std.proofs.Common.{◌≡◌, ◌≢◌, ℕ, zero, suc, ◌+◌, ◌<◌, ◌≤◌, ◌==◌, Bool, true, false, List, [], ◌∷◌, ◌++◌, map, length, refl, sym, ◌∙◌, ap, subst, append-nil, arith, Option, Some, None, Result, Ok, Err, ◌||◌, slice_get, slice_index_or}
+use Rattle.std.proofs.Common.{◌≡◌, ◌≢◌, ℕ, zero, suc, ◌+◌, ◌<◌, ◌≤◌, ◌==◌, Bool, true, false, List, [], ◌∷◌, ◌++◌, map, length, refl, sym, ◌∙◌, ap, subst, append-nil, arith, Option, Some, None, Result, Ok, Err, ◌||◌, slice_index_or}
 use Rattle.std.proofs.lemmas.Bool.{eqb-true, ltb-true}
 use Rattle.std.proofs.lemmas.List.{map-append}
 use Rattle.std.proofs.Math.ListN.{set}
@@ -10,7 +10,6 @@ use Rattle.std.proofs.lemmas.List.Elements.{filter-append}
 use Rattle.std.proofs.lemmas.List.Sums.{fold-append}
 use Rattle.loft_base.specs.declared.ids.SchedId.{SchedId}
 use Rattle.loft_tree.specs.declared.heads.Heads.{Heads}
-use Rattle.loft_orders.specs.declared.entry.Actor.{Actor}
 use Rattle.loft_orders.specs.declared.entry.Actor.TheVariants as actor
 use Rattle.loft_orders.specs.declared.entry.Entry.{Entry}
 use Rattle.loft_orders.specs.declared.entry.Entry.TheVariants.{Take, Give, Pick, Post, Client}
@@ -20,7 +19,7 @@ use Rattle.loft_orders.specs.declared.order.Sent.{Sent}
 use Rattle.loft_sense.specs.Heads.{scheduler, same_scheduler}
 use Rattle.loft_sense.specs.Machine.{Prog, heads}
 use Rattle.loft_sense.specs.Instant.{replay}
-use Rattle.loft_history.specs.Clients.{orders_from, orders_or_none}
+use Rattle.loft_history.specs.Clients.{orders_from, orders_of}
 use Rattle.loft_history.specs.History.{Choice, TakeBy, GiveBy, PickBy, PostBy, ClientBy, choice_of, log, in_instant, is_open, unposted, is_busy, unsent, creates, replayed, has_turn, waiting, sent_last, entry_of, with_entry, hist_on, hist, creates_step, busy_step, unposted_step, unsent_step, instant_step}
 use Rattle.loft_history.specs.Legal.{actor_of, same_actor, of}
 use Rattle.loft_history.proofs.HistoryLemmas.{choice_kept, log-append}
@@ -125,8 +124,8 @@ pub orders_same : (x : Prog) (h g : List Entry) (k : ℕ) → SameClients x h g 
 orders_same x h g k same is =
     same.unsent k
     ∙ (is
-    ∙ (ap (λ (n : ℕ). orders_from (heads x) k n (drop (gave h k) (orders_or_none (slice_get (heads x).clients k)))) (sym (same.creates k))
-    ∙ ap (λ (n : ℕ). orders_from (heads x) k (creates k g) (drop n (orders_or_none (slice_get (heads x).clients k)))) (sym (same.gave k))))
+    ∙ (ap (λ (n : ℕ). orders_from (heads x) k n (drop (gave h k) (orders_of (heads x) k))) (sym (same.creates k))
+    ∙ ap (λ (n : ℕ). orders_from (heads x) k (creates k g) (drop n (orders_of (heads x) k))) (sym (same.gave k))))
 
 -- another scheduler stands as before
 other_index : (a b : SchedId) → a.0 ≢ b.0 → same_scheduler a b ≡ false

@@ -1,9 +1,9 @@
 -- The work that is left in a module, as it is kept in memory.
-use Rattle.std.specs.Prelude.{◌≡◌, ℕ, zero, suc, ℤ, List, [], ◌∷◌, Option, Some, None}
+use Rattle.std.specs.Prelude.{◌≡◌, ℕ, zero, suc, ℤ, List, [], ◌∷◌, Option, Some, None, unwrap_or}
 use Rattle.loft_tree.specs.declared.named.NamedStmt.{NamedStmt}
 use Rattle.loft_tree.specs.NamedView.{term_of, statement_of, statements_of}
 use Rattle.loft_tree.specs.Resolved.{Pause, Step, Body, exp_of, step_of, body_of}
-use Rattle.loft_sense.specs.Tree.{Work, Begin, Again, Turns, body_then, work_or_none, after_body, stop_at, pause_of_step}
+use Rattle.loft_sense.specs.Tree.{Work, Begin, Again, Turns, body_then, after_body, stop_at, pause_of_step}
 use Rattle.std.specs.Borrow.{Bor}
 use Rattle.loft_walk.specs.declared.work.Piece.{Piece}
 use Rattle.loft_walk.specs.declared.work.Piece.TheVariants as piece
@@ -49,7 +49,7 @@ IsFound None stop after old new = (stop ≡ None) × (after ≡ None) × (new �
 -- what is left of a body after stop k, and what that stop waits for; the begin counts as stop 0
 abbrev pub work_after : Body → ℕ → List ℤ → List Work
 work_after body zero counts = body_then body []
-work_after body (suc k) counts = work_or_none (after_body body (suc k) counts [])
+work_after body (suc k) counts = unwrap_or (after_body body (suc k) counts []) []
 
 abbrev pub pause_after : Body → ℕ → Option Pause
 pause_after body zero = None

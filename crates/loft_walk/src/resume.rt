@@ -1,7 +1,7 @@
 //! Where a frame goes on after its stop (docs/SEMANTICS.md, "Tree").
 
-ghost use Rattle.std.specs.Prelude.{◌≡◌, IfOk};
-ghost use Rattle.loft_sense.specs.Tree.{after_step, after_body, stop_at_step, stop_at, first_count as first_of, rest_of};
+ghost use Rattle.std.specs.Prelude.{◌≡◌, IfOk, drop};
+ghost use Rattle.loft_sense.specs.Tree.{after_step, after_body, stop_at_step, stop_at, first_count as first_of};
 ghost use Rattle.loft_walk.specs.Pieces.{IsFound, work_of, body_from, step_from};
 
 use crate::work::Piece;
@@ -101,7 +101,7 @@ fn find_in_statement<'a>(
     }
 }
 
-/// The first count, 0 where there is none.
+/// The first count, 0 if there is none.
 fn first_count(counts: &[i64]) -> i64
     ensures { result ≡ first_of counts.now }
 {
@@ -113,7 +113,7 @@ fn first_count(counts: &[i64]) -> i64
 
 /// The counts after the first.
 fn inner_counts(counts: &[i64]) -> &[i64]
-    ensures { result.now ≡ rest_of counts.now }
+    ensures { result.now ≡ drop 1 counts.now }
 {
     match counts.split_first() {
         None => counts,

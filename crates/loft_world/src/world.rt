@@ -12,7 +12,7 @@ use crate::counts::{Counts, add_one_if, count_in, make_room};
 use crate::orders::add_all;
 use crate::start::starts_of_each;
 use loft_base::{EventId, NoMemory, SchedId, Sequence, TryClone, try_clone_all};
-use loft_orders::{Entry, Order, Orders, Sent, Sents, SharedThread, Thread};
+use loft_orders::{BoxedSent, Entry, Order, Orders, Sent, Sents, SharedThread, Thread};
 use loft_tree::Heads;
 use std::alloc::Global;
 use std::collections::{BTreeMap, VecDeque};
@@ -142,7 +142,7 @@ impl World {
         ensures ok { OnOk result (self.new ≡ with_entry self.old (entry.Post w sent.now)) }
         ensures err { OnErr result (self.new ≡ self.old) }
     {
-        let copy = sent.try_clone(alloc)?;
+        let copy = BoxedSent::copy_of(alloc, sent)?;
         self.append(alloc, Entry::Post { w, sent: copy }, slice::from_ref(sent))
     }
 
@@ -156,7 +156,7 @@ impl World {
         ensures err { OnErr result (self.new ≡ self.old) }
     {
         make_room(&mut self.creates, c)?;
-        let copy = sent.try_clone(alloc)?;
+        let copy = BoxedSent::copy_of(alloc, sent)?;
         let entry = Entry::Client { c, sent: copy };
         add(
             alloc,

@@ -1,4 +1,4 @@
-use Rattle.std.specs.Prelude.{◌||◌, is_some}
+use Rattle.std.specs.Prelude.{is_none, ◌||◌, is_some}
 use Rattle.std.proofs.Common.{◌≡◌, ◌+◌, ℕ, Bool, List, ◌∷◌, Option, Some, drop, drop-cons, add-one, refl, sym, ap, subst, ◌∙◌}
 use Rattle.loft_tree.specs.declared.named.NamedStmt.{NamedStmt}
 use Rattle.loft_tree.specs.NamedTree.{NamedStatement, If, While, Repeat}
@@ -6,7 +6,6 @@ use Rattle.loft_tree.specs.NamedView.{term_of, statement_of, statements_of}
 use Rattle.loft_tree.specs.Resolved.{exp_of, body_of}
 use Rattle.loft_tree.proofs.NamedTrees.{named_if, named_while, named_repeat}
 use Rattle.loft_budget.specs.Steps.{literal, body_steps}
-use Rattle.loft_budget.specs.Bounds.{is_none}
 use Rattle.loft_body.specs.Capped.{entry}
 use Rattle.loft_budget.specs.Verdicts.{endless_if, endless_of, endless_in}
 use Rattle.loft_body.specs.First.{first_of}

@@ -1,8 +1,8 @@
+use Rattle.std.specs.Prelude.{is_none}
 use Rattle.std.proofs.Common.{sym, ◌∙◌}
 use Rattle.loft_tree.specs.NamedView.{term_of, statements_of}
 use Rattle.loft_tree.specs.Resolved.{exp_of, body_of}
 use Rattle.loft_budget.specs.Steps.{literal, body_steps}
-use Rattle.loft_budget.specs.Bounds.{is_none}
 use Rattle.loft_body.specs.Capped.{entry}
 use Rattle.loft_body.proofs.Finds.{some_counts, none_counts}
 use Rattle.loft_body.proofs.find.repeat_ends.Goals as goal

@@ -1,4 +1,5 @@
-use Rattle.loft_sense.proofs.AroundLemmas.{run_follows, pass_follows, passes_follow, instant_board, instant_known}
+use Rattle.loft_sense.proofs.InstantLemmas.{instant_board, instant_known}
+use Rattle.loft_sense.proofs.AroundLemmas.{run_follows, pass_follows, passes_follow}
 use Rattle.loft_sense.proofs.run_laws.acts_tell_what_was_done.Goals as goal
 
 pub returns-clause-run : goal.returns-clause-run

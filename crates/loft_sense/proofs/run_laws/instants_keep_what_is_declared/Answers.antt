@@ -1,4 +1,5 @@
-use Rattle.loft_sense.proofs.AroundLemmas.{passes_follow, applied_events, instant_shared, instant_number, instant_scheduler}
+use Rattle.loft_sense.proofs.InstantLemmas.{applied_events, instant_shared, instant_number, instant_scheduler}
+use Rattle.loft_sense.proofs.AroundLemmas.{passes_follow}
 use Rattle.loft_sense.proofs.run_laws.instants_keep_what_is_declared.Goals as goal
 
 pub returns-clause-scheduler : goal.returns-clause-scheduler

@@ -1,4 +1,4 @@
-use Rattle.loft_sense.proofs.AroundLemmas.{instant_entries, instant_creates}
+use Rattle.loft_sense.proofs.InstantLemmas.{instant_entries, instant_creates}
 use Rattle.loft_sense.proofs.run_laws.instants_make_few_entries.Goals as goal
 
 pub returns-clause-entries : goal.returns-clause-entries

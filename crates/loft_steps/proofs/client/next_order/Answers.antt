@@ -4,8 +4,8 @@ use Rattle.std.specs.Option.{option_map}
 use Rattle.loft_tree.specs.declared.heads.ClientOrder.{ClientOrder}
 use Rattle.loft_tree.specs.Fits.{Each}
 use Rattle.loft_orders.specs.declared.order.Sent.{Sent}
-use Rattle.loft_history.specs.Clients.{orders_from}
-use Rattle.loft_steps.specs.Clients.{orders_of, HasEvent}
+use Rattle.loft_history.specs.Clients.{orders_from, orders_of}
+use Rattle.loft_steps.specs.Clients.{HasEvent}
 use Rattle.loft_steps.proofs.ClientLemmas.{from_there, none_there, first_sent}
 use Rattle.loft_steps.proofs.client.next_order.Goals as goal
 

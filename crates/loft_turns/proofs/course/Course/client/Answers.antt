@@ -1,8 +1,8 @@
 use Rattle.std.proofs.Common.{◌≡◌, ◌∙◌, ℕ, ◌+◌, ◌<◌, ◌≤◌, sym, ap, subst, length, true, false, Some, None, slice_get}
 use Rattle.std.specs.Prelude.{drop}
 use Rattle.loft_sense.specs.Machine.{heads}
-use Rattle.loft_steps.specs.Clients.{orders_of}
 use Rattle.loft_history.specs.History.{ClientBy, creates}
+use Rattle.loft_history.specs.Clients.{orders_of}
 use Rattle.loft_turns.specs.Course.{Course, IsRun, gave, orders_left, Moves}
 use Rattle.loft_turns.proofs.ClientsRun.{no_client, no_order, events_declared, order_now, goes_to_one, is_for_clients, gave_there, given_by, ordered, so_many_given}
 use Rattle.loft_turns.proofs.course.Course.client.Goals as goal

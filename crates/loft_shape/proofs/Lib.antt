@@ -1,0 +1,12 @@
+pub mod WordLemmas
+pub mod Names
+pub mod Last
+pub mod HonestSets
+pub mod ClearSets
+pub mod Batch
+pub mod ClearReport
+pub mod Verdicts
+pub mod Spelled
+pub mod Kept
+pub mod Blocks
+pub mod OneText
