@@ -2,7 +2,7 @@
 use Rattle.std.specs.Prelude.{ℕ, ◌-◌, ◌≤◌, ◌==◌, ℤ, pos, negsuc, List, map, Option, Some, None, option_map, if◌then◌else◌}
 use Rattle.std.specs.List.{All}
 use Rattle.loft_orders.specs.declared.thread.Wait.{Wait}
-use Rattle.loft_orders.specs.declared.thread.Wait.TheVariants.{New, Coop, Events, Index, Next, Join, Halt}
+use Rattle.loft_orders.specs.declared.thread.Wait.TheVariants.{Coop, Events, Index, Next, Join}
 use Rattle.loft_waits.specs.declared.entry.Entry.{Entry}
 
 -- a number left, so many closes later
@@ -10,15 +10,13 @@ abbrev pub lowered_by : ℕ → ℤ → ℤ
 lowered_by age (pos n) = pos (n - age)
 lowered_by age (negsuc n) = negsuc n
 
--- a wait, so many closes later
+-- a wait, so many closes later; one without a number or a value stays
 abbrev pub aged : ℕ → Wait → Wait
-aged age New = New
 aged age (Coop left) = Coop (lowered_by age left)
 aged age (Events events left) = Events events (option_map (lowered_by age) left)
 aged age (Index event at) = if age == 0 then Index event at else Next
-aged age Next = Next
 aged age (Join thread left) = Join thread (option_map (lowered_by age) left)
-aged age Halt = Halt
+aged age w = w
 
 -- the wait of an entry as it is now
 abbrev pub wait_now : ℕ → Entry → Wait
