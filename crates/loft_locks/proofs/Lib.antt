@@ -1,0 +1,14 @@
+pub mod ShareLemmas
+pub mod PairLemmas
+pub mod KeepLemmas
+pub mod PointLemmas
+pub mod Levels
+pub mod EndLemmas
+pub mod StepLemmas
+pub mod WakeLemmas
+pub mod PassLemmas
+pub mod LostLemmas
+pub mod LockHistory
+pub mod ExampleLemmas
+pub mod RefusalLemmas
+pub mod RuleLemmas
