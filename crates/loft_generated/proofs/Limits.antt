@@ -1,11 +1,11 @@
 -- The program of a generated source keeps the limits of the language.
-use Rattle.std.proofs.Common.{arith, ◌≡◌, ℕ, zero, suc, ◌+◌, ◌*◌, ◌%◌, ◌<◌, ◌≤◌, Bool, true, false, cond, pos, List, [], ◌∷◌, map, length, refl, ap, sym, ◌∙◌, inl, fold, add-zero, mod-lt}
+use Rattle.std.proofs.Common.{arith, ◌≡◌, ℕ, zero, suc, ◌+◌, ◌%◌, ◌<◌, ◌≤◌, Bool, false, cond, List, [], ◌∷◌, map, length, refl, ap, sym, ◌∙◌, inl, fold, add-zero, mod-lt}
 use Rattle.std.specs.List.{count_by, range_with_len}
 use Rattle.std.proofs.lemmas.List.FromFn.{length-range_with_len}
 use Rattle.loft_lex.specs.Bytes.{max_number}
 use Rattle.loft_lex.specs.Word.{word_of}
-use Rattle.loft_tree.specs.Source.{Ident, Statement, Declaration}
-use Rattle.loft_tree.specs.Fits.{CallFits, DeclarationFits, Each, ExpressionFits, ModuleFits, NameFits, SourceFits, StatementFits, is_event, is_module, is_outside, is_scheduler, is_shared, is_start}
+use Rattle.loft_tree.specs.Source.{Ident, Declaration}
+use Rattle.loft_tree.specs.Fits.{DeclarationFits, Each, NameFits, SourceFits, StatementFits, is_event, is_module, is_outside, is_scheduler, is_shared, is_start}
 use Rattle.loft_gen.specs.Generated.{rounds_of, threads_of}
 use Rattle.loft_generated.specs.Walks.{add, walks_of, start, walk, walks}
 
@@ -24,10 +24,15 @@ walk_fits rounds le = record {
   end = tt;
   each_local = (refl, tt);
   few_locals = omega arith;
-  statements =
-      ((31, refl, record { words = (rounds, le, refl); nests = omega arith; few = omega arith },
-        (add_fits _ _ 31 refl refl, (refl, (add_fits _ _ 31 refl refl, (refl, (add_fits _ _ 31 refl refl, (refl, (add_fits _ _ 31 refl refl, (tt, (add_fits _ _ 31 refl refl, (refl, tt))))))))))),
-        (add_fits _ _ 32 refl refl, tt));
+  statements = (
+    (
+      31,
+      refl,
+      record { words = (rounds, le, refl); nests = omega arith; few = omega arith },
+      (add_fits _ _ 31 refl refl, (refl, (add_fits _ _ 31 refl refl, (refl, (add_fits _ _ 31 refl refl, (refl, (add_fits _ _ 31 refl refl, (tt, (add_fits _ _ 31 refl refl, (refl, tt)))))))))),
+    ),
+    (add_fits _ _ 32 refl refl, tt),
+  );
   few_statements = omega arith;
 }
 
@@ -41,10 +46,31 @@ starts_fit first (suc many) le = (start_fits first (omega arith), starts_fit (fi
 
 walks_fit : (rounds first many : ℕ) → rounds ≤ max_number → first + many ≤ 1000 → Each DeclarationFits (walks rounds (range_with_len first many))
 unfolding word_of
-walks_fit rounds first many le few =
-    (refl, (refl, (refl, (refl,
-    ((refl, refl, (0, omega arith, inl refl)), ((refl, refl, (0, omega arith, inl refl)), ((refl, refl, (0, omega arith, inl refl)), ((refl, refl, (0, omega arith, inl refl)),
-    (walk_fits rounds le, starts_fit first many few)))))))))
+walks_fit rounds first many le few = (
+  refl,
+  (
+    refl,
+    (
+      refl,
+      (
+        refl,
+        (
+          (refl, refl, (0, omega arith, inl refl)),
+          (
+            (refl, refl, (0, omega arith, inl refl)),
+            (
+              (refl, refl, (0, omega arith, inl refl)),
+              (
+                (refl, refl, (0, omega arith, inl refl)),
+                (walk_fits rounds le, starts_fit first many few),
+              ),
+            ),
+          ),
+        ),
+      ),
+    ),
+  ),
+)
 
 -- ---- how many there are
 

@@ -1,7 +1,6 @@
 -- A generated source is short.
-use Rattle.std.proofs.Common.{arith, ◌≡◌, ℕ, zero, suc, ◌+◌, ◌*◌, ◌<◌, ◌≤◌, ◌^◌, List, [], ◌∷◌, ◌++◌, map, length, refl, ap, ◌∙◌, length-append, codes}
+use Rattle.std.proofs.Common.{arith, ◌≡◌, ℕ, zero, suc, ◌+◌, ◌*◌, ◌≤◌, List, ◌∷◌, ◌++◌, length, ap, ◌∙◌, length-append, codes}
 use Rattle.std.specs.Fmt.{decimal}
-use Rattle.std.specs.List.{range_with_len}
 use Rattle.std.proofs.lemmas.Fmt.{length-decimal-le_succ}
 use Rattle.loft_lex.specs.declared.TheConstants.{MAX_TEXT_LEN}
 use Rattle.loft_gen.specs.Generated.{generated, lines_of, rounds_of, start_line, starts_text, threads_of, walk_lines}
@@ -12,7 +11,7 @@ start_short : (n : ℕ) → n ≤ 1000 → length (start_line n) ≤ 1017
 start_short n le =
     let digits : length (decimal n) ≤ n + 1 = length-decimal-le_succ n (omega arith) in
     let whole : length (codes "start A0.walk(" ++ (decimal n ++ codes ");")) ≡ 14 + (length (decimal n) + 2) =
-        length-append (codes "start A0.walk(") (decimal n ++ codes ");") ∙ ap (λ (k : ℕ). 14 + k) (length-append (decimal n) (codes ");")) in
+    length-append (codes "start A0.walk(") (decimal n ++ codes ");") ∙ ap (λ (k : ℕ). 14 + k) (length-append (decimal n) (codes ");")) in
     omega arith
 
 starts_short : (first many : ℕ) → first + many ≤ 1000 → length (starts_text first many) ≤ 1018 * many
@@ -21,7 +20,7 @@ starts_short first (suc many) le =
     let one : length (start_line first) ≤ 1017 = start_short first (omega arith) in
     let rest : length (starts_text (first + 1) many) ≤ 1018 * many = starts_short (first + 1) many (omega arith) in
     let whole : length (start_line first ++ 10 ∷ starts_text (first + 1) many) ≡ length (start_line first) + suc (length (starts_text (first + 1) many)) =
-        length-append (start_line first) (10 ∷ starts_text (first + 1) many) in
+    length-append (start_line first) (10 ∷ starts_text (first + 1) many) in
     omega arith
 
 walk_short : (rounds : ℕ) → rounds ≤ 5 → length (lines_of (walk_lines rounds)) ≤ 1000
@@ -38,5 +37,5 @@ short k =
     let walk : length (lines_of (walk_lines (rounds_of k))) ≤ 1000 = walk_short (rounds_of k) (rounds_few k) in
     let starts : length (starts_text 1 (threads_of k)) ≤ 1018 * threads_of k = starts_short 1 (threads_of k) (omega arith) in
     let whole : length (generated k) ≡ length (lines_of (walk_lines (rounds_of k))) + length (starts_text 1 (threads_of k)) =
-        length-append (lines_of (walk_lines (rounds_of k))) (starts_text 1 (threads_of k)) in
+    length-append (lines_of (walk_lines (rounds_of k))) (starts_text 1 (threads_of k)) in
     omega arith
