@@ -100,8 +100,12 @@ fresh_line : (f : ℕ) → Law f → (ws : List (List ℕ)) → length ws < suc 
 fresh_line f ih [] few r text last u s = absurd (let h = s.0 in cc)
 fresh_line f ih (w ∷ ws) few r text last u (rest, split, whole, s) =
     let x = each Onward (line_words stage.Fresh) (
-  (λ t. instant_line f ih ws (omega (arith, few)) r w text rest last u split t), (
-  (λ t. state_line f ih ws (omega (arith, few)) r w text rest last u.open_block split t), tt)) w whole in
+      (λ t. instant_line f ih ws (omega (arith, few)) r w text rest last u split t),
+      (
+        (λ t. state_line f ih ws (omega (arith, few)) r w text rest last u.open_block split t),
+        tt,
+      ),
+    ) w whole in
     x.3 (subst (λ o. Sp ws (after_line stage.Fresh o ++ []) (keeps w (enters o (top r))) rest last) x.1 s)
   where
     Onward : Word → Type 0
@@ -162,18 +166,42 @@ left_next f ih ws few sec r w text rest last split named s = onward f ih ws few 
 any_line : (f : ℕ) → Law f → (s : Stage) (ws : List (List ℕ)) → length ws < f → (r : Report) (w text rest : List ℕ) (last : Left grammar) → Inside r → text ≡ w ++ rest
     → AllOf (Follows ws (after_line s) (at (lines s) r) r w text rest last) batch_words
 any_line f ih s ws few r w text rest last i split = (
-  (λ e t. line (blank ∷ part.Order ∷ []) stage.Ordered refl t), (
-  (λ e t. line (blank ∷ part.Order ∷ []) stage.Ordered refl t), (
-  (λ e t. line (blank ∷ part.Order ∷ []) stage.Ordered refl t), (
-  (λ e t. line (blank_id ++ blank ∷ part.Text ∷ []) stage.Acts refl t), (
-  (λ e t. line (blank_id ++ blank ∷ other_name ∷ part.Sent ∷ []) stage.Acts refl t), (
-  (λ e t. line (blank_id ++ blank ∷ other_name ∷ blank ∷ part.Order ∷ []) stage.Acts refl t), (
-  (λ e t. line (blank_id ++ blank ∷ part.Reason ∷ []) (after_end s) refl t), (
-  (λ e t. line (blank_id ++ blank ∷ part.Goal ∷ feed ∷ []) stage.Leaving refl t), (
-  (λ e t. line (blank ∷ thread) stage.Standing refl t), (
-  (λ e t. line shared stage.Changed refl t), (
-  (λ e t. instant_line f ih ws few r w text rest last i.unfinished split t), (
-  (λ e t. state_line f ih ws few r w text rest last i.unfinished.open_block split t), tt))))))))))))
+  (λ e t. line (blank ∷ part.Order ∷ []) stage.Ordered refl t),
+  (
+    (λ e t. line (blank ∷ part.Order ∷ []) stage.Ordered refl t),
+    (
+      (λ e t. line (blank ∷ part.Order ∷ []) stage.Ordered refl t),
+      (
+        (λ e t. line (blank_id ++ blank ∷ part.Text ∷ []) stage.Acts refl t),
+        (
+          (λ e t. line (blank_id ++ blank ∷ other_name ∷ part.Sent ∷ []) stage.Acts refl t),
+          (
+            (λ e t. line (blank_id ++ blank ∷ other_name ∷ blank ∷ part.Order ∷ []) stage.Acts refl t),
+            (
+              (λ e t. line (blank_id ++ blank ∷ part.Reason ∷ []) (after_end s) refl t),
+              (
+                (λ e t. line (blank_id ++ blank ∷ part.Goal ∷ feed ∷ []) stage.Leaving refl t),
+                (
+                  (λ e t. line (blank ∷ thread) stage.Standing refl t),
+                  (
+                    (λ e t. line shared stage.Changed refl t),
+                    (
+                      (λ e t. instant_line f ih ws few r w text rest last i.unfinished split t),
+                      (
+                        (λ e t. state_line f ih ws few r w text rest last i.unfinished.open_block split t),
+                        tt,
+                      ),
+                    ),
+                  ),
+                ),
+              ),
+            ),
+          ),
+        ),
+      ),
+    ),
+  ),
+)
   where
     line : (xs : List Part) (s : Stage) → list_all plain xs ≡ true → Sp ws (xs ++ part.Lines s ∷ []) (at (lines s) (kept section.Instant w r)) rest last → Remains r text last
     line xs s p t = onward f ih ws few xs (lines s) r w text rest last p i split t
@@ -182,15 +210,25 @@ any_line f ih s ws few r w text rest last i split = (
 final_line : (f : ℕ) → Law f → (n : ℕ) (ws : List (List ℕ)) → length ws < f → (r : Report) (w text rest : List ℕ) (last : Left grammar) → Open r → text ≡ w ++ rest
     → AllOf (Follows ws after_final (at (states n) r) r w text rest last) final_words
 final_line f ih n ws few r w text rest last o split = (
-  (λ e t. onward f ih ws few shared (states 0) r w text rest last refl o split t), (
-  (λ e t. scheduler_next f ih ws few section.Final r w text rest last o.none_left split e t), (
-  (λ e t. left_next f ih ws few section.Final r w text rest last split e t), tt)))
+  (λ e t. onward f ih ws few shared (states 0) r w text rest last refl o split t),
+  (
+    (λ e t. scheduler_next f ih ws few section.Final r w text rest last o.none_left split e t),
+    (
+      (λ e t. left_next f ih ws few section.Final r w text rest last split e t),
+      tt,
+    ),
+  ),
+)
 
 thread_line : (f : ℕ) → Law f → (n m : ℕ) (ws : List (List ℕ)) → length ws < f → (r : Report) (w text rest : List ℕ) (last : Left grammar) → Open r → text ≡ w ++ rest
     → AllOf (Follows ws (λ o. blank ∷ thread ++ part.States m ∷ []) (at (states n) r) r w text rest last) thread_words
 thread_line f ih n m ws few r w text rest last o split = (
-  (λ e t. onward f ih ws few (blank ∷ thread) (states m) r w text rest last refl o split t), (
-  (λ e t. onward f ih ws few (blank ∷ thread) (states m) r w text rest last refl o split t), tt))
+  (λ e t. onward f ih ws few (blank ∷ thread) (states m) r w text rest last refl o split t),
+  (
+    (λ e t. onward f ih ws few (blank ∷ thread) (states m) r w text rest last refl o split t),
+    tt,
+  ),
+)
 
 -- the last line
 end_line : (ws : List (List ℕ)) (r : Report) (w text rest : List ℕ) (last : Left grammar) → text ≡ w ++ rest → (menu (word.End ∷ [])).whole w ≡ true → Sp ws (part.Close ∷ []) (at (left 0) r) rest last → Remains r text last
@@ -240,8 +278,11 @@ law (suc f) (w ∷ ws) few [] (left n) r text last p k (rest, split, whole, t) =
 pub first_block : (ws : List (List ℕ)) (r : Report) (text : List ℕ) (last : Left grammar) → r.left ≡ [] → Sp ws (part.Choices 0 ∷ []) (top r) text last → Remains r text last
 first_block [] r text last none s = absurd (let h = s.0 in cc)
 first_block (w ∷ ws) r text last none (rest, split, whole, s) =
-    by_line ws after_blocks (top r) r w text rest last block_words
-    (
-  (λ e t. scheduler_next (suc (length ws)) (law (suc (length ws))) ws (omega arith) section.Told r w text rest last none split e t), (
-  (λ e t. left_next (suc (length ws)) (law (suc (length ws))) ws (omega arith) section.Told r w text rest last split e t), tt))
+    by_line ws after_blocks (top r) r w text rest last block_words (
+      (λ e t. scheduler_next (suc (length ws)) (law (suc (length ws))) ws (omega arith) section.Told r w text rest last none split e t),
+      (
+        (λ e t. left_next (suc (length ws)) (law (suc (length ws))) ws (omega arith) section.Told r w text rest last split e t),
+        tt,
+      ),
+    )
     whole s

@@ -92,11 +92,21 @@ choices_law (suc n) (w ∷ ws) r text last (rest, split, whole, s) = go (choices
 
     picks : Choices_law n → AllOf (λ x. spelling x ≡ w → Picks x) choice_words
     picks ih = (
-      (λ same t. choice_line n (part.Name role.Take) word.Take (λ v. choice.Take v) (λ v u. refl) (λ v. refl) (λ v h. refl) ih ws r text w rest last split same t), (
-      (λ same t. choice_line n (part.Name role.Give) word.Give (λ v. choice.Give v) (λ v u. refl) (λ v. refl) (λ v h. refl) ih ws r text w rest last split same t), (
-      (λ same t. choice_line n (part.Number number.Pick) word.Pick (λ v. choice.Pick (value_of v)) (λ v u. refl) (λ v. refl) (worker_shown word.Pick) ih ws r text w rest last split same t), (
-      (λ same t. choice_line n (part.Number number.Post) word.Post (λ v. choice.Post (value_of v)) (λ v u. refl) (λ v. refl) (worker_shown word.Post) ih ws r text w rest last split same t), (
-      (λ same t. choice_line n (part.Name role.Client) word.Client (λ v. choice.Client v) (λ v u. refl) (λ v. refl) (λ v h. refl) ih ws r text w rest last split same t), tt)))))
+      (λ same t. choice_line n (part.Name role.Take) word.Take (λ v. choice.Take v) (λ v u. refl) (λ v. refl) (λ v h. refl) ih ws r text w rest last split same t),
+      (
+        (λ same t. choice_line n (part.Name role.Give) word.Give (λ v. choice.Give v) (λ v u. refl) (λ v. refl) (λ v h. refl) ih ws r text w rest last split same t),
+        (
+          (λ same t. choice_line n (part.Number number.Pick) word.Pick (λ v. choice.Pick (value_of v)) (λ v u. refl) (λ v. refl) (worker_shown word.Pick) ih ws r text w rest last split same t),
+          (
+            (λ same t. choice_line n (part.Number number.Post) word.Post (λ v. choice.Post (value_of v)) (λ v u. refl) (λ v. refl) (worker_shown word.Post) ih ws r text w rest last split same t),
+            (
+              (λ same t. choice_line n (part.Name role.Client) word.Client (λ v. choice.Client v) (λ v u. refl) (λ v. refl) (λ v h. refl) ih ws r text w rest last split same t),
+              tt,
+            ),
+          ),
+        ),
+      ),
+    )
 
     -- no line of a choice changes where bytes are kept
     stays : AllOf (λ x. keeps w (enters (Some x) (top r)) ≡ top r) choice_words

@@ -10,9 +10,9 @@ mod part;
 mod raw;
 mod word;
 
-pub use part::{NameRole, NumberKind, Part, Section, Stage};
 pub use laws::{
     reports_have_one_text, stops_depend_on_nothing_after_them, texts_are_one_report_or_stop,
 };
+pub use part::{NameRole, NumberKind, Part, Section, Stage};
 pub use raw::{Choice, Choices, RawBlock};
 pub use word::Word;
