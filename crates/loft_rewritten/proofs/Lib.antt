@@ -1,0 +1,10 @@
+pub mod Cutting
+pub mod Starts
+pub mod LockNamesFit
+pub mod FormText
+pub mod FormLemmas
+pub mod Rewritten
+pub mod LockSplit
+pub mod KeptLemmas
+pub mod LockTwice
+pub mod ExampleLemmas

@@ -1,0 +1,8 @@
+use Rattle.loft_rewritten.proofs.ExampleLemmas.{example_is, crowded_is}
+use Rattle.loft_rewritten.proofs.laws.forms_are_replaced.Goals as goal
+
+pub returns-clause-example : goal.returns-clause-example
+returns-clause-example c = example_is
+
+pub returns-clause-crowded : goal.returns-clause-crowded
+returns-clause-crowded c = crowded_is

@@ -1,0 +1,5 @@
+pub mod Avoids
+pub mod Unlimited
+pub mod Pieces
+pub mod AwayLemmas
+pub mod SpelledLocks
