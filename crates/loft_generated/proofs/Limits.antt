@@ -1,11 +1,11 @@
 -- The program of a generated source keeps the limits of the language.
-use Rattle.std.proofs.Common.{arith, ◌≡◌, ℕ, zero, suc, ◌+◌, ◌*◌, ◌%◌, ◌<◌, ◌≤◌, Bool, true, false, cond, pos, List, [], ◌∷◌, map, length, refl, ap, sym, ◌∙◌, inl, fold, add-zero, mod-lt}
+use Rattle.std.proofs.Common.{arith, ◌≡◌, ℕ, zero, suc, ◌+◌, ◌%◌, ◌<◌, ◌≤◌, Bool, false, cond, List, [], ◌∷◌, map, length, refl, ap, sym, ◌∙◌, inl, fold, add-zero, mod-lt}
 use Rattle.std.specs.List.{count_by, range_with_len}
 use Rattle.std.proofs.lemmas.List.FromFn.{length-range_with_len}
 use Rattle.loft_lex.specs.Bytes.{max_number}
 use Rattle.loft_lex.specs.Word.{word_of}
-use Rattle.loft_tree.specs.Source.{Ident, Statement, Declaration}
-use Rattle.loft_tree.specs.Fits.{CallFits, DeclarationFits, Each, ExpressionFits, ModuleFits, NameFits, SourceFits, StatementFits, is_event, is_module, is_outside, is_scheduler, is_shared, is_start}
+use Rattle.loft_tree.specs.Source.{Ident, Declaration}
+use Rattle.loft_tree.specs.Fits.{DeclarationFits, Each, NameFits, SourceFits, StatementFits, is_event, is_module, is_outside, is_scheduler, is_shared, is_start}
 use Rattle.loft_gen.specs.Generated.{rounds_of, threads_of}
 use Rattle.loft_generated.specs.Walks.{add, walks_of, start, walk, walks}
 

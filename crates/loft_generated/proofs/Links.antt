@@ -1,17 +1,16 @@
 -- The links of a generated program are correct.
 use Rattle.std.proofs.Common.{◌≡◌, ◌≢◌, ℕ, zero, suc, List, [], ◌∷◌, map, slice_get, refl, sym, subst}
 use Rattle.loft_base.specs.declared.ids.SchedId.{SchedId}
-use Rattle.loft_base.specs.declared.ids.ModuleId.{ModuleId}
 use Rattle.loft_tree.specs.declared.heads.Place.{Place}
 use Rattle.loft_tree.specs.declared.heads.Place.TheVariants.{Sched, Unlinked}
 use Rattle.loft_tree.specs.declared.heads.Heads.{Heads}
 use Rattle.loft_tree.specs.NamedTree.{NamedModule, NamedProgram}
 use Rattle.loft_tree.specs.Source.{Source}
 use Rattle.loft_scopes.specs.declared.counts.DeclarationCounts.{DeclarationCounts}
-use Rattle.loft_scopes.specs.Scopes.{Declared, after, declared, none_yet}
+use Rattle.loft_scopes.specs.Scopes.{Declared, after, none_yet}
 use Rattle.loft_numbers.specs.Numbers.{heads_of, links_in, modules_in, numbered, starts_in}
 use Rattle.loft_place.specs.Links.{AreMet, IsPlaced, LinksHold, ModuleGoes, begin_of, start_needs}
-use Rattle.loft_generated.specs.Walks.{walks_of, start, walks}
+use Rattle.loft_generated.specs.Walks.{start, walks}
 use Rattle.loft_generated.proofs.Names.{before_starts, declared_is, walk_declared}
 
 abbrev first : Place

@@ -1,11 +1,11 @@
 -- The names and kinds of a generated program are correct.
-use Rattle.std.proofs.Common.{◌≡◌, ℕ, true, List, [], ◌∷◌, ◌++◌, map, None, pos, refl, ap, ◌∙◌, codes}
-use Rattle.loft_tree.specs.Source.{Declaration, Scheduler, Shared, Source}
+use Rattle.std.proofs.Common.{◌≡◌, ℕ, List, [], ◌∷◌, ◌++◌, map, refl, ap, ◌∙◌}
+use Rattle.loft_tree.specs.Source.{Source}
 use Rattle.loft_scopes.specs.declared.counts.DeclarationCounts.{DeclarationCounts}
 use Rattle.loft_scopes.specs.Scopes.{Declared, after, declared, declared_from}
 use Rattle.loft_scopes.specs.declared.error.NameError.{NameError}
 use Rattle.loft_scopes.specs.Faults.{NamesFit, faults, twice_from, uses_from}
-use Rattle.loft_generated.specs.Walks.{walks_of, start, walk, walks}
+use Rattle.loft_generated.specs.Walks.{start, walks}
 
 -- starts without names declare nothing
 none_declared : (n : DeclarationCounts) (ns : List ℕ) → declared_from n (map start ns) ≡ []

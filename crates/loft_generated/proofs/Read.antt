@@ -4,7 +4,6 @@ use Rattle.std.specs.List.{range_with_len}
 use Rattle.loft_tree.specs.Source.{Source}
 use Rattle.loft_tree.specs.Resolved.{resolved_of}
 use Rattle.loft_grammar.specs.Texts.{Reads}
-use Rattle.loft_show.specs.Canon.{Canon}
 use Rattle.loft_show.specs.Places.{without_places}
 use Rattle.loft_show.proofs.reads.Law.{canon_is}
 use Rattle.loft_scopes.specs.Faults.{NamesFit}

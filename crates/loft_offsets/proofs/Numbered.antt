@@ -5,7 +5,7 @@ use Rattle.loft_base.specs.declared.ids.EventId.{EventId}
 use Rattle.loft_base.specs.declared.ids.ModuleId.{ModuleId}
 use Rattle.loft_tree.specs.Source.{Ident, EventName, Expression, Number, Variable, Special, Unary, Binary, Creation, Statement, Assign, AssignCreate, Create, PrintText, PrintValue, Cooperate, Generate, Await, Select, Get, Join, ControlThread, Broadcast, Link, Unlink, Run, Halt, If, While, Repeat, Statements, Done, Then}
 use Rattle.loft_tree.specs.NamedTree as n
-use Rattle.loft_tree.specs.NamedTree.{EventUse, NamedCreation}
+use Rattle.loft_tree.specs.NamedTree.{EventUse}
 use Rattle.loft_show.specs.Places as show
 use Rattle.loft_show.specs.Places.{bare_name, bare_event, bare_expression, bare_value}
 use Rattle.loft_scopes.specs.declared.scope.Scope.{Scope}
