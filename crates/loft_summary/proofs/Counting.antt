@@ -20,7 +20,7 @@ tally_one n total a is = by_test (is_done a) n total a is
 pub tally_append : (n : ℕ) (xs ys : List Act) → tally n (xs ++ ys) ≡ tally (tally n xs) ys
 tally_append n xs ys =
     let both : done_among (xs ++ ys) ≡ done_among xs + done_among ys =
-        ap (λ (zs : List Act). length zs) (filter-append is_done xs ys) ∙ length-append (filter is_done xs) (filter is_done ys) in
+    ap (λ (zs : List Act). length zs) (filter-append is_done xs ys) ∙ length-append (filter is_done xs) (filter is_done ys) in
     omega (arith, both)
 
 -- one after another of a list, of which each has acts
@@ -30,9 +30,9 @@ pub told_more : {A : Type 0} (acts_of : A → List Act) (before : ℕ) (xs : Lis
 told_more {A} acts_of before xs i x n m lt is so_far more =
     let next : i + 1 ≡ suc i = omega arith in
     let split : take (i + 1) xs ≡ take i xs ++ (x ∷ []) =
-        ap (λ (k : ℕ). take k xs) next ∙ take-suc xs i x lt ∙ ap (λ (y : A). take i xs ++ (y ∷ [])) (sym is) in
+    ap (λ (k : ℕ). take k xs) next ∙ take-suc xs i x lt ∙ ap (λ (y : A). take i xs ++ (y ∷ [])) (sym is) in
     let acts : flat_map acts_of (take (i + 1) xs) ≡ flat_map acts_of (take i xs) ++ acts_of x =
-        ap (flat_map acts_of) split ∙ flat_map-append acts_of (take i xs) (x ∷ []) ∙ ap (λ (t : List Act). flat_map acts_of (take i xs) ++ t) (append-nil (acts_of x)) in
+    ap (flat_map acts_of) split ∙ flat_map-append acts_of (take i xs) (x ∷ []) ∙ ap (λ (t : List Act). flat_map acts_of (take i xs) ++ t) (append-nil (acts_of x)) in
     more
     ∙ ap (λ (k : ℕ). tally k (acts_of x)) so_far
     ∙ sym (tally_append before (flat_map acts_of (take i xs)) (acts_of x))
