@@ -12,7 +12,7 @@ use Rattle.loft_lex.specs.declared.token.TokenKind.TheVariants as kind
 use Rattle.loft_lex.specs.Fits.{is_name, IsOfKind}
 use Rattle.loft_lex.specs.Symbol.{What, Named, Keyword, Numeral, Mark, keyword, mark, what_of}
 use Rattle.loft_lex.specs.Tokens.{token_moved}
-use Rattle.loft_lex.specs.Cut.{Cut, IsWhole, lengthens}
+use Rattle.loft_lex.specs.Cut.{IsWhole, lengthens}
 use Rattle.loft_lex.specs.Cut as cut
 use Rattle.loft_lex.proofs.Words.{word_of-spelling}
 use Rattle.loft_lex.proofs.Signs.{sign_of-spelling}
