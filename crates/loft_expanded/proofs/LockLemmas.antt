@@ -1,6 +1,6 @@
 -- A source with the declarations of a lock is an expanded program, where its pairs stand.
 use Rattle.std.proofs.Common.{◌≡◌, ℕ, ◌+◌, ◌==◌, Bool, true, false, List, [], ◌∷◌, ◌++◌, length, Option, Some, None, refl, sym, ap, ◌∙◌, subst, arith}
-use Rattle.std.specs.Prelude.{slice_get, pos, if◌then◌else◌}
+use Rattle.std.specs.Prelude.{slice_get, pos, if◌then◌else◌, unwrap_or}
 use Rattle.std.specs.List.{Contains}
 use Rattle.std.proofs.lemmas.List.{map-append, length-map}
 use Rattle.std.proofs.lemmas.Bool.{eq-eqb}
@@ -13,8 +13,8 @@ use Rattle.loft_tree.specs.Fits.{Each}
 use Rattle.loft_tree.specs.Source.{Ident, Source}
 use Rattle.loft_tree.specs.NamedTree.{NamedModule}
 use Rattle.loft_tree.specs.Resolved as res
-use Rattle.loft_tree.specs.Resolved.{Resolved, resolved_of}
-use Rattle.loft_sense.specs.Tree.{body_or_empty, body_at}
+use Rattle.loft_tree.specs.Resolved.{Resolved, resolved_of, Empty}
+use Rattle.loft_sense.specs.Tree.{body_at}
 use Rattle.loft_sense.specs.Stands.{begin_of, end_of, begin_or_unlinked, end_or_unlinked}
 use Rattle.loft_scopes.specs.declared.counts.DeclarationCounts.{DeclarationCounts}
 use Rattle.loft_scopes.specs.declared.scope.Scope.{Scope}
@@ -233,7 +233,7 @@ module _ (n : LockNames) (at : ℕ → ℕ) (front back : Source) (hold : NamesH
       by false true x y e = absurd cc
       by false false x y e = (λ is. let yes = eq-eqb m.0 k.modules is in cc, λ is. let yes = eq-eqb m.0 (k.modules + 1) is in cc)
 
-  or_empty : (o : Option res.Body) → OfSome (λ (b : res.Body). BodyKeeps lock b) o → BodyKeeps lock (body_or_empty o)
+  or_empty : (o : Option res.Body) → OfSome (λ (b : res.Body). BodyKeeps lock b) o → BodyKeeps lock (unwrap_or o Empty)
   or_empty None f = tt
   or_empty (Some b) f = f
 

@@ -1,5 +1,6 @@
 -- In each history of an expanded program a lock keeps what it promises.
 use Rattle.std.proofs.Common.{◌≡◌, ℕ, zero, suc, ◌+◌, ◌≤◌, ◌==◌, inl, inr, Bool, true, false, List, [], ◌∷◌, ◌++◌, map, take, Option, Some, None, slice_get, refl, sym, ap, ◌∙◌, subst, append_assoc, arith}
+use Rattle.std.specs.Option.{option_map_or}
 use Rattle.std.specs.Prelude.{ℤ, pos, if◌then◌else◌, All}
 use Rattle.std.proofs.lemmas.Bool.{eqb-true, eqb-false}
 use Rattle.loft_base.specs.declared.ids.SchedId.{SchedId}
@@ -34,8 +35,8 @@ use Rattle.loft_sense.specs.Statements.{order_of}
 use Rattle.loft_sense.specs.Fits.{Fits}
 use Rattle.loft_sense.specs.Instant.{instant, Replayed, one_more, replay_on, replay}
 use Rattle.loft_sense.specs.Async.{async}
-use Rattle.loft_sense.proofs.AroundLemmas.{instant_scheduler}
-use Rattle.loft_history.specs.Clients.{orders_from, orders_or_none, outside_of}
+use Rattle.loft_sense.proofs.InstantLemmas.{instant_scheduler}
+use Rattle.loft_history.specs.Clients.{orders_from, outside_of}
 use Rattle.loft_history.specs.History.{sends, log, is_addressed, orders_to, starts_from, starts_of, waiting, job_before, jobs_sent, jobs, unposted, replayed}
 use Rattle.loft_history.specs.Legal.{actor_of, AtEach, IsLegal, IsNoCaller, HasNoCallers, IsCallersEntry, ComesNext}
 use Rattle.loft_history.proofs.LegalEntries.{legal_exactly}
@@ -122,7 +123,7 @@ module _ (p : Resolved) (l : Lock) where
   client_orders h c k (client.Control cn t s ∷ os) f = (control_runs cn t, client_orders h c k os f.1)
   client_orders h c k (client.Broadcast e value ∷ os) f = (tt, client_orders h c k os f.1)
 
-  client_runs : (h : Heads) (c : ℕ) (there : Option ClientHead) → slice_get h.clients c ≡ there → Each (λ (d : ClientHead). Each (OrderKeeps l) d.orders) h.clients → Each (SentRuns p l) (orders_from h c 0 (orders_or_none there))
+  client_runs : (h : Heads) (c : ℕ) (there : Option ClientHead) → slice_get h.clients c ≡ there → Each (λ (d : ClientHead). Each (OrderKeeps l) d.orders) h.clients → Each (SentRuns p l) (orders_from h c 0 (option_map_or (λ d. d.orders) there []))
   client_runs h c None at all = tt
   client_runs h c (Some d) at all = client_orders h c 0 d.orders (each_at (λ (d : ClientHead). Each (OrderKeeps l) d.orders) h.clients c d all at)
 

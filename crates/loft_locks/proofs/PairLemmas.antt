@@ -1,13 +1,13 @@
 -- The work that is left of a module whose `run`s of a lock stand in pairs.
 use Rattle.std.proofs.Common.{◌≡◌, ℕ, zero, suc, ◌+◌, ◌≤◌, ◌==◌, inl, inr, Bool, true, false, List, [], ◌∷◌, Option, Some, None, refl, sym, ap, subst, arith}
-use Rattle.std.specs.Prelude.{◌⊎◌, ◌||◌, ℤ, pos, negsuc, if◌then◌else◌}
+use Rattle.std.specs.Prelude.{◌⊎◌, ◌||◌, ℤ, pos, negsuc, if◌then◌else◌, drop}
 use Rattle.std.proofs.lemmas.Bool.{eqb-true}
 use Rattle.loft_base.specs.declared.ids.ModuleId.{ModuleId}
 use Rattle.loft_tree.specs.declared.heads.Place.{Place}
 use Rattle.loft_tree.specs.declared.heads.Heads.{Heads}
 use Rattle.loft_tree.specs.Resolved.{Pause, Step, Do, Hold, Call, Choose, Loop, Times, Body, Empty, Then, Resolved}
 use Rattle.loft_sense.specs.Run.{Next, Finish, Stuck, Acts, Advances, Tests, Counts, Holds, Runs}
-use Rattle.loft_sense.specs.Tree.{Work, Begin, Again, Turns, body_then, next_begin, next_turn, next_work, first_some, at_stop, first_count, rest_of, after_step, after_body, body_at}
+use Rattle.loft_sense.specs.Tree.{Work, Begin, Again, Turns, body_then, next_begin, next_turn, next_work, first_some, at_stop, first_count, after_step, after_body, body_at}
 use Rattle.loft_sense.specs.Stands.{StopKind, Begins, Pauses, Calls, StopAt, leads_step, stop_in_step, stop_in}
 use Rattle.loft_stand.specs.Numbered.{stops_in, body_stops, StepNumbered, BodyNumbered}
 use Rattle.loft_stand.proofs.NumberLemmas.{elsewhere, found_here, neither, in_first, in_second, none_some, IsOutside, outside_left, outside_right, outside_one, apart}
@@ -167,7 +167,7 @@ module _ (p : Resolved) (l : Lock) (m : ModuleId) (bound : Bool) where
           after_first k (after_body x k cs w) (after_body y k cs w) (stop_in h x k d q) (stop_in h y k d q)
           (after_body_runs x k d cs w q inside inside f.0 g) (after_body_runs y k d cs w q inside inside f.1 g)
       after_step_runs (Loop test x) k d cs w q inside f g = after_body_runs x k d cs (Again test x ∷ w) q inside inside f (f, g)
-      after_step_runs (Times count x) k d cs w q inside f g = after_body_runs x k (d + 1) (rest_of cs) (Turns (first_count cs) x ∷ w) q inside inside f (f, g)
+      after_step_runs (Times count x) k d cs w q inside f g = after_body_runs x k (d + 1) (drop 1 cs) (Turns (first_count cs) x ∷ w) q inside inside f (f, g)
 
       pub after_body_runs : (b : Body) (k d : ℕ) (cs : List ℤ) (w : List Work) (q : Place) (inside ending : Bool) → BodyRuns inside ending b → WorkRuns ending w → AfterRuns k (after_body b k cs w) (stop_in h b k d q)
       after_body_runs Empty k d cs w q inside ending f g = tt

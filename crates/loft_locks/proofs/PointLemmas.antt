@@ -1,6 +1,6 @@
 -- Points of a run as a lock sees them.
 use Rattle.std.proofs.Common.{◌≡◌, ℕ, suc, ◌+◌, ◌≤◌, ◌==◌, inl, inr, Bool, true, false, List, [], ◌∷◌, ◌++◌, map, reverse, Option, Some, None, slice_get, refl, sym, ap, ◌∙◌, subst, arith}
-use Rattle.std.specs.Prelude.{◌⊎◌, ◌||◌, ℤ, pos, if◌then◌else◌}
+use Rattle.std.specs.Prelude.{◌⊎◌, ◌||◌, ℤ, pos, if◌then◌else◌, unwrap_or}
 use Rattle.std.proofs.lemmas.List.{reverse-append}
 use Rattle.std.proofs.lemmas.Bool.{eqb-true}
 use Rattle.loft_base.specs.declared.ids.ModuleId.{ModuleId}
@@ -14,7 +14,7 @@ use Rattle.loft_orders.specs.declared.order.End.{End}
 use Rattle.loft_orders.specs.declared.note.Act.TheVariants as act
 use Rattle.loft_sense.specs.Around.{Around, Beside}
 use Rattle.loft_sense.specs.Run.{Active, Outcome, Held, Left, Ended, ends, frame_of}
-use Rattle.loft_sense.specs.Tree.{Work, Begin, Again, body_or_empty, body_at, tree}
+use Rattle.loft_sense.specs.Tree.{Work, Begin, Again, body_at, tree}
 use Rattle.loft_sense.specs.Stands.{begin_of, end_of, begin_or_unlinked, end_or_unlinked}
 use Rattle.loft_stand.specs.Points.{WorkIsAt}
 use Rattle.loft_stand.proofs.ListLemmas.{each_append}
@@ -111,10 +111,10 @@ module _ (l : Lock) where
 
 module _ (p : Resolved) (l : Lock) (is : IsExpanded p l) where
   pub takes_body : (m : ModuleId) → call_of l m ≡ Takes → body_at p m ≡ lock_body l
-  takes_body m e = ap (λ k. body_or_empty (slice_get p.bodies k)) (is_takes l m e) ∙ ap body_or_empty is.takes
+  takes_body m e = ap (λ k. unwrap_or (slice_get p.bodies k) Empty) (is_takes l m e) ∙ ap (λ (o : Option Body). unwrap_or o Empty) is.takes
 
   pub gives_body : (m : ModuleId) → call_of l m ≡ Gives → body_at p m ≡ unlock_body l
-  gives_body m e = ap (λ k. body_or_empty (slice_get p.bodies k)) (is_gives l m e) ∙ ap body_or_empty is.gives
+  gives_body m e = ap (λ k. unwrap_or (slice_get p.bodies k) Empty) (is_gives l m e) ∙ ap (λ (o : Option Body). unwrap_or o Empty) is.gives
 
   pub takes_begin : (m : ModuleId) → call_of l m ≡ Takes → begin_of p.heads m ≡ Sched l.at
   takes_begin m e = ap (λ k. begin_or_unlinked (slice_get p.heads.modules k)) (is_takes l m e) ∙ is.takes_there.0

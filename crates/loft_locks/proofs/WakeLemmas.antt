@@ -1,6 +1,6 @@
 -- A thread that stands goes on at a point that keeps what a lock promises, and so does its whole run.
 use Rattle.std.proofs.Common.{◌≡◌, ℕ, zero, suc, ◌+◌, ◌==◌, Bool, true, false, List, [], ◌∷◌, map, reverse, length, Option, Some, None, slice_get, refl, sym, ap, ◌∙◌, subst, arith}
-use Rattle.std.specs.Prelude.{◌||◌, ℤ, if◌then◌else◌}
+use Rattle.std.specs.Prelude.{◌||◌, ℤ, if◌then◌else◌, unwrap_or}
 use Rattle.loft_base.specs.declared.ids.ModuleId.{ModuleId}
 use Rattle.loft_base.specs.declared.ids.Value.{Value}
 use Rattle.loft_tree.specs.declared.kinds.Kind.TheVariants.{Int}
@@ -17,7 +17,7 @@ use Rattle.loft_orders.specs.declared.thread.Wait.{Wait}
 use Rattle.loft_sense.specs.Around.{Around, Beside}
 use Rattle.loft_sense.specs.Statements.{target_of, answered}
 use Rattle.loft_sense.specs.Run.{Active, point_of, active_of, go_on, go, beside}
-use Rattle.loft_sense.specs.Tree.{Work, body_then, first_some, after_body, body_at, work_or_none, after, pause_at, tree}
+use Rattle.loft_sense.specs.Tree.{Work, body_then, first_some, after_body, body_at, after, pause_at, tree}
 use Rattle.loft_sense.specs.Machine.{Tree}
 use Rattle.loft_sense.specs.Passes.{run_of}
 use Rattle.loft_sense.specs.Stands.{StopKind, Begins, Pauses, Calls, StopAt, begin_of, end_of, stop_in, tree_stop, ValuesAgree, WaitAgrees, OuterStand, FramesStand, Stands}
@@ -66,12 +66,12 @@ module _ (l : Lock) where
   abbrev left_by : Bool → Bool → Option (List Work)
   left_by a b = first_some (first_some (if a then Some (ask_work l) else None) (first_some (first_some (first_some (if b then Some (again_work l) else None) None) None) None)) (first_some None None)
 
-  stop_by : (a b : Bool) (q : Place) (at : StopAt) → stops_by a b q ≡ Some at → LockStop at (work_or_none (left_by a b)) q
+  stop_by : (a b : Bool) (q : Place) (at : StopAt) → stops_by a b q ≡ Some at → LockStop at (unwrap_or (left_by a b) []) q
   stop_by true b q at e = let same : first_stop q ≡ at = cc in subst (λ s. LockStop s (ask_work l) q) same (record { after = refl; kind = refl; waiting = asks refl })
   stop_by false true q at e = let same : second_stop q ≡ at = cc in subst (λ s. LockStop s (again_work l) q) same (record { after = refl; kind = refl; waiting = tests refl })
   stop_by false false q at e = absurd cc
 
-  lock_stop : (h : Heads) (k : ℕ) (cs : List ℤ) (q : Place) (at : StopAt) → stop_in h (lock_body l) k 0 q ≡ Some at → LockStop at (work_or_none (after_body (lock_body l) k cs [])) q
+  lock_stop : (h : Heads) (k : ℕ) (cs : List ℤ) (q : Place) (at : StopAt) → stop_in h (lock_body l) k 0 q ≡ Some at → LockStop at (unwrap_or (after_body (lock_body l) k cs []) []) q
   lock_stop h k cs q at e = stop_by (1 == k) (2 == k) q at e
 
 -- ---- a module of the program
@@ -90,7 +90,7 @@ module _ (p : Resolved) (l : Lock) (is : IsExpanded p l) (well : IsPlacedTree p)
       let body = takes_body p l is f.module call in
       let found : stop_in p.heads (lock_body l) (suc k) 0 (begin_of p.heads f.module) ≡ Some at = ap (λ x. stop_in p.heads x (suc k) 0 (begin_of p.heads f.module)) (sym body) ∙ e in
       let there = lock_stop l p.heads (suc k) f.counts (begin_of p.heads f.module) at found in
-      let stop : LockStop l at (point_of (tree p) f (suc k)) (begin_of p.heads f.module) = subst (λ x. LockStop l at (work_or_none (after_body x (suc k) f.counts [])) (begin_of p.heads f.module)) (sym body) there in
+      let stop : LockStop l at (point_of (tree p) f (suc k)) (begin_of p.heads f.module) = subst (λ x. LockStop l at (unwrap_or (after_body x (suc k) f.counts []) []) (begin_of p.heads f.module)) (sym body) there in
       subst (λ q. LockStop l at (point_of (tree p) f (suc k)) q) (takes_begin p l is f.module call) stop
 
   -- the module that gives it back has no stop but its begin
@@ -109,7 +109,7 @@ module _ (p : Resolved) (l : Lock) (is : IsExpanded p l) (well : IsPlacedTree p)
       absurd (subst SetsNothing kind none)
   calls_other f (suc k) at m Gives e s kind = absurd (gives_stop f.module k at e s)
 
-  of_after : (m : ModuleId) (bound : Bool) (k : ℕ) (at : StopAt) (o : Option (List Work)) (s : Option StopAt) → s ≡ Some at → AfterRuns p l m bound k o s → KindRuns p l m bound k at.kind (work_or_none o)
+  of_after : (m : ModuleId) (bound : Bool) (k : ℕ) (at : StopAt) (o : Option (List Work)) (s : Option StopAt) → s ≡ Some at → AfterRuns p l m bound k o s → KindRuns p l m bound k at.kind (unwrap_or o [])
   of_after m bound k at None None e f = absurd cc
   of_after m bound k at (Some w) (Some other) e f = let same : other ≡ at = cc in subst (λ (a : StopAt). KindRuns p l m bound k a.kind w) same f
   of_after m bound k at None (Some other) e f = absurd f

@@ -1,15 +1,15 @@
 -- Each lock of an expanded program is kept.
 use Rattle.std.proofs.Common.{◌≡◌, ℕ, zero, suc, Bool, true, false, List, [], ◌∷◌, ◌++◌, map, None, slice_get, refl, sym, subst, ◌∙◌, append_assoc}
+use Rattle.std.specs.Prelude.{unwrap_or}
 use Rattle.loft_base.specs.declared.ids.ModuleId.{ModuleId}
 use Rattle.loft_base.specs.declared.options.RunOptions.{RunOptions}
 use Rattle.loft_tree.specs.Fits.{Each}
 use Rattle.loft_tree.specs.Source.{Source}
 use Rattle.loft_tree.specs.NamedTree.{NamedModule}
-use Rattle.loft_tree.specs.Resolved.{Resolved, body_of}
+use Rattle.loft_tree.specs.Resolved.{Resolved, body_of, Empty}
 use Rattle.loft_orders.specs.declared.entry.Entry.{Entry}
 use Rattle.loft_sense.specs.Machine.{Tree}
 use Rattle.loft_history.specs.Legal.{IsLegal, HasNoCallers}
-use Rattle.loft_sense.specs.Tree.{body_or_empty}
 use Rattle.loft_numbers.specs.Numbers.{numbered}
 use Rattle.loft_locks.specs.Locks.{Lock, Leaves, BodyPairs}
 use Rattle.loft_locks.specs.LocksHold.{LockKept}
@@ -41,7 +41,7 @@ each_of P xs f = each_at P [] xs f
 
 module _ (p : Resolved) (l : Lock) (name : List ℕ) (marks : List Mark) (away : ModuleId → Bool) (leaving : (m : ModuleId) → Leaves p m → away m ≡ true) where
   module_pairs : (ms : List NamedModule) (i : ℕ) → Each (λ (m : NamedModule). pair_fault [] [] (outline marks away m.body) ≡ None) ms → Each (λ (m : NamedModule). leave_fault [] [] (outline marks away m.body) ≡ None) ms
-      → Each (λ (m : NamedModule). BodyMarked l name marks m.body) ms → BodyKeeps l (body_or_empty (slice_get (map (λ (m : NamedModule). body_of m.body) ms) i)) → BodyPairs p l false false (body_or_empty (slice_get (map (λ (m : NamedModule). body_of m.body) ms) i))
+      → Each (λ (m : NamedModule). BodyMarked l name marks m.body) ms → BodyKeeps l (unwrap_or (slice_get (map (λ (m : NamedModule). body_of m.body) ms) i) Empty) → BodyPairs p l false false (unwrap_or (slice_get (map (λ (m : NamedModule). body_of m.body) ms) i) Empty)
   module_pairs [] i a b c keeps = refl
   module_pairs (m ∷ ms) zero a b c keeps = pairs_stand p l name marks away leaving m.body a.0 b.0 keeps c.0
   module_pairs (m ∷ ms) (suc i) a b c keeps = module_pairs ms i a.1 b.1 c.1 keeps

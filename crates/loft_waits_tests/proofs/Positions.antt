@@ -1,5 +1,5 @@
 -- Positions where nobody waits.
-use Rattle.std.proofs.Common.{◌≡◌, ◌++◌, ◌∷◌, [], List, ℕ, suc, length, refl, ap, ◌∙◌, arith, absurd}
+use Rattle.std.proofs.Common.{◌≡◌, ◌++◌, ◌∷◌, [], List, ℕ, zero, suc, length, refl, ap, ◌∙◌, arith}
 use Rattle.std.specs.Prelude.{slice_index_or, Option, None}
 use Rattle.loft_orders.specs.declared.thread.Wait.{Wait}
 use Rattle.loft_waits.specs.Told.{Told, nobody, IsFreeFrom}
@@ -10,8 +10,8 @@ first_free [] h = refl
 first_free (w ∷ ws) h = absurd (omega (arith, h))
 
 none_at : (i : ℕ) → slice_index_or (nobody ∷ nobody ∷ []) i None ≡ None
-none_at 0 = refl
-none_at 1 = refl
+none_at zero = refl
+none_at (suc zero) = refl
 none_at (suc (suc i)) = refl
 
 -- nobody waits at two positions, and none comes after them
