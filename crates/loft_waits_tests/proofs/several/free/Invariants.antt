@@ -3,5 +3,5 @@ use Rattle.std.specs.Prelude.{replicate}
 use Rattle.loft_waits.specs.Told.{nobody, no_counts}
 use Rattle.loft_waits_tests.proofs.several.free.Given as goal
 
-abbrev pub invariant-loop-_position : goal.invariant-loop-_position
-invariant-loop-_position l = l.waits ≡ record { waits = replicate l._position nobody; counts = no_counts 1; ended = []; closes = 0 }
+abbrev pub invariant-loop-position : goal.invariant-loop-position
+invariant-loop-position l = l.waits ≡ record { waits = replicate l._position nobody; counts = no_counts 1; ended = []; closes = 0 }
