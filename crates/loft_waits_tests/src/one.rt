@@ -17,12 +17,12 @@ const HELD: Seen = (false, None, false);
 
 const GOES: Seen = (true, None, false);
 
-const T0: ThreadId = ThreadId {
+const JOINED: ThreadId = ThreadId {
     maker: Maker::Source,
     seq: 0,
 };
 
-const T1: ThreadId = ThreadId {
+const OTHER: ThreadId = ThreadId {
     maker: Maker::Source,
     seq: 1,
 };
@@ -58,7 +58,10 @@ fn second_value() -> Wait {
 
 /// A wait for the end of the thread 0.
 fn join(left: Option<i64>) -> Wait {
-    Wait::Join { thread: T0, left }
+    Wait::Join {
+        thread: JOINED,
+        left,
+    }
 }
 
 #[test]
@@ -66,7 +69,7 @@ fn nothing_to_wait_for(rt: HostRuntime) -> Result<(), Fail> {
     let alloc = rt.alloc();
     assert_eq!(rt; seen(alloc, &[], Wait::New, &[])?, GOES);
     assert_eq!(rt; seen(alloc, &[], Wait::Next, &[])?, (true, None, true));
-    let halt = [Step::Event(1), Step::Ended(T0), Step::Close];
+    let halt = [Step::Event(1), Step::Ended(JOINED), Step::Close];
     assert_eq!(rt; seen(alloc, &[], Wait::Halt, &halt)?, HELD);
     Ok(())
 }
@@ -143,9 +146,9 @@ fn values(rt: HostRuntime) -> Result<(), Fail> {
 #[test]
 fn ends(rt: HostRuntime) -> Result<(), Fail> {
     let alloc = rt.alloc();
-    assert_eq!(rt; seen(alloc, &[], join(None), &[Step::Ended(T1)])?, HELD);
-    assert_eq!(rt; seen(alloc, &[], join(None), &[Step::Ended(T0)])?, GOES);
-    let before = [Step::Ended(T1), Step::Ended(T0), Step::Close];
+    assert_eq!(rt; seen(alloc, &[], join(None), &[Step::Ended(OTHER)])?, HELD);
+    assert_eq!(rt; seen(alloc, &[], join(None), &[Step::Ended(JOINED)])?, GOES);
+    let before = [Step::Ended(OTHER), Step::Ended(JOINED), Step::Close];
     assert_eq!(rt; seen(alloc, &before, join(None), &[])?, GOES);
     assert_eq!(rt;
         seen(alloc, &[], join(Some(1)), &[Step::Close])?,
