@@ -10,6 +10,7 @@ use loft_base::{Limits, NoMemory, SchedId};
 use loft_code::Code;
 use loft_instant::InstantEngine;
 use loft_orders::{FinalState, InstantNote, Orders};
+use loft_passes::WalkAll;
 use loft_sense::Engine;
 use std::alloc::Global;
 
@@ -17,7 +18,7 @@ use std::alloc::Global;
 /// allocation it makes no further one.
 #[derive(Drop)]
 pub struct CodeEngine<'a> {
-    engine: InstantEngine<Stepper<'a>>,
+    engine: InstantEngine<Stepper<'a>, WalkAll>,
 }
 
 impl<'a> CodeEngine<'a> {
@@ -38,7 +39,7 @@ impl<'a> CodeEngine<'a> {
         ensures machine { IfOk result (λ e. machine_of e ≡ empty (code_of e) s) }
         ensures works { IfOk result (λ e. has_failed e ≡ false) }
     {
-        let engine = InstantEngine::new(alloc, Stepper { code: c }, s, l)?;
+        let engine = InstantEngine::new(alloc, Stepper { code: c }, WalkAll, s, l)?;
         Ok(CodeEngine { engine })
     }
 }

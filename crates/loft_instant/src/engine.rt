@@ -1,4 +1,4 @@
-//! The engine over whatever runs one thread.
+//! The engine over whatever runs one thread, and whatever makes the passes of an instant.
 
 ghost use Rattle.std.specs.Prelude.{◌≡◌, ◌≤◌, false, is_none, IfOk, Some};
 ghost use Rattle.loft_sense.specs.Machine.{empty};
@@ -11,15 +11,16 @@ use crate::rest::{all_rest, standings};
 use crate::shared::own_of;
 use loft_base::{Limits, NoMemory, SchedId, Sequence};
 use loft_orders::{FinalState, InstantNote, Orders};
-use loft_passes::Interpreter;
+use loft_passes::{Interpreter, Passes};
 use loft_sense::Engine;
 use std::alloc::Global;
 
 /// The engine of one scheduler: an instant changes what the definitions change, and after a failed allocation it makes no
 /// further one.
 #[derive(Drop)]
-pub struct InstantEngine<I: Interpreter> {
+pub struct InstantEngine<I: Interpreter, P: Passes<I>> {
     setting: Setting<I>,
+    passes: P,
     /// None after a failed allocation.
     state: Option<State>,
     ghost few_instants: { setting.limits.instants ≤ 1000000 },
@@ -27,26 +28,27 @@ pub struct InstantEngine<I: Interpreter> {
         → IsReady setting.events setting.limits.instants s },
 }
 
-impl<I: Interpreter> InstantEngine<I> {
-    /// An engine that has made no instant of this scheduler, over what runs the threads of its program. `NoMemory` comes
-    /// where an allocation fails.
+impl<I: Interpreter, P: Passes<I>> InstantEngine<I, P> {
+    /// An engine that has made no instant of this scheduler, over what runs the threads of its program and
+    /// what makes the passes over them. `NoMemory` comes where an allocation fails.
     pub fn new(
         alloc: Global,
         interpreter: I,
+        passes: P,
         scheduler: SchedId,
         limits: Limits,
-    ) -> Result<InstantEngine<I>, NoMemory>
+    ) -> Result<InstantEngine<I, P>, NoMemory>
         requires range { IsInRange limits }
         ensures program { IfOk result (λ e.
-            ⟦<InstantEngine<I> as Engine>⟧.program e ≡ I.program interpreter) }
+            ⟦<InstantEngine<I, P> as Engine>⟧.program e ≡ I.program interpreter) }
         ensures scheduler { IfOk result (λ e.
-            ⟦<InstantEngine<I> as Engine>⟧.scheduler e ≡ scheduler) }
+            ⟦<InstantEngine<I, P> as Engine>⟧.scheduler e ≡ scheduler) }
         ensures limits { IfOk result (λ e.
-            ⟦<InstantEngine<I> as Engine>⟧.limits e ≡ limits) }
+            ⟦<InstantEngine<I, P> as Engine>⟧.limits e ≡ limits) }
         ensures machine { IfOk result (λ e.
-            ⟦<InstantEngine<I> as Engine>⟧.machine e ≡ empty (I.program interpreter) scheduler) }
+            ⟦<InstantEngine<I, P> as Engine>⟧.machine e ≡ empty (I.program interpreter) scheduler) }
         ensures works { IfOk result (λ e.
-            ⟦<InstantEngine<I> as Engine>⟧.has_failed e ≡ false) }
+            ⟦<InstantEngine<I, P> as Engine>⟧.has_failed e ≡ false) }
     {
         let heads = interpreter.heads();
         let events = heads.events.len() as u32;
@@ -61,12 +63,13 @@ impl<I: Interpreter> InstantEngine<I> {
         };
         Ok(InstantEngine {
             setting,
+            passes,
             state: Some(state),
         })
     }
 }
 
-impl<I: Interpreter> Engine for InstantEngine<I> {
+impl<I: Interpreter, P: Passes<I>> Engine for InstantEngine<I, P> {
     ghost use Rattle.std.specs.Prelude.{refl};
 
     ghost program = { λ e. I.program e.setting.interpreter };
@@ -83,7 +86,7 @@ impl<I: Interpreter> Engine for InstantEngine<I> {
         let Some(state) = self.state.take() else {
             return Err(NoMemory);
         };
-        let (state, note) = self.setting.instant(alloc, state, batch)?;
+        let (state, note) = self.setting.instant(alloc, &mut self.passes, state, batch)?;
         self.state = Some(state);
         Ok(note)
     }

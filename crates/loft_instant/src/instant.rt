@@ -18,7 +18,7 @@ use loft_base::{Limits, NoMemory, SchedId, Sequence, SharedId, ThreadId};
 use loft_board::Board;
 use loft_effect::Around;
 use loft_orders::{Changes, InstantNote, Numbers, Order, Orders, Sents, Threads};
-use loft_passes::{Interpreter, Runner, begin_all, close_all, passes};
+use loft_passes::{Interpreter, Passes, Runner, begin_all, close_all};
 use loft_sense::Tally;
 use loft_tally::{first_tally, tally_after};
 use loft_tree::{Heads, Place};
@@ -126,9 +126,10 @@ impl<I: Interpreter> Setting<I> {
     }
 
     /// Passes over these threads are made until one runs nobody.
-    fn pass(
+    fn pass<P: Passes<I>>(
         &self,
         alloc: Global,
+        passes: &mut P,
         linked: &mut Vec<Runner>,
         around: &mut Around,
     ) -> Result<(), NoMemory>
@@ -138,14 +139,15 @@ impl<I: Interpreter> Setting<I> {
             (around_of around.old)) }
     {
         begin_all(linked, self.limits.budget);
-        passes(alloc, &self.interpreter, linked, around)
+        passes.make(alloc, &self.interpreter, linked, around)
     }
 
     /// What stands around the threads when passes over them have run until one runs nobody, where
     /// they find these values.
-    fn run(
+    fn run<P: Passes<I>>(
         &self,
         alloc: Global,
+        passes: &mut P,
         linked: &mut Vec<Runner>,
         board: Board,
         shared: Numbers,
@@ -177,7 +179,7 @@ impl<I: Interpreter> Setting<I> {
             bound: 0,
             acts: Sequence::new(alloc),
         };
-        self.pass(alloc, linked, &mut around)?;
+        self.pass(alloc, passes, linked, &mut around)?;
         Ok(around)
     }
 
@@ -209,9 +211,10 @@ impl<I: Interpreter> Setting<I> {
     }
 
     /// One instant of a scheduler in this state.
-    pub fn instant(
+    pub fn instant<P: Passes<I>>(
         &self,
         alloc: Global,
+        passes: &mut P,
         state: State,
         orders: &Orders,
     ) -> Result<(State, InstantNote), NoMemory>
@@ -237,7 +240,9 @@ impl<I: Interpreter> Setting<I> {
         } = state;
         keep_values(&mut before, shared.as_slice())?;
         let batch = self.apply(alloc, linked, known, board, orders.as_slice())?;
-        let (mut state, note) = self.after_batch(alloc, batch, shared, before, made, tally)?;
+        let (mut state, note) = self.after_batch(
+            alloc, passes, batch, shared, before, made, tally,
+        )?;
         let heads = self.interpreter.heads();
         state.tally = tally_after(heads, self.scheduler, tally, orders, &note);
         Ok((state, note))
@@ -246,9 +251,10 @@ impl<I: Interpreter> Setting<I> {
     /// What is left of an instant once its batch is applied: the passes, and the close. The shared
     /// values stand twice, as the instant finds them and as it changes them. The instant isn't told
     /// yet.
-    fn after_batch(
+    fn after_batch<P: Passes<I>>(
         &self,
         alloc: Global,
+        passes: &mut P,
         batch: Batch,
         shared: Numbers,
         before: Numbers,
@@ -278,7 +284,7 @@ impl<I: Interpreter> Setting<I> {
             stopped,
             mut sent,
         } = batch;
-        let around = self.run(alloc, &mut linked, board, shared, known, made)?;
+        let around = self.run(alloc, passes, &mut linked, board, shared, known, made)?;
         let (stands, changed) = self.close(
             alloc,
             &mut linked,

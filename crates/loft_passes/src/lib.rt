@@ -6,9 +6,11 @@ mod close;
 mod interpreter;
 mod leavers;
 mod pass;
+mod passes;
 mod runner;
 
 pub use close::close_all;
 pub use interpreter::Interpreter;
-pub use pass::{begin_all, passes};
+pub use pass::{WalkAll, begin_all};
+pub use passes::Passes;
 pub use runner::Runner;

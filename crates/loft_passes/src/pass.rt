@@ -1,12 +1,13 @@
 //! The passes of an instant (docs/SEMANTICS.md, "Passes").
 
-ghost use Rattle.std.specs.Prelude.{◌≡◌, false, map, IfOk, OnOk};
+ghost use Rattle.std.specs.Prelude.{◌≡◌, map, IfOk};
 ghost use Rattle.loft_sense.specs.Instant.{runner_of as begin_of};
-ghost use Rattle.loft_sense.specs.Passes.{pass as pass_over, passes as passes_over};
+ghost use Rattle.loft_sense.specs.Passes.{pass as pass_over};
 ghost use Rattle.loft_effect.specs.View.{around_of};
 ghost use Rattle.loft_passes.specs.View.{standings_of, runners_of, walk_of};
 
 use crate::interpreter::Interpreter;
+use crate::passes::Passes;
 use crate::runner::Runner;
 use loft_base::NoMemory;
 use loft_effect::Around;
@@ -43,20 +44,22 @@ fn pass<I: Interpreter>(
     Ok(ran)
 }
 
-/// Passes until one runs nobody.
-pub fn passes<I: Interpreter>(
-    alloc: Global,
-    interpreter: &I,
-    runners: &mut Vec<Runner>,
-    around: &mut Around,
-) -> Result<(), NoMemory>
-    ensures { OnOk result (walk_of runners.new.items around.new false
-        ≡ passes_over (I.program interpreter.now) (runners_of runners.old.items)
-        (around_of around.old)) }
-{
-    let mut ran = true;
-    'passes: while ran {
-        ran = pass(alloc, interpreter, runners, around)?;
+/// Walks over all threads in each pass.
+#[derive(Clone, Copy)]
+pub struct WalkAll;
+
+impl<I: Interpreter> Passes<I> for WalkAll {
+    fn make(
+        &mut self,
+        alloc: Global,
+        interpreter: &I,
+        runners: &mut Vec<Runner>,
+        around: &mut Around,
+    ) -> Result<(), NoMemory> {
+        let mut ran = true;
+        'passes: while ran {
+            ran = pass(alloc, interpreter, runners, around)?;
+        }
+        Ok(())
     }
-    Ok(())
 }

@@ -10,6 +10,7 @@ use crate::walker::Walker;
 use loft_base::{Limits, NoMemory, SchedId};
 use loft_instant::InstantEngine;
 use loft_orders::{FinalState, InstantNote, Orders};
+use loft_passes::WalkAll;
 use loft_place::Placed;
 use loft_sense::Engine;
 use std::alloc::Global;
@@ -18,7 +19,7 @@ use std::alloc::Global;
 /// failed allocation it makes no further one.
 #[derive(Drop)]
 pub struct PlainEngine<'a> {
-    engine: InstantEngine<Walker<'a>>,
+    engine: InstantEngine<Walker<'a>, WalkAll>,
 }
 
 impl<'a> PlainEngine<'a> {
@@ -39,7 +40,7 @@ impl<'a> PlainEngine<'a> {
         ensures machine { IfOk result (λ e. machine_of e ≡ empty (tree_of e) scheduler) }
         ensures works { IfOk result (λ e. has_failed e ≡ false) }
     {
-        let engine = InstantEngine::new(alloc, Walker { placed }, scheduler, limits)?;
+        let engine = InstantEngine::new(alloc, Walker { placed }, WalkAll, scheduler, limits)?;
         Ok(PlainEngine { engine })
     }
 }

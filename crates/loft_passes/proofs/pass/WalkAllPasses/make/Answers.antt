@@ -1,7 +1,7 @@
 use Rattle.std.proofs.Common.{◌∙◌}
 use Rattle.loft_passes.specs.View.{walk_of}
 use Rattle.loft_passes.proofs.PassLemmas.{next_pass, fewer_passes}
-use Rattle.loft_passes.proofs.pass.passes.Goals as goal
+use Rattle.loft_passes.proofs.pass.WalkAllPasses.make.Goals as goal
 
 pub passes-smaller : goal.passes-smaller
 passes-smaller g c =

@@ -3,7 +3,7 @@ use Rattle.loft_sense.specs.Passes.{passes}
 use Rattle.loft_effect.specs.View.{around_of}
 use Rattle.loft_passes.specs.View.{runners_of, walk_of}
 use Rattle.loft_passes.proofs.PassLemmas.{passes_after, passes_left}
-use Rattle.loft_passes.proofs.pass.passes.Given as goal
+use Rattle.loft_passes.proofs.pass.WalkAllPasses.make.Given as goal
 
 -- the passes that are left end as all of them
 abbrev pub invariant-passes : goal.invariant-passes

@@ -1,0 +1,5 @@
+pub mod CircleLemmas
+pub mod PositionLemmas
+pub mod TellLemmas
+pub mod EnterLemmas
+pub mod RunLemmas
