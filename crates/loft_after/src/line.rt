@@ -105,7 +105,10 @@ impl PartStack {
                 self.put_blank_id(room);
             }
             Some(Word::Leave) => {
-                self.put(room, &[BLANK, Part::Goal, FEED, Part::Lines(Stage::Leaving)]);
+                self.put(
+                    room,
+                    &[BLANK, Part::Goal, FEED, Part::Lines(Stage::Leaving)],
+                );
                 self.put_blank_id(room);
             }
             Some(Word::At) => {

@@ -17,7 +17,10 @@ impl PartStack {
     {
         match word {
             Some(Word::Create) => {
-                self.put(room, &[BLANK, NAME, Part::Sign(b'('), Part::FirstValue, FEED]);
+                self.put(
+                    room,
+                    &[BLANK, NAME, Part::Sign(b'('), Part::FirstValue, FEED],
+                );
                 self.put_blank_id(room);
             }
             Some(Word::Arrive) => self.put_thread(room),

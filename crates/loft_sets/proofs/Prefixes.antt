@@ -1,5 +1,5 @@
 -- What `starts_with` tests is whether bytes are a prefix.
-use Rattle.std.proofs.Common.{◌≡◌, ℕ, nat_eq, Bool, true, false, ◌==◌, ◌&&◌, List, [], ◌∷◌, length, take, refl, ap}
+use Rattle.std.proofs.Common.{◌≡◌, ℕ, nat_eq, Bool, ◌==◌, ◌&&◌, List, [], ◌∷◌, refl, ap}
 use Rattle.std.specs.List.{starts_with}
 use Rattle.loft_spelling.specs.Sets.{is_prefix}
 

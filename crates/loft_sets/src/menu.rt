@@ -60,13 +60,7 @@ pub fn choice_words(left: u64) -> &'static [Word]
     if left == 0 {
         &[Word::Scheduler, Word::Left]
     } else {
-        &[
-            Word::Take,
-            Word::Give,
-            Word::Pick,
-            Word::Post,
-            Word::Client,
-        ]
+        &[Word::Take, Word::Give, Word::Pick, Word::Post, Word::Client]
     }
 }
 

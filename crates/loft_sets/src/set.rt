@@ -10,9 +10,7 @@ use crate::menu::{
     line_words, order_words, reason_words, thread_words, wait_words,
 };
 use crate::name::{begins_maker, begins_name, begins_value, is_maker, is_name, is_value};
-use crate::number::{
-    begins_count, begins_integer, begins_kind, is_count, is_integer, is_of_kind,
-};
+use crate::number::{begins_count, begins_integer, begins_kind, is_count, is_integer, is_of_kind};
 use loft_shape::{Part, Word};
 
 /// The most bytes that a line prints.

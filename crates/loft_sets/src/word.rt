@@ -63,10 +63,7 @@ const ALL: [Word; 48] = [
 fn find_spelled(words: &[Word], bytes: &[u8]) -> Option<Word>
     ensures { result ≡ find (λ one. bytes_eq (spelling one) bytes.now) words.now }
 {
-    words
-        .iter()
-        .copied()
-        .find(|one| spelling_of(*one) == bytes)
+    words.iter().copied().find(|one| spelling_of(*one) == bytes)
 }
 
 /// The word that the bytes spell, if they spell one.
