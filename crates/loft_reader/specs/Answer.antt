@@ -15,10 +15,18 @@ report_in r = record { options = r.options; choices = r.choices; blocks = r.bloc
 abbrev pub HasRead : LogReader → List ℕ → Type 0
 HasRead r text = ReadUpTo r.error r.machine r.length r.feeds text
 
+-- the reader has answered no error
+abbrev pub IsReading : LogReader → Type 0
+IsReading r = r.error ≡ None
+
+-- the reader has answered this error
+abbrev pub GaveUp : LogReader → LogError → Type 0
+GaveUp r e = r.error ≡ Some e
+
 -- an error is kept
 abbrev pub Keeps : {A : Type 0} → Result A LogError → LogReader → Type 0
-Keeps (Ok x) r = r.error ≡ None
-Keeps (Err e) r = r.error ≡ Some e
+Keeps (Ok x) r = IsReading r
+Keeps (Err e) r = GaveUp r e
 
 -- this is answered, or memory ran out
 abbrev pub Answers : Result RawReport LogError → Result Report LogError → Type 0

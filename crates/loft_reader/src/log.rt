@@ -32,7 +32,7 @@ impl LogReader {
     ghost use Rattle.loft_reader.specs.declared.error.LogError.{LogError};
     ghost use Rattle.loft_reader.specs.declared.error.LogError.TheVariants.{NoMemory as no_memory, TooLong};
     ghost use Rattle.loft_reader.specs.Log.{Cause, error_at};
-    ghost use Rattle.loft_reader.specs.Answer.{HasRead, Keeps, Answers, Verdict};
+    ghost use Rattle.loft_reader.specs.Answer.{HasRead, IsReading, GaveUp, Keeps, Answers, Verdict};
 
     /// A reader that was given nothing yet.
     ///
@@ -40,7 +40,8 @@ impl LogReader {
     ///
     /// Out of memory.
     pub fn new(alloc: Global) -> Result<LogReader, NoMemory>
-        ensures { IfOk result (λ r. HasRead r []) }
+        ensures read { IfOk result (λ r. HasRead r []) }
+        ensures reading { IfOk result IsReading }
     {
         Ok(LogReader {
             machine: Machine::new(alloc)?,
@@ -101,8 +102,8 @@ impl LogReader {
         ensures read { (text : List ℕ) → HasRead self.old text → HasRead self.new (text ++ piece.now) }
         ensures goes_on { OnOk result ((text : List ℕ) → HasRead self.old text → (length (text ++ piece.now) ≤ longest) × GoesOn (text ++ piece.now)) }
         ensures cause { IfErr result (λ e. (text : List ℕ) → HasRead self.old text → Cause e (text ++ piece.now)) }
-        ensures kept { (e : LogError) → self.old.error ≡ Some e → result ≡ Err e }
-        ensures too_long { (text : List ℕ) → HasRead self.old text → self.old.error ≡ None → longest < length (text ++ piece.now) → result ≡ Err TooLong }
+        ensures kept { (e : LogError) → GaveUp self.old e → result ≡ Err e }
+        ensures too_long { (text : List ℕ) → HasRead self.old text → IsReading self.old → longest < length (text ++ piece.now) → result ≡ Err TooLong }
         ensures keeps { Keeps result self.new }
     {
         if let Some(e) = self.error {
@@ -129,8 +130,8 @@ impl LogReader {
         ensures verdict { (text : List ℕ) → HasRead self text → Verdict text result }
         ensures report { (text : List ℕ) → HasRead self text → (r : Report) → length text ≤ longest → Shape text r → Answers result (Ok r) }
         ensures stop { (text : List ℕ) → HasRead self text → (k : ℕ) → length text ≤ longest → StopsAt text k → Answers result (Err (error_at text k)) }
-        ensures kept { (e : LogError) → self.error ≡ Some e → result ≡ Err e }
-        ensures memory { result ≡ Err no_memory → self.error ≡ Some no_memory }
+        ensures kept { (e : LogError) → GaveUp self e → result ≡ Err e }
+        ensures memory { result ≡ Err no_memory → GaveUp self no_memory }
     {
         let LogReader {
             machine,
