@@ -1,0 +1,13 @@
+//! Reading a report, whole or in pieces.
+#![tactic(auto)]
+
+mod error;
+mod log;
+mod machine;
+mod raw;
+mod whole;
+
+pub use error::LogError;
+pub use log::{LogReader, MAX_REPORT_LEN};
+pub use raw::RawReport;
+pub use whole::{read_block, read_history, read_report};
