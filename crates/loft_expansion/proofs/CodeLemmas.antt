@@ -1,0 +1,19 @@
+-- Each lock of the code of such a program is kept.
+use Rattle.std.proofs.Common.{ℕ, List}
+use Rattle.loft_base.specs.declared.options.RunOptions.{RunOptions}
+use Rattle.loft_tree.specs.Fits.{Each}
+use Rattle.loft_tree.specs.Source.{Source}
+use Rattle.loft_orders.specs.declared.entry.Entry.{Entry}
+use Rattle.loft_sense.specs.Machine.{Code}
+use Rattle.loft_history.specs.Legal.{IsLegal, HasNoCallers}
+use Rattle.loft_numbers.specs.Numbers.{numbered}
+use Rattle.loft_translation.specs.Compiled.{compiled}
+use Rattle.loft_translation.proofs.SameHistories.{code_legal}
+use Rattle.loft_rewritten.specs.Told.{program_of}
+use Rattle.loft_expansion.specs.Expansion.{IsExpansion}
+use Rattle.loft_expansion.specs.Kept.{forms_of, FormKept}
+use Rattle.loft_expansion.proofs.KeptLemmas.{program_fits, expansion_kept}
+
+pub code_kept : (text : List ℕ) (s : Source) (e : IsExpansion text s) (o : RunOptions) (es : List Entry) → IsLegal (Code (compiled (program_of s))) o es → HasNoCallers (program_of s).heads es
+    → Each (FormKept s o es) (forms_of text s e)
+code_kept text s e o es legal none = expansion_kept text s e o es ((code_legal (numbered s) (program_fits text s e) e.pairs.placed o es).1 legal) none
