@@ -26,10 +26,11 @@ pub fn expansions_keep_their_locks()
         → Each (FormKept s o es) (forms_of text s e) }
 {}
 
-/// A text with locks stands for at most one program, or is refused for at most one reason, and never
-/// both.
+/// A text with locks stands for one program or is refused for one reason (`some`), and never for two
+/// or both (`one`).
 pub fn texts_come_to_one_answer()
-    ensures { (text : List ℕ) (a b : Result Source Reason) → Comes text a → Comes text b → a ≡ b }
+    ensures some { (text : List ℕ) → (a : Result Source Reason) × Comes text a }
+    ensures one { (text : List ℕ) (a b : Result Source Reason) → Comes text a → Comes text b → a ≡ b }
 {}
 
 /// Where three texts have a reserved name or one that is too long: a variable that is a lock's own, a
