@@ -25,12 +25,12 @@ use Rattle.loft_rewritten.specs.Marks.{text_marks}
 use Rattle.loft_rewritten.specs.Told.{program_of}
 use Rattle.loft_expansion.specs.Checks.{long_name, reserved_name}
 use Rattle.loft_expansion.specs.Expansion.{first_unpaired, first_leaving, TellsLeaving, IsWritten, IsRewritten, IsNamed, IsPaired}
-use Rattle.loft_expansion.specs.Reasons.{Reason, TooLong, Lex, LongName, Reserved, Parse, Names, Place, Pair, Leaves, Comes}
+use Rattle.loft_expansion.specs.Refusals.{Refusal, TooLong, Lex, LongName, Reserved, Parse, Names, Place, Pair, Leaves, Comes}
 use Rattle.loft_expansion.proofs.Rounds.{leaving_told}
 
 module _ (text : List ℕ) where
   abbrev Answered : Type 0
-  Answered = (a : Result Source Reason) × Comes text a
+  Answered = (a : Result Source Refusal) × Comes text a
 
   module _ (ts : List Token) where
     module _ (s : Source) where
@@ -76,5 +76,5 @@ module _ (text : List ℕ) where
   fits_or_not (inl long) = (Err TooLong, inl long)
   fits_or_not (inr fits) = cut_or_not fits (tokens text) refl
 
-  pub some_answer : (a : Result Source Reason) × Comes text a
+  pub some_answer : (a : Result Source Refusal) × Comes text a
   some_answer = fits_or_not (cases_lt MAX_TEXT_LEN (length text))

@@ -11,7 +11,7 @@ ghost use Rattle.loft_history.specs.Legal.{IsLegal, HasNoCallers};
 ghost use Rattle.loft_translation.specs.Compiled.{compiled};
 ghost use Rattle.loft_rewritten.specs.Told.{program_of};
 ghost use Rattle.loft_expansion.specs.Expansion.{IsExpansion};
-ghost use Rattle.loft_expansion.specs.Reasons.{Reason, Comes};
+ghost use Rattle.loft_expansion.specs.Refusals.{Refusal, Comes};
 ghost use Rattle.loft_expansion.specs.Kept.{forms_of, FormKept};
 ghost use Rattle.loft_expansion.specs.Example.{long_in, reserved_in, own_variable, own_module, long};
 
@@ -29,8 +29,8 @@ pub fn expansions_keep_their_locks()
 /// A text with locks stands for one program or is refused for one reason (`some`), and never for two
 /// or both (`one`).
 pub fn texts_come_to_one_answer()
-    ensures some { (text : List ℕ) → (a : Result Source Reason) × Comes text a }
-    ensures one { (text : List ℕ) (a b : Result Source Reason) → Comes text a → Comes text b → a ≡ b }
+    ensures some { (text : List ℕ) → (a : Result Source Refusal) × Comes text a }
+    ensures one { (text : List ℕ) (a b : Result Source Refusal) → Comes text a → Comes text b → a ≡ b }
 {}
 
 /// Where three texts have a reserved name or one that is too long: a variable that is a lock's own, a
