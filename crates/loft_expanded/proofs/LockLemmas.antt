@@ -87,10 +87,10 @@ module _ (n : LockNames) (at : ℕ → ℕ) (front back : Source) (hold : NamesH
   free_means : (scope : Scope) (name : Ident) → n.free ≡ name.text → meaning ds scope name ≡ Some free_declared
   free_means scope name e = means_it ds hold.apart free_declared free_there refl scope name e
 
-  takes_means : (scope : Scope) (name : Ident) → n.takes ≡ name.text → meaning ds scope name ≡ Some takes_declared
+  pub takes_means : (scope : Scope) (name : Ident) → n.takes ≡ name.text → meaning ds scope name ≡ Some takes_declared
   takes_means scope name e = means_it ds hold.apart takes_declared takes_there refl scope name e
 
-  gives_means : (scope : Scope) (name : Ident) → n.gives ≡ name.text → meaning ds scope name ≡ Some gives_declared
+  pub gives_means : (scope : Scope) (name : Ident) → n.gives ≡ name.text → meaning ds scope name ≡ Some gives_declared
   gives_means scope name e = means_it ds hold.apart gives_declared gives_there refl scope name e
 
   uses_later : UsesAgree ds k.modules (lock_declarations n at ++ back)

@@ -1,10 +1,13 @@
 pub mod Cutting
+pub mod Uses
+pub mod Putting
 pub mod Starts
 pub mod LockNamesFit
 pub mod FormText
 pub mod FormLemmas
 pub mod Rewritten
 pub mod LockSplit
-pub mod KeptLemmas
 pub mod LockTwice
+pub mod TellLemmas
+pub mod MarkLemmas
 pub mod ExampleLemmas

@@ -7,16 +7,12 @@ ghost use Rattle.loft_lex.specs.declared.token.Token.{Token};
 ghost use Rattle.loft_lex.specs.Cut.{Cut};
 ghost use Rattle.loft_grammar.specs.Texts.{Reads};
 ghost use Rattle.loft_scopes.specs.Faults.{NamesFit};
-ghost use Rattle.loft_orders.specs.declared.entry.Entry.{Entry};
-ghost use Rattle.loft_base.specs.declared.options.RunOptions.{RunOptions};
-ghost use Rattle.loft_sense.specs.Machine.{Tree};
-ghost use Rattle.loft_history.specs.Legal.{IsLegal, HasNoCallers};
-ghost use Rattle.loft_locks.specs.Outline.{Mark};
 ghost use Rattle.loft_expanded.specs.SourceLocks.{HasLock};
 ghost use Rattle.loft_rewritten.specs.Rewriting.{all_say, written, rewritten, forms, IsShort, Says};
 ghost use Rattle.loft_rewritten.specs.Locked.{lock_names, IsDeclared};
-ghost use Rattle.loft_rewritten.specs.Example.{expanded, source, plain, crowded, crowded_plain};
-ghost use Rattle.loft_rewritten.specs.Kept.{program_of, IsExpansion, forms_of, HasPairs, FormKept};
+ghost use Rattle.loft_rewritten.specs.Marks.{text_marks};
+ghost use Rattle.loft_rewritten.specs.Told.{IsTold};
+ghost use Rattle.loft_rewritten.specs.Example.{expanded, marked, source, plain, plain_marks, crowded, crowded_plain};
 
 /// The rewritten text of a text without lexical fault has none, and its tokens say what those of the
 /// text say, with each form replaced.
@@ -33,17 +29,17 @@ pub fn texts_have_locks()
         → Reads (written text 0 0 ts) s → NamesFit s → HasLock s (lock_names l a) }
 {}
 
-/// In each legal history without callers of an expanded program each lock that the text declares is
-/// kept, where the `run`s of its modules are those that stand in place of its forms.
-pub fn expanded_locks_are_kept()
-    ensures { (text : List ℕ) (s : Source) (e : IsExpansion text s) (marks : List Mark)
-        → HasPairs s marks → (o : RunOptions) (es : List Entry)
-        → IsLegal (Tree (program_of s)) o es → HasNoCallers (program_of s).heads es
-        → Each (FormKept s marks o es) (forms_of text s e) }
+/// In the program that the rewritten text is, the `run`s of the modules of a declared lock are those
+/// that stand in place of its forms.
+pub fn marks_tell_forms()
+    ensures { (text : List ℕ) (ts : List Token) (s : Source) (l a : List ℕ) → Cut text (Ok ts)
+        → Each IsShort (forms 0 (all_say text ts)) → IsDeclared (all_say text ts) l a
+        → Reads (written text 0 0 ts) s → NamesFit s → IsTold s (text_marks text ts) l a }
 {}
 
-/// What is written for two texts.
+/// What is written for two texts, and where the `run`s of the first stand that replace forms.
 pub fn forms_are_replaced()
     ensures example { expanded source ≡ plain }
     ensures crowded { expanded crowded ≡ crowded_plain }
+    ensures marks { marked source ≡ plain_marks }
 {}

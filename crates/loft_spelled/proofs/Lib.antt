@@ -3,3 +3,4 @@ pub mod Unlimited
 pub mod Pieces
 pub mod AwayLemmas
 pub mod SpelledLocks
+pub mod RunLemmas

@@ -1,0 +1,9 @@
+pub mod CheckLemmas
+pub mod PairsAlone
+pub mod KeptLemmas
+pub mod CodeLemmas
+pub mod ExampleLemmas
+pub mod OneAnswer
+pub mod LeavingLemmas
+pub mod Rounds
+pub mod SomeAnswer

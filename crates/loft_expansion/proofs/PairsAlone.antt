@@ -1,0 +1,75 @@
+-- Whether a body breaks a rule of pairs doesn't depend on which modules leave.
+use Rattle.std.proofs.Common.{◌≡◌, ℕ, Bool, true, false, ◌||◌, List, [], ◌∷◌, ◌++◌, drop, Option, Some, None, refl, sym, ap, ◌∙◌}
+use Rattle.std.specs.Prelude.{if◌then◌else◌}
+use Rattle.std.specs.Str.{bytes_eq}
+use Rattle.loft_base.specs.declared.ids.ModuleId.{ModuleId}
+use Rattle.loft_tree.specs.NamedTree.{NamedStatements, Assign, AssignCreate, Create, PrintText, PrintValue, Cooperate, Generate, Await, Select, Get, Join, ControlThread, Broadcast, Link, Unlink, Run, Halt, If, While, Repeat, Done, Then}
+use Rattle.loft_locks.specs.Outline.{Use, TakeOf, GiveOf, Mark, use_at, Outline, Nothing, Takes, Gives, Goes, Within, goes_if, run_part, outline, is_first, closes, pair_fault}
+
+-- an outline without what leaves
+abbrev stays : Outline → Outline
+stays Nothing = Nothing
+stays (Takes l rest) = Takes l (stays rest)
+stays (Gives l rest) = Gives l (stays rest)
+stays (Goes rest) = stays rest
+stays (Within first second rest) = Within (stays first) (stays second) (stays rest)
+
+same_closes : (l : List ℕ) (o : Outline) → closes l o ≡ closes l (stays o)
+same_closes l Nothing = refl
+same_closes l (Takes k rest) = same_closes l rest
+same_closes l (Gives k rest) = ap (λ b. bytes_eq l k || b) (same_closes l rest)
+same_closes l (Goes rest) = same_closes l rest
+same_closes l (Within first second rest) = same_closes l rest
+
+same_fault : (outer own : List (List ℕ)) (o : Outline) → pair_fault outer own o ≡ pair_fault outer own (stays o)
+same_fault outer own Nothing = refl
+same_fault outer own (Takes l rest) =
+    let a = same_closes l rest in
+    let b = same_fault outer (l ∷ own) rest in
+    rw (a, b) refl
+same_fault outer own (Gives l rest) = ap (λ x. if is_first l own then x else Some l) (same_fault outer (drop 1 own) rest)
+same_fault outer own (Goes rest) = same_fault outer own rest
+same_fault outer own (Within first second rest) =
+    let a = same_fault (own ++ outer) [] first in
+    let b = same_fault (own ++ outer) [] second in
+    let c = same_fault outer own rest in
+    rw (a, b, c) refl
+
+goes_same : (a : Bool) (o : Outline) → stays (goes_if a o) ≡ stays o
+goes_same true o = refl
+goes_same false o = refl
+
+run_same : (a b : Bool) (u : Option Use) (o p : Outline) → stays o ≡ stays p → stays (run_part a u o) ≡ stays (run_part b u p)
+run_same a b None o p e = goes_same a o ∙ e ∙ sym (goes_same b p)
+run_same a b (Some (TakeOf l)) o p e = goes_same a (Takes l o) ∙ ap (λ q. Takes l q) e ∙ sym (goes_same b (Takes l p))
+run_same a b (Some (GiveOf l)) o p e = ap (λ q. Gives l q) (goes_same a o ∙ e ∙ sym (goes_same b p))
+
+within_same : (x y : Outline) (u v : Outline) (o p : Outline) → x ≡ y → u ≡ v → o ≡ p → Within x u o ≡ Within y v p
+within_same x y u v o p a b c = rw (a, b, c) refl
+
+module _ (marks : List Mark) (away other : ModuleId → Bool) where
+  outlines_same : (b : NamedStatements) → stays (outline marks away b) ≡ stays (outline marks other b)
+  outlines_same Done = refl
+  outlines_same (Then (Assign target value) b) = outlines_same b
+  outlines_same (Then (AssignCreate target at creation) b) = outlines_same b
+  outlines_same (Then (Create at creation) b) = outlines_same b
+  outlines_same (Then (PrintText at line value) b) = outlines_same b
+  outlines_same (Then (PrintValue at value) b) = outlines_same b
+  outlines_same (Then (Cooperate at stop instants) b) = outlines_same b
+  outlines_same (Then (Generate at event value) b) = outlines_same b
+  outlines_same (Then (Await at stop event limit) b) = outlines_same b
+  outlines_same (Then (Select at stop events limit) b) = outlines_same b
+  outlines_same (Then (Get at stop event index target) b) = outlines_same b
+  outlines_same (Then (Join at stop thread limit) b) = outlines_same b
+  outlines_same (Then (ControlThread at control thread scheduler) b) = outlines_same b
+  outlines_same (Then (Broadcast at event value) b) = outlines_same b
+  outlines_same (Then (Link at stop scheduler) b) = outlines_same b
+  outlines_same (Then (Unlink at stop) b) = outlines_same b
+  outlines_same (Then (Run at stop called m arguments) b) = run_same (away m) (other m) (use_at marks called) (outline marks away b) (outline marks other b) (outlines_same b)
+  outlines_same (Then (Halt at stop) b) = outlines_same b
+  outlines_same (Then (If at test x y) b) = within_same _ _ _ _ _ _ (outlines_same x) (outlines_same y) (outlines_same b)
+  outlines_same (Then (While at test x) b) = within_same _ _ _ _ _ _ (outlines_same x) refl (outlines_same b)
+  outlines_same (Then (Repeat at count x) b) = within_same _ _ _ _ _ _ (outlines_same x) refl (outlines_same b)
+
+  pub pairs_alone : (outer own : List (List ℕ)) (b : NamedStatements) → pair_fault outer own (outline marks away b) ≡ pair_fault outer own (outline marks other b)
+  pairs_alone outer own b = same_fault outer own (outline marks away b) ∙ ap (λ o. pair_fault outer own o) (outlines_same b) ∙ sym (same_fault outer own (outline marks other b))

@@ -1,0 +1,5 @@
+pub mod Checks
+pub mod Expansion
+pub mod Refusals
+pub mod Kept
+pub mod Example
