@@ -1,0 +1,3 @@
+pub mod StationLemmas
+pub mod WorkerLemmas
+pub mod OutsiderLemmas

@@ -1,0 +1,3 @@
+pub mod Outsiders
+pub mod Stations
+pub mod Workers
