@@ -20,7 +20,7 @@ use Rattle.loft_names.specs.NamesHold.{MeansA, StatementAgrees, BodyAgrees, Uses
 use Rattle.loft_names.proofs.HeadsNumbers.{each_declared_has}
 use Rattle.loft_names.proofs.HoldsPrograms.{fits_holds}
 use Rattle.loft_locks.specs.Locks.{Lock, LockCall, Takes, Gives, Other, call_of}
-use Rattle.loft_locks.specs.Outline.{Use, TakeOf, GiveOf, Mark, use_at}
+use Rattle.loft_forms.specs.Marks.{Use, TakeOf, GiveOf, Mark, use_at}
 use Rattle.loft_locks.specs.Marked.{UseAgrees, StatementMarked, BodyMarked}
 use Rattle.loft_expanded.specs.SourceLocks.{LockNames, HasLock, name_of, lock_in}
 use Rattle.loft_expanded.specs.Runs.{StatementRuns, StatementsRun, DeclarationRuns}

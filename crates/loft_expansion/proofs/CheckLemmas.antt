@@ -9,19 +9,19 @@ use Rattle.loft_lex.specs.declared.token.Token.{Token}
 use Rattle.loft_lex.specs.Symbol.{What, Named, Keyword, Numeral, Quoted, Mark, Unreadable}
 use Rattle.loft_tree.specs.Fits.{Each}
 use Rattle.loft_tree.specs.NamedTree.{NamedModule}
-use Rattle.loft_parse.specs.Faults.{first_place}
 use Rattle.loft_locks.proofs.RefusalLemmas.{none_first, not_chosen, or_parts}
-use Rattle.loft_rewritten.specs.Rewriting.{LockForm, Declares, TakesIt, GivesIt, lock_of, more_of, form_at, held_name, free_name, takes_name, gives_name, with_form, says, all_say, forms, IsShort}
+use Rattle.loft_forms.specs.Rewriting.{LockForm, Declares, TakesIt, GivesIt, lock_of, more_of, form_at, held_name, free_name, takes_name, gives_name, with_form, says, all_say, forms, IsShort}
 use Rattle.loft_rewritten.specs.Locked.{SaysOther, IsOther}
-use Rattle.loft_expansion.specs.Checks.{long_name, declares_name, is_declared, says_declared, reserved_name, fault_in, first_fault}
+use Rattle.loft_expansion.specs.Checks.{fault_in, first_fault}
+use Rattle.loft_forms.specs.Names.{place_of, long_name, declares_name, is_declared, says_declared, reserved_name}
 
 -- ---- names that are too long
 
-short_by : (o : Option LockForm) (text : List ℕ) (ts : List Token) → with_form o (long_name text 0 ts) (λ f. if nat_lt 57 (length (lock_of f)) then Some (first_place 0 ts) else long_name text (more_of f) ts) ≡ None
+short_by : (o : Option LockForm) (text : List ℕ) (ts : List Token) → with_form o (long_name text 0 ts) (λ f. if nat_lt 57 (length (lock_of f)) then Some (place_of ts) else long_name text (more_of f) ts) ≡ None
     → ((skip : ℕ) → long_name text skip ts ≡ None → Each IsShort (forms skip (all_say text ts))) → Each IsShort (with_form o (forms 0 (all_say text ts)) (λ f. f ∷ forms (more_of f) (all_say text ts)))
 short_by None text ts e rest = rest 0 e
 short_by (Some f) text ts e rest =
-    let parts = not_chosen (nat_lt 57 (length (lock_of f))) (first_place 0 ts) (long_name text (more_of f) ts) e in
+    let parts = not_chosen (nat_lt 57 (length (lock_of f))) (place_of ts) (long_name text (more_of f) ts) e in
     (omega (arith, ltb-false 57 (length (lock_of f)) parts.0), rest (more_of f) parts.1)
 
 pub short_forms : (text : List ℕ) (skip : ℕ) (ts : List Token) → long_name text skip ts ≡ None → Each IsShort (forms skip (all_say text ts))

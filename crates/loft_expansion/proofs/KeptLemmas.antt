@@ -18,18 +18,19 @@ use Rattle.loft_stand.specs.WellFormed.{IsPlacedTree}
 use Rattle.loft_numbers.specs.Numbers.{numbered}
 use Rattle.loft_locks.specs.Locks.{Lock, Leaves, BodyPairs}
 use Rattle.loft_locks.specs.LocksHold.{LockKept}
-use Rattle.loft_locks.specs.Outline.{Mark, outline, pair_fault, leave_fault}
+use Rattle.loft_locks.specs.Outline.{outline, pair_fault, leave_fault}
+use Rattle.loft_forms.specs.Marks.{Mark}
 use Rattle.loft_locks.specs.Marked.{BodyKeeps, BodyMarked}
 use Rattle.loft_locks.proofs.RefusalLemmas.{pairs_stand}
 use Rattle.loft_locks.proofs.LockHistory.{locks_kept}
 use Rattle.loft_expanded.proofs.LockLemmas.{locks_stand}
-use Rattle.loft_rewritten.specs.Rewriting.{LockForm, Declares, TakesIt, GivesIt, all_say, written, forms, IsShort}
+use Rattle.loft_forms.specs.Rewriting.{LockForm, Declares, TakesIt, GivesIt, all_say, written, forms, IsShort}
 use Rattle.loft_rewritten.specs.Locked.{lock_names, IsDeclared}
-use Rattle.loft_rewritten.specs.Marks.{text_marks}
+use Rattle.loft_forms.specs.Marks.{text_marks}
 use Rattle.loft_rewritten.specs.Told.{lock_by, program_of}
 use Rattle.loft_rewritten.proofs.LockTwice.{texts_have_locks}
 use Rattle.loft_rewritten.proofs.MarkLemmas.{marks_tell}
-use Rattle.loft_expansion.specs.Checks.{reserved_name}
+use Rattle.loft_forms.specs.Names.{reserved_name}
 use Rattle.loft_expansion.specs.Expansion.{IsExpansion}
 use Rattle.loft_expansion.specs.Kept.{forms_of, FormKept}
 use Rattle.loft_expansion.proofs.CheckLemmas.{short_forms, reserved_for, no_faults}

@@ -19,9 +19,9 @@ use Rattle.loft_names.proofs.Decided as name_laws
 use Rattle.loft_numbers.specs.Numbers.{numbered}
 use Rattle.loft_place.specs.Links.{IsPlaced, PlaceFault}
 use Rattle.loft_place.proofs.Decided.{placed_excludes, one_place_fault}
-use Rattle.loft_rewritten.specs.Rewriting.{all_say, written, forms}
-use Rattle.loft_rewritten.specs.Marks.{text_marks}
-use Rattle.loft_expansion.specs.Checks.{long_name, reserved_name}
+use Rattle.loft_forms.specs.Rewriting.{all_say, written, forms}
+use Rattle.loft_forms.specs.Marks.{text_marks}
+use Rattle.loft_forms.specs.Names.{long_name, reserved_name}
 use Rattle.loft_expansion.specs.Expansion.{first_unpaired, first_leaving, TellsLeaving, IsWritten, IsRewritten, IsNamed, IsPaired}
 use Rattle.loft_expansion.specs.Refusals.{Refusal, TooLong, Lex, LongName, Reserved, Parse, Names, Place, Pair, Leaves, Comes}
 

@@ -4,7 +4,8 @@ use Rattle.std.specs.Prelude.{if◌then◌else◌}
 use Rattle.std.specs.Str.{bytes_eq}
 use Rattle.loft_base.specs.declared.ids.ModuleId.{ModuleId}
 use Rattle.loft_tree.specs.NamedTree.{NamedStatements, Assign, AssignCreate, Create, PrintText, PrintValue, Cooperate, Generate, Await, Select, Get, Join, ControlThread, Broadcast, Link, Unlink, Run, Halt, If, While, Repeat, Done, Then}
-use Rattle.loft_locks.specs.Outline.{Use, TakeOf, GiveOf, Mark, use_at, Outline, Nothing, Takes, Gives, Goes, Within, goes_if, run_part, outline, is_first, closes, pair_fault}
+use Rattle.loft_locks.specs.Outline.{Outline, Nothing, Takes, Gives, Goes, Within, goes_if, run_part, outline, is_first, closes, pair_fault}
+use Rattle.loft_forms.specs.Marks.{Use, TakeOf, GiveOf, Mark, use_at}
 
 -- an outline without what leaves
 abbrev stays : Outline → Outline

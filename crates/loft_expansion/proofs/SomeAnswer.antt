@@ -20,10 +20,10 @@ use Rattle.loft_numbers.specs.Numbers.{numbered}
 use Rattle.loft_place.specs.declared.error.PlaceError.{PlaceError}
 use Rattle.loft_place.specs.Links.{IsPlaced, PlaceFault}
 use Rattle.loft_place.proofs.Answered.{placed_or_not}
-use Rattle.loft_rewritten.specs.Rewriting.{all_say, written, forms}
-use Rattle.loft_rewritten.specs.Marks.{text_marks}
+use Rattle.loft_forms.specs.Rewriting.{all_say, written, forms}
+use Rattle.loft_forms.specs.Marks.{text_marks}
 use Rattle.loft_rewritten.specs.Told.{program_of}
-use Rattle.loft_expansion.specs.Checks.{long_name, reserved_name}
+use Rattle.loft_forms.specs.Names.{long_name, reserved_name}
 use Rattle.loft_expansion.specs.Expansion.{first_unpaired, first_leaving, TellsLeaving, IsWritten, IsRewritten, IsNamed, IsPaired}
 use Rattle.loft_expansion.specs.Refusals.{Refusal, TooLong, Lex, LongName, Reserved, Parse, Names, Place, Pair, Leaves, Comes}
 use Rattle.loft_expansion.proofs.Rounds.{leaving_told}

@@ -1,8 +1,8 @@
 -- Texts with a reserved name and with a long one (docs/LOCKS.md, "What is refused").
 use Rattle.std.specs.Prelude.{ℕ, List, ◌++◌, Option, None, Ok, Err, codes, replicate}
 use Rattle.loft_lex.specs.Tokens.{Found}
-use Rattle.loft_rewritten.specs.Rewriting.{all_say, forms}
-use Rattle.loft_expansion.specs.Checks.{long_name, reserved_name}
+use Rattle.loft_forms.specs.Rewriting.{all_say, forms}
+use Rattle.loft_forms.specs.Names.{long_name, reserved_name}
 
 abbrev pub long_in : List ℕ → Found → Option ℕ
 long_in text (Ok ts) = long_name text 0 ts

@@ -11,11 +11,13 @@ use Rattle.loft_scopes.specs.Faults.{NamesFit}
 use Rattle.loft_numbers.specs.Numbers.{numbered}
 use Rattle.loft_place.specs.Links.{IsPlaced}
 use Rattle.loft_locks.specs.Locks.{Leaves}
-use Rattle.loft_locks.specs.Outline.{Mark, outline, pair_fault, leave_fault}
-use Rattle.loft_rewritten.specs.Rewriting.{all_say, written, forms}
+use Rattle.loft_locks.specs.Outline.{outline, pair_fault, leave_fault}
+use Rattle.loft_forms.specs.Marks.{Mark}
+use Rattle.loft_forms.specs.Rewriting.{all_say, written, forms}
 use Rattle.loft_rewritten.specs.Told.{program_of}
-use Rattle.loft_rewritten.specs.Marks.{text_marks}
-use Rattle.loft_expansion.specs.Checks.{long_name, reserved_name, first_fault}
+use Rattle.loft_forms.specs.Marks.{text_marks}
+use Rattle.loft_expansion.specs.Checks.{first_fault}
+use Rattle.loft_forms.specs.Names.{long_name, reserved_name}
 
 -- ---- pairs
 

@@ -4,7 +4,7 @@ use Rattle.loft_tree.specs.Source.{Source}
 use Rattle.loft_orders.specs.declared.entry.Entry.{Entry}
 use Rattle.loft_base.specs.declared.options.RunOptions.{RunOptions}
 use Rattle.loft_locks.specs.LocksHold.{LockKept}
-use Rattle.loft_rewritten.specs.Rewriting.{LockForm, Declares, TakesIt, GivesIt, all_say, forms}
+use Rattle.loft_forms.specs.Rewriting.{LockForm, Declares, TakesIt, GivesIt, all_say, forms}
 use Rattle.loft_rewritten.specs.Told.{lock_by, program_of}
 use Rattle.loft_expansion.specs.Expansion.{IsExpansion}
 

@@ -14,9 +14,9 @@ use Rattle.loft_scopes.specs.Faults.{NameFault}
 use Rattle.loft_numbers.specs.Numbers.{numbered}
 use Rattle.loft_place.specs.declared.error.PlaceError.{PlaceError}
 use Rattle.loft_place.specs.Links.{IsPlaced, PlaceFault}
-use Rattle.loft_rewritten.specs.Rewriting.{all_say, written, forms}
-use Rattle.loft_rewritten.specs.Marks.{text_marks}
-use Rattle.loft_expansion.specs.Checks.{long_name, reserved_name}
+use Rattle.loft_forms.specs.Rewriting.{all_say, written, forms}
+use Rattle.loft_forms.specs.Marks.{text_marks}
+use Rattle.loft_forms.specs.Names.{long_name, reserved_name}
 use Rattle.loft_expansion.specs.Expansion.{first_unpaired, first_leaving, TellsLeaving, IsWritten, IsRewritten, IsNamed, IsPaired, IsExpansion}
 
 -- the reasons; a name is told by its offset, and a lock by its name

@@ -8,7 +8,8 @@ use Rattle.loft_tree.specs.NamedTree.{NamedStatements, Assign, AssignCreate, Cre
 use Rattle.loft_tree.specs.Resolved.{Pause, Resolved, body_of}
 use Rattle.loft_sense.specs.Tree.{first_some}
 use Rattle.loft_locks.specs.Locks.{Lock, LockCall, Takes as TakesCall, Gives as GivesCall, Other, call_of, after_call, at_call, IsAway, Leaves, PauseStays, CallStays, CallPairs, BodyPairs}
-use Rattle.loft_locks.specs.Outline.{Use, TakeOf, GiveOf, Mark, use_at, Outline, Takes, goes_if, run_part, outline, has, closes, pair_fault, outermost, leave_fault}
+use Rattle.loft_locks.specs.Outline.{Outline, Takes, goes_if, run_part, outline, has, closes, pair_fault, outermost, leave_fault}
+use Rattle.loft_forms.specs.Marks.{Use, TakeOf, GiveOf, Mark, use_at}
 use Rattle.loft_locks.specs.Marked.{BodyKeeps, UseAgrees, BodyMarked}
 
 -- ---- answers that are none

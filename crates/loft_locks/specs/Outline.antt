@@ -1,26 +1,10 @@
 -- What the rules of pairs see of a body, and which statement breaks a rule or leaves a pair first (docs/LOCKS.md, "Pairs").
-use Rattle.std.specs.Prelude.{ℕ, ◌==◌, Bool, true, false, ◌||◌, not, List, [], ◌∷◌, ◌++◌, drop, Option, Some, None, if◌then◌else◌}
+use Rattle.std.specs.Prelude.{ℕ, Bool, true, false, ◌||◌, not, List, [], ◌∷◌, ◌++◌, drop, Option, Some, None, if◌then◌else◌}
 use Rattle.std.specs.Str.{bytes_eq}
 use Rattle.loft_base.specs.declared.ids.ModuleId.{ModuleId}
 use Rattle.loft_tree.specs.NamedTree.{NamedStatement, NamedStatements, Assign, AssignCreate, Create, PrintText, PrintValue, Cooperate, Generate, Await, Select, Get, Join, ControlThread, Broadcast, Link, Unlink, Run, Halt, If, While, Repeat, Done, Then}
 use Rattle.loft_sense.specs.Tree.{first_some}
-
--- ---- forms that are statements
-
--- `lock l;` and `unlock l;`
-pub data Use : Type 0 where
-  TakeOf : (lock : List ℕ) → Use
-  GiveOf : (lock : List ℕ) → Use
-
--- the `run` that stands in place of one, and the offset of the name that it runs
-pub record Mark : Type 0 where
-  pub at : ℕ
-  pub used : Use
-
--- what the `run` of the name at this offset stands for
-abbrev pub use_at : List Mark → ℕ → Option Use
-use_at [] k = None
-use_at (m ∷ ms) k = if m.at == k then Some m.used else use_at ms k
+use Rattle.loft_forms.specs.Marks.{Use, TakeOf, GiveOf, Mark, use_at}
 
 -- ---- outlines
 

@@ -3,7 +3,7 @@ use Rattle.std.proofs.Common.{◌≡◌, ℕ, suc, ◌+◌, ◌-◌, List, [], �
 use Rattle.loft_lex.specs.declared.token.Token.{Token}
 use Rattle.loft_lex.specs.Symbol.{what_of}
 use Rattle.loft_lex.specs.Tokens.{token_moved}
-use Rattle.loft_rewritten.specs.Rewriting.{says, all_say}
+use Rattle.loft_forms.specs.Rewriting.{says, all_say}
 
 -- ---- spans of a text that stands after another
 

@@ -14,7 +14,7 @@ use Rattle.loft_spelled.proofs.SpelledLocks.{symbols_have_lock}
 use Rattle.loft_grammar.specs.Language.{is_sign, kind_of}
 use Rattle.loft_expanded.specs.SourceLocks.{LockNames, HasLock}
 use Rattle.loft_spelled.specs.LockSymbols.{lock_symbols, WhatKeeps, KeepAway}
-use Rattle.loft_rewritten.specs.Rewriting.{LockForm, Declares, TakesIt, GivesIt, more_of, held_name, free_name, takes_name, gives_name, form_at, form_says, with_form, all_say, rewritten, forms}
+use Rattle.loft_forms.specs.Rewriting.{LockForm, Declares, TakesIt, GivesIt, more_of, held_name, free_name, takes_name, gives_name, form_at, form_says, with_form, all_say, rewritten, forms}
 use Rattle.loft_rewritten.specs.Locked.{lock_names, IsOther, SaysOther, DeclaresOther, HasForm}
 use Rattle.loft_rewritten.proofs.FormText.{FormHas}
 use Rattle.loft_rewritten.proofs.FormLemmas.{NameHas, form_fits}

@@ -27,7 +27,7 @@ use Rattle.loft_spelled.proofs.Avoids.{cuts}
 use Rattle.loft_spelled.proofs.Unlimited.{none_due}
 use Rattle.loft_spelled.proofs.Pieces.{SpellsItem, items_pay, first_shared}
 use Rattle.loft_spelled.proofs.SpelledLocks.{item_tail}
-use Rattle.loft_rewritten.specs.Rewriting.{LockForm, Declares, TakesIt, GivesIt, more_of, form_at, form_says, with_form, all_say, written, rewritten, forms, IsShort}
+use Rattle.loft_forms.specs.Rewriting.{LockForm, Declares, TakesIt, GivesIt, more_of, form_at, form_says, with_form, all_say, written, rewritten, forms, IsShort}
 use Rattle.loft_rewritten.specs.Locked.{lock_names, DeclaresOther, IsDeclared, HasForm}
 use Rattle.loft_rewritten.proofs.LockSplit.{what_in, cleave, as_lock, said_symbols, has_lock, beyond_as}
 use Rattle.loft_rewritten.proofs.Rewritten.{rewritten_says}

@@ -13,12 +13,12 @@ use Rattle.loft_lex.proofs.Readings.{complete}
 use Rattle.loft_grammar.specs.Texts.{Reads}
 use Rattle.loft_scopes.specs.Faults.{NamesFit}
 use Rattle.loft_names.proofs.HeadsLists.{each-append}
-use Rattle.loft_locks.specs.Outline.{Use, Mark, use_at}
+use Rattle.loft_forms.specs.Marks.{Use, Mark, use_at}
 use Rattle.loft_expanded.proofs.ToldLemmas.{TellsName, Tells, runs_told}
 use Rattle.loft_spelled.proofs.RunLemmas.{is_run, RunIn, program_runs}
-use Rattle.loft_rewritten.specs.Rewriting.{all_say, written, rewritten, forms, IsShort}
+use Rattle.loft_forms.specs.Rewriting.{all_say, written, rewritten, forms, IsShort}
 use Rattle.loft_rewritten.specs.Locked.{lock_names, IsDeclared}
-use Rattle.loft_rewritten.specs.Marks.{text_marks}
+use Rattle.loft_forms.specs.Marks.{text_marks}
 use Rattle.loft_rewritten.specs.Told.{IsTold}
 use Rattle.loft_rewritten.proofs.Uses.{uses}
 use Rattle.loft_rewritten.proofs.Putting.{mark_of, marks_at}

@@ -17,8 +17,8 @@ use Rattle.loft_lex.specs.Cut as cut
 use Rattle.loft_lex.proofs.Words.{word_of-spelling}
 use Rattle.loft_lex.proofs.Signs.{sign_of-spelling}
 use Rattle.loft_lex.proofs.Runs.{both}
-use Rattle.loft_locks.specs.Outline.{Use, Mark}
-use Rattle.loft_rewritten.specs.Rewriting.{says, all_say}
+use Rattle.loft_forms.specs.Marks.{Use, Mark}
+use Rattle.loft_forms.specs.Rewriting.{says, all_say}
 use Rattle.loft_rewritten.proofs.Cutting.{slice_whole, all_moved, comment_moved}
 
 -- ---- what tokens stand for

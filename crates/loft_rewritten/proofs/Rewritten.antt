@@ -13,9 +13,9 @@ use Rattle.loft_lex.specs.Fits.{IsOfKind, between_quotes}
 use Rattle.loft_lex.specs.Symbol.{What, what_of}
 use Rattle.loft_lex.specs.Tokens.{Found, token_moved, moved, with_token}
 use Rattle.loft_lex.specs.Cut.{Cut, IsWhole, nothing, blank, comment, token as one_token, long_name, large_number, number_and_letter, long_text, text_to_end, text_to_line_feed, bad_byte_inside, bad_byte}
-use Rattle.loft_rewritten.specs.Rewriting.{LockForm, more_of, form_at, form_text, form_says, with_form, says, all_say, written, rewritten, forms, IsShort, Says}
-use Rattle.loft_rewritten.specs.Marks.{form_mark, marks, text_marks}
-use Rattle.loft_locks.specs.Outline.{Mark}
+use Rattle.loft_forms.specs.Rewriting.{LockForm, more_of, form_at, form_text, form_says, with_form, says, all_say, written, rewritten, forms, IsShort, Says}
+use Rattle.loft_forms.specs.Marks.{form_mark, marks, text_marks}
+use Rattle.loft_forms.specs.Marks.{Mark}
 use Rattle.loft_rewritten.proofs.Cutting.{drop_moved, slice_moved, slice_front, slice_whole, says_moved, all_moved, comment_moved}
 use Rattle.loft_rewritten.proofs.Uses.{form_uses, uses}
 use Rattle.loft_rewritten.proofs.Putting.{SaysAt, recast, put_token, put_blank, put_comment}

@@ -6,11 +6,11 @@ use Rattle.loft_lex.specs.declared.sign.Sign.TheVariants as sign
 use Rattle.loft_lex.specs.Symbol.{What, Named, Keyword, Numeral, Quoted, Mark, Unreadable}
 use Rattle.loft_grammar.specs.Language.{is_name, kind_of}
 use Rattle.loft_grammar.specs.Symbols.{bytes_of}
-use Rattle.loft_locks.specs.Outline.{Use, TakeOf, GiveOf}
+use Rattle.loft_forms.specs.Marks.{Use, TakeOf, GiveOf}
 use Rattle.loft_expanded.specs.SourceLocks.{LockNames}
 use Rattle.loft_expanded.proofs.ToldLemmas.{TellsName}
 use Rattle.loft_spelled.proofs.RunLemmas.{says_run}
-use Rattle.loft_rewritten.specs.Rewriting.{LockForm, Declares, TakesIt, GivesIt, more_of, takes_name, gives_name, form_at, form_says, with_form, rewritten}
+use Rattle.loft_forms.specs.Rewriting.{LockForm, Declares, TakesIt, GivesIt, more_of, takes_name, gives_name, form_at, form_says, with_form, rewritten}
 use Rattle.loft_rewritten.specs.Locked.{lock_names, SaysOther}
 use Rattle.loft_rewritten.proofs.Uses.{none, form_uses, uses}
 

@@ -1,8 +1,8 @@
 -- What the tokens of a rewritten text stand for.
 use Rattle.std.specs.Prelude.{ℕ, zero, suc, List, [], ◌∷◌, Option, Some, None}
 use Rattle.loft_lex.specs.Symbol.{What}
-use Rattle.loft_locks.specs.Outline.{Use, TakeOf, GiveOf}
-use Rattle.loft_rewritten.specs.Rewriting.{LockForm, Declares, TakesIt, GivesIt, more_of, form_at, with_form}
+use Rattle.loft_forms.specs.Marks.{Use, TakeOf, GiveOf}
+use Rattle.loft_forms.specs.Rewriting.{LockForm, Declares, TakesIt, GivesIt, more_of, form_at, with_form}
 
 -- so many tokens that stand for no use of a lock
 abbrev pub none : ℕ → List (Option Use) → List (Option Use)

@@ -1,9 +1,9 @@
 -- A source with a lock, and what is written for it.
 use Rattle.std.specs.Prelude.{ℕ, List, [], ◌∷◌, ◌++◌, Ok, Err, codes}
 use Rattle.loft_lex.specs.Tokens.{Found, tokens}
-use Rattle.loft_locks.specs.Outline.{TakeOf, GiveOf, Mark}
-use Rattle.loft_rewritten.specs.Rewriting.{written}
-use Rattle.loft_rewritten.specs.Marks.{text_marks}
+use Rattle.loft_forms.specs.Marks.{TakeOf, GiveOf, Mark}
+use Rattle.loft_forms.specs.Rewriting.{written}
+use Rattle.loft_forms.specs.Marks.{text_marks}
 
 abbrev pub written_for : List ℕ → Found → List ℕ
 written_for text (Ok ts) = written text 0 0 ts

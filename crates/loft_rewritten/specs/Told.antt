@@ -6,7 +6,7 @@ use Rattle.loft_tree.specs.NamedTree.{NamedModule}
 use Rattle.loft_tree.specs.Resolved.{Resolved, resolved_of}
 use Rattle.loft_numbers.specs.Numbers.{numbered}
 use Rattle.loft_locks.specs.Locks.{Lock}
-use Rattle.loft_locks.specs.Outline.{Mark}
+use Rattle.loft_forms.specs.Marks.{Mark}
 use Rattle.loft_locks.specs.Marked.{BodyMarked}
 use Rattle.loft_expanded.specs.SourceLocks.{lock_in}
 use Rattle.loft_rewritten.specs.Locked.{lock_names}

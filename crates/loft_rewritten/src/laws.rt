@@ -8,9 +8,9 @@ ghost use Rattle.loft_lex.specs.Cut.{Cut};
 ghost use Rattle.loft_grammar.specs.Texts.{Reads};
 ghost use Rattle.loft_scopes.specs.Faults.{NamesFit};
 ghost use Rattle.loft_expanded.specs.SourceLocks.{HasLock};
-ghost use Rattle.loft_rewritten.specs.Rewriting.{all_say, written, rewritten, forms, IsShort, Says};
+ghost use Rattle.loft_forms.specs.Rewriting.{all_say, written, rewritten, forms, IsShort, Says};
 ghost use Rattle.loft_rewritten.specs.Locked.{lock_names, IsDeclared};
-ghost use Rattle.loft_rewritten.specs.Marks.{text_marks};
+ghost use Rattle.loft_forms.specs.Marks.{text_marks};
 ghost use Rattle.loft_rewritten.specs.Told.{IsTold};
 ghost use Rattle.loft_rewritten.specs.Example.{expanded, marked, source, plain, plain_marks, crowded, crowded_plain};
 

@@ -1,8 +1,22 @@
 -- The `run`s that stand in place of forms, by where in the written text the names stand that they run (docs/LOCKS.md, "Pairs").
-use Rattle.std.specs.Prelude.{ℕ, zero, suc, ◌+◌, List, [], ◌∷◌, length, slice_range}
+use Rattle.std.specs.Prelude.{ℕ, zero, suc, ◌+◌, ◌≤◌, ◌==◌, List, [], ◌∷◌, length, slice_range, Option, Some, None, if◌then◌else◌}
 use Rattle.loft_lex.specs.declared.token.Token.{Token}
-use Rattle.loft_locks.specs.Outline.{TakeOf, GiveOf, Mark}
-use Rattle.loft_rewritten.specs.Rewriting.{LockForm, Declares, TakesIt, GivesIt, more_of, form_at, form_text, with_form, says, all_say}
+use Rattle.loft_forms.specs.Rewriting.{LockForm, Declares, TakesIt, GivesIt, more_of, form_at, form_text, with_form, says, all_say}
+
+-- `lock l;` and `unlock l;`
+pub data Use : Type 0 where
+  TakeOf : (lock : List ℕ) → Use
+  GiveOf : (lock : List ℕ) → Use
+
+-- the `run` that stands in place of one, and the offset of the name that it runs
+pub record Mark : Type 0 where
+  pub at : ℕ
+  pub used : Use
+
+-- what the `run` of the name at this offset stands for
+abbrev pub use_at : List Mark → ℕ → Option Use
+use_at [] k = None
+use_at (m ∷ ms) k = if m.at == k then Some m.used else use_at ms k
 
 -- that of a form whose text begins at this offset, before those that follow; `run ` has four bytes
 abbrev pub form_mark : LockForm → ℕ → List Mark → List Mark
@@ -22,3 +36,8 @@ marks text put at (suc skip) (t ∷ ts) = marks text put t.to skip ts
 -- all of them
 abbrev pub text_marks : List ℕ → List Token → List Mark
 text_marks text ts = marks text 0 0 0 ts
+
+-- their offsets rise, from this one on
+abbrev pub AreRising : ℕ → List Mark → Type 0
+AreRising at [] = Unit {0}
+AreRising at (m ∷ ms) = (at ≤ m.at) × AreRising (suc m.at) ms

@@ -1,0 +1,5 @@
+pub mod Rewriting
+pub mod Marks
+pub mod Names
+pub mod Seen
+pub mod Whole
