@@ -8,7 +8,8 @@ that (docs/COMMANDS.md). A case passes where each program gives both exactly. NA
 stands for a long answer: a line `N x TEXT` is N lines, TEXT with the numbers from 0 to N - 1 in place of
 `{}`, and those from K on in place of `{K}`; a line `N x (` is the lines up to the next line `)`, N times;
 every other line stands for itself, and all end with a line feed. In the folder `exec`
-NAME.listing stands for NAME.loft. Each source in `run` that has a report is compiled, too, and `exec`
+NAME.listing stands for NAME.loft, and in the folder `gen` NAME.words has the words, one a line, in place of a
+source. Each source in `run` that has a report is compiled, too, and `exec`
 of its listing has to print that report.
 
 In the folder `history` the source is followed by the choices of NAME.choices, one a line, through each of
@@ -28,7 +29,8 @@ import sys
 import tempfile
 
 TOP = pathlib.Path(__file__).resolve().parent.parent
-COMMANDS = ["run", "show", "check", "compile", "bound", "exec"]
+COMMANDS = ["run", "show", "check", "compile", "bound", "exec", "gen"]
+ENDINGS = {"exec": ".listing", "gen": ".words"}
 WORDS = TOP / "cases/words"
 TABLE = WORDS / "words.tsv"
 HISTORIES = TOP / "cases/history"
@@ -43,7 +45,7 @@ FOLDERS = {**{f"cases/{it}": it for it in COMMANDS}, "examples": "run", "docs/tu
 
 def ending_of(command):
     """How the names of a command's files end."""
-    return ".listing" if command == "exec" else ".loft"
+    return ENDINGS.get(command, ".loft")
 
 
 def by_rule(rule):
@@ -137,6 +139,14 @@ class Source:
     def ran(self, program):
         """How the program ends for this case."""
         return ended(program, [self.command, self.name, *self.further()], TOP)
+
+
+class Made(Source):
+    """Words of a command that reads no file."""
+
+    def ran(self, program):
+        """How the program ends for these words."""
+        return ended(program, [self.command, *self.source.read_text().split("\n")[:-1]], TOP)
 
 
 class Listed(Source):
@@ -258,7 +268,7 @@ def main(programs):
     if lacking or not programs:
         print(*lacking, "0 passed, 1 failed", sep="\n")
         return 1
-    cases = [Source(it, command) for folder, command in FOLDERS.items() for it in sorted(TOP.glob(f"{folder}/*{ending_of(command)}"))]
+    cases = [(Made if command == "gen" else Source)(it, command) for folder, command in FOLDERS.items() for it in sorted(TOP.glob(f"{folder}/*{ending_of(command)}"))]
     cases += [Listed(it, "run") for it in sorted(TOP.glob("cases/run/*.loft")) if has_report(it)]
     cases += [Row(number, line) for number, line in enumerate(TABLE.read_text().split("\n")[:-1], 1)]
     runs = [(programs, case) for case in cases]

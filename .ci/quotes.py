@@ -7,7 +7,7 @@ A fenced block is one of these:
 - one after a line `<!-- FILE -->`: its lines stand in that file, in this order;
 - one that begins with `$ loft COMMAND SOURCE OPTION ..`: the rest is the stored answer. It lies
   beside the source, or in cases/COMMAND where the source is named without a folder, and its
-  options are those of SOURCE.args.
+  options are those of SOURCE.args. For `gen` it is that of the case in cases/gen with these words.
 
 In the last two a line `..` stands for lines that are left out; all others follow one another.
 
@@ -80,6 +80,9 @@ def ask_whole(quoted, lines):
 
 def ask_answer(command, source, options, quoted):
     """Whether a block is the stored answer of a command."""
+    if command == "gen":
+        ask_made([source, *options], quoted)
+        return
     name = source if "/" in source else f"cases/{command}/{source}"
     lines_of(name)
     further = TOP / f"{name}.args"
@@ -87,6 +90,14 @@ def ask_answer(command, source, options, quoted):
     if options != wanted:
         raise Stale(f"the options of {name} are {wanted}, not {options}")
     ask_whole(quoted, lines_of(f"{name}.stdout"))
+
+
+def ask_made(words, quoted):
+    """Whether a block is the stored answer of `gen` with these words."""
+    cases = [it for it in sorted(TOP.glob("cases/gen/*.words")) if it.read_text().split() == words]
+    if not cases:
+        raise Stale(f"there is no case of gen with the words {words}")
+    ask_whole(quoted, lines_of(f"cases/gen/{cases[0].name}.stdout"))
 
 
 def ask_block(word, before, block):

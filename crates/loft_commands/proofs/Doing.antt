@@ -7,7 +7,7 @@ use Rattle.loft_refusal.specs.declared.refusal.Refusal.TheVariants as refusal
 use Rattle.loft_refusal.specs.declared.refusal.Stopped.{Stopped}
 use Rattle.loft_refusal.specs.declared.refusal.Stopped.TheVariants as stopped
 use Rattle.loft_base.specs.declared.options.RunOptions.{RunOptions}
-use Rattle.loft_words.specs.Command.{Command, Run, Exec, Show, Check, Compile, Bound}
+use Rattle.loft_words.specs.Command.{FileCommand, Run, Exec, Show, Check, Compile, Bound}
 use Rattle.loft_refusal.specs.Input.{Input, ASource, AListing}
 use Rattle.loft_commands.specs.Written.{Appends, IsPrefix}
 use Rattle.loft_commands.specs.declared.code_run.RunError.{RunError}
@@ -16,7 +16,7 @@ use Rattle.loft_refusal.specs.Stops.{stop_of_write}
 use Rattle.loft_commands.specs.RunStops.{stop_of_run}
 use Rattle.loft_refusal.specs.Refusals.{IsTextOf, IsRefusedFor, IsCause}
 use Rattle.loft_commands.specs.Asks.{Asks, Takes}
-use Rattle.loft_commands.specs.Promise.{IsAnswerFor, IsAnswer}
+use Rattle.loft_commands.specs.Promise.{IsAnswerFor, IsFileAnswer}
 use Rattle.loft_refusal.specs.Found.{IsFault, IsUnlisted}
 use Rattle.loft_commands.specs.Doing.{Does, Attempts}
 use Rattle.loft_commands.proofs.Written.{not_begun, part_of, whole_of}
@@ -34,19 +34,19 @@ cause_of contents (AListing c) (refusal.Links e schedulers) text refused = absur
 cause_of contents (AListing c) (refusal.Listing e) text refused = absurd refused
 cause_of contents (AListing c) (refusal.Code e modules) text refused = (AListing c, text, refused)
 
-pub does_attempts : {c : Command} {x : Input} {known : Option (List ℕ)} {result : Result (Unit {0}) Stopped} {old new : Option (List ℕ)}
+pub does_attempts : {c : FileCommand} {x : Input} {known : Option (List ℕ)} {result : Result (Unit {0}) Stopped} {old new : Option (List ℕ)}
     → ((contents : List ℕ) → known ≡ Some contents → IsTextOf contents x) → Does c x result old new → Attempts c known result old new
 does_attempts {c = c} {x = x} {result = result} text does = record {
   takes = λ contents k ok. (x, text contents k, does.takes ok);
-  written = λ contents k ok. whole_of (IsAnswerFor c x) (IsAnswer c contents) (λ answer holds. (x, text contents k, holds)) (does.written ok);
+  written = λ contents k ok. whole_of (IsAnswerFor c x) (IsFileAnswer c contents) (λ answer holds. (x, text contents k, holds)) (does.written ok);
   refused = λ contents r k e. ((does.refused r e).0, cause_of contents x r (text contents k) (does.refused r e).1);
   silent = does.silent;
   no_file = λ e. absurd (does.no_file e);
-  cut = λ contents k e. part_of (IsAnswerFor c x) (IsAnswer c contents) (λ answer holds. (x, text contents k, holds)) (does.cut e);
+  cut = λ contents k e. part_of (IsAnswerFor c x) (IsFileAnswer c contents) (λ answer holds. (x, text contents k, holds)) (does.cut e);
 }
 
 -- what stops a command before anything is written
-stopped_attempts : (c : Command) (known : Option (List ℕ)) (e : Stopped) (old : Option (List ℕ))
+stopped_attempts : (c : FileCommand) (known : Option (List ℕ)) (e : Stopped) (old : Option (List ℕ))
     → ((contents : List ℕ) (r : Refusal) → known ≡ Some contents → e ≡ stopped.Refused r → Asks c r × IsCause contents r) → Attempts c known (Err e) old old
 stopped_attempts c known e old cause = record {
   takes = λ contents k ok. absurd cc;
@@ -54,14 +54,14 @@ stopped_attempts c known e old cause = record {
   refused = λ contents r k is. cause contents r k (at (Err e) refl (stopped.Refused r) is);
   silent = λ r is. refl;
   no_file = λ is. refl;
-  cut = λ contents k is. not_begun (IsAnswer c contents) refl;
+  cut = λ contents k is. not_begun (IsFileAnswer c contents) refl;
 }
   where
     at : (r : Result (Unit {0}) Stopped) → r ≡ Err e → (s : Stopped) → r ≡ Err s → e ≡ s
     at r is s also = cc (is, also)
 
 -- a command that takes sources
-abbrev pub TakesSources : Command → Type 0
+abbrev pub TakesSources : FileCommand → Type 0
 TakesSources (Run file o) = Unit {0}
 TakesSources (Exec file o) = ⊥
 TakesSources (Show file) = Unit {0}
@@ -69,7 +69,7 @@ TakesSources (Check file) = Unit {0}
 TakesSources (Compile file) = Unit {0}
 TakesSources (Bound file) = Unit {0}
 
-asks_text : (c : Command) (contents : List ℕ) (r : Refusal) → TakesSources c → IsFault contents (stopped.Refused r) → Asks c r × IsCause contents r
+asks_text : (c : FileCommand) (contents : List ℕ) (r : Refusal) → TakesSources c → IsFault contents (stopped.Refused r) → Asks c r × IsCause contents r
 asks_text (Run file o) contents (refusal.Text e) is fault = (tt, fault)
 asks_text (Exec file o) contents (refusal.Text e) is fault = absurd is
 asks_text (Show file) contents (refusal.Text e) is fault = (tt, fault)
@@ -82,7 +82,7 @@ asks_text c contents (refusal.Listing e) is fault = absurd fault
 asks_text c contents (refusal.Code e modules) is fault = absurd fault
 
 -- there is no program in the file, and nothing was written
-pub unread_attempts : (c : Command) (known : Option (List ℕ)) (e : Stopped) (old : Option (List ℕ)) → TakesSources c
+pub unread_attempts : (c : FileCommand) (known : Option (List ℕ)) (e : Stopped) (old : Option (List ℕ)) → TakesSources c
     → ((contents : List ℕ) → known ≡ Some contents → IsFault contents e) → Attempts c known (Err e) old old
 unread_attempts c known e old is fault = stopped_attempts c known e old
     (λ contents r k same. asks_text c contents r is (subst (IsFault contents) same (fault contents k)))
@@ -105,7 +105,7 @@ ok_is_no_stop result is (inl e) = absurd cc
 ok_is_no_stop result is (inr e) = absurd cc
 
 -- the answer was written
-pub done_does : {c : Command} {x : Input} {result : Result (Unit {0}) Stopped} {old new : Option (List ℕ)}
+pub done_does : {c : FileCommand} {x : Input} {result : Result (Unit {0}) Stopped} {old new : Option (List ℕ)}
     → result ≡ Ok tt → Takes c x → Appends old new (IsAnswerFor c x) → Does c x result old new
 done_does {result = result} is takes whole = record {
   takes = λ ok. takes;
@@ -117,7 +117,7 @@ done_does {result = result} is takes whole = record {
 }
 
 -- what was written of the answer breaks off
-pub failed_does : {c : Command} {x : Input} {result : Result (Unit {0}) Stopped} {old new : Option (List ℕ)}
+pub failed_does : {c : FileCommand} {x : Input} {result : Result (Unit {0}) Stopped} {old new : Option (List ℕ)}
     → result ≡ Err stopped.SinkFault ⊎ result ≡ Err stopped.NoMemory → Appends old new (IsPrefix (IsAnswerFor c x)) → Does c x result old new
 failed_does (inl is) part = record {
   takes = λ ok. absurd cc;

@@ -3,7 +3,6 @@ use Rattle.std.proofs.Common.{◌≡◌, ℕ, List, [], ◌++◌, take, drop, in
 use Rattle.std.specs.Prelude.{OnOk, OnErr}
 use Rattle.std.proofs.lemmas.List.{take-append-drop}
 use Rattle.loft_base.specs.Outside.{appended, GrowsByPrefix}
-use Rattle.loft_words.specs.Command.{Command}
 use Rattle.loft_commands.specs.Written.{Appends, IsPrefix}
 
 -- what was appended is a text of which P holds
@@ -47,9 +46,9 @@ pub err_holds : {A E P : Type 0} (r : Result A E) → P → OnErr r P
 err_holds (Ok x) p = tt
 err_holds (Err e) p = p
 
-same_command : {o : Option Command} {a b : Command} → Some a ≡ o → o ≡ Some b → a ≡ b
-same_command p q = cc
+same_found : {A : Type 0} {o : Option A} {a b : A} → Some a ≡ o → o ≡ Some b → a ≡ b
+same_found p q = cc
 
--- what holds of the command that was found holds of each that the words are
-pub of_command : {o : Option Command} {a b : Command} (Q : Command → Type 0) → Some a ≡ o → o ≡ Some b → Q a → Q b
-of_command Q p q holds = subst Q (same_command p q) holds
+-- what holds of what was found holds of each that it is
+pub of_found : {A : Type 0} {o : Option A} {a b : A} (Q : A → Type 0) → Some a ≡ o → o ≡ Some b → Q a → Q b
+of_found Q p q holds = subst Q (same_found p q) holds

@@ -5,8 +5,7 @@ use Rattle.loft_refusal.specs.declared.refusal.Refusal.{Refusal}
 use Rattle.loft_refusal.specs.declared.refusal.Refusal.TheVariants as refusal
 use Rattle.loft_refusal.specs.Input.{Input, ASource, AListing}
 use Rattle.loft_refusal.specs.Refusals.{Well, IsCause, line_of}
-use Rattle.loft_words.specs.Command.{Command, Run, Exec, Show, Check, Compile, Bound}
-use Rattle.loft_commands.specs.Written.{IsLine}
+use Rattle.loft_words.specs.Command.{FileCommand, Run, Exec, Show, Check, Compile, Bound}
 
 -- what is asked of a source, of one whose names and links have to be correct, and of a listing
 abbrev pub asks_source : Refusal → Type 0
@@ -31,7 +30,7 @@ asks_listing (refusal.Listing e) = Unit {0}
 asks_listing (refusal.Code e modules) = Unit {0}
 
 -- what a command asks for: `show` a source, `exec` a listing, the others a source whose names and links are correct
-abbrev pub Asks : Command → Refusal → Type 0
+abbrev pub Asks : FileCommand → Refusal → Type 0
 Asks (Run file o) r = asks_well r
 Asks (Exec file o) r = asks_listing r
 Asks (Show file) r = asks_source r
@@ -40,12 +39,8 @@ Asks (Compile file) r = asks_well r
 Asks (Bound file) r = asks_well r
 
 -- a command refuses contents by this line
-abbrev pub Refuses : Command → List ℕ → List ℕ → Type 0
-Refuses c contents line = (r : Refusal) × Asks c r × IsCause contents r × (line ≡ line_of r)
-
--- the text is the line with which a command refuses contents
-abbrev pub IsRefusal : Command → List ℕ → List ℕ → Type 0
-IsRefusal c contents text = (line : List ℕ) × Refuses c contents line × IsLine line text
+abbrev pub RefusesFile : FileCommand → List ℕ → List ℕ → Type 0
+RefusesFile c contents line = (r : Refusal) × Asks c r × IsCause contents r × (line ≡ line_of r)
 
 -- a source whose names and links are correct, any source, and a listing of valid code
 abbrev pub IsWellSource : Input → Type 0
@@ -62,7 +57,7 @@ IsValidListing (AListing c) = Valid c
 
 -- the command can be done: each source can be shown, and well ones pass the check, are compiled and run, and their step
 -- bounds are told; a listing of valid code is run
-abbrev pub Takes : Command → Input → Type 0
+abbrev pub Takes : FileCommand → Input → Type 0
 Takes (Run file o) x = IsWellSource x
 Takes (Exec file o) x = IsValidListing x
 Takes (Show file) x = IsAnySource x

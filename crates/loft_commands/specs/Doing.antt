@@ -4,14 +4,14 @@ use Rattle.loft_refusal.specs.Input.{Input}
 use Rattle.loft_refusal.specs.declared.refusal.Refusal.{Refusal}
 use Rattle.loft_refusal.specs.declared.refusal.Stopped.{Stopped}
 use Rattle.loft_refusal.specs.declared.refusal.Stopped.TheVariants as stopped
-use Rattle.loft_words.specs.Command.{Command}
+use Rattle.loft_words.specs.Command.{FileCommand}
 use Rattle.loft_commands.specs.Written.{Appends, IsPrefix}
 use Rattle.loft_refusal.specs.Refusals.{IsTextOf, IsRefusedFor, IsCause}
 use Rattle.loft_commands.specs.Asks.{Asks, Takes}
-use Rattle.loft_commands.specs.Promise.{IsAnswerFor, IsAnswer}
+use Rattle.loft_commands.specs.Promise.{IsAnswerFor, IsFileAnswer}
 
 -- The command did this for what was read; the sink tells of `old` before it and of `new` after it.
-pub record Does (c : Command) (x : Input) (result : Result (Unit {0}) Stopped) (old new : Option (List ℕ)) : Type 0 where
+pub record Does (c : FileCommand) (x : Input) (result : Result (Unit {0}) Stopped) (old new : Option (List ℕ)) : Type 0 where
   pub takes : result ≡ Ok tt → Takes c x
   pub written : result ≡ Ok tt → Appends old new (IsAnswerFor c x)
   pub refused : (r : Refusal) → result ≡ Err (stopped.Refused r) → Asks c r × IsRefusedFor x r
@@ -20,10 +20,10 @@ pub record Does (c : Command) (x : Input) (result : Result (Unit {0}) Stopped) (
   pub cut : result ≡ Err stopped.SinkFault ⊎ result ≡ Err stopped.NoMemory → Appends old new (IsPrefix (IsAnswerFor c x))
 
 -- The same for the contents of its file, where these are known.
-pub record Attempts (c : Command) (known : Option (List ℕ)) (result : Result (Unit {0}) Stopped) (old new : Option (List ℕ)) : Type 0 where
+pub record Attempts (c : FileCommand) (known : Option (List ℕ)) (result : Result (Unit {0}) Stopped) (old new : Option (List ℕ)) : Type 0 where
   pub takes : (contents : List ℕ) → known ≡ Some contents → result ≡ Ok tt → (x : Input) × IsTextOf contents x × Takes c x
-  pub written : (contents : List ℕ) → known ≡ Some contents → result ≡ Ok tt → Appends old new (IsAnswer c contents)
+  pub written : (contents : List ℕ) → known ≡ Some contents → result ≡ Ok tt → Appends old new (IsFileAnswer c contents)
   pub refused : (contents : List ℕ) (r : Refusal) → known ≡ Some contents → result ≡ Err (stopped.Refused r) → Asks c r × IsCause contents r
   pub silent : (r : Refusal) → result ≡ Err (stopped.Refused r) → new ≡ old
   pub no_file : result ≡ Err stopped.FileFault → new ≡ old
-  pub cut : (contents : List ℕ) → known ≡ Some contents → result ≡ Err stopped.SinkFault ⊎ result ≡ Err stopped.NoMemory → Appends old new (IsPrefix (IsAnswer c contents))
+  pub cut : (contents : List ℕ) → known ≡ Some contents → result ≡ Err stopped.SinkFault ⊎ result ≡ Err stopped.NoMemory → Appends old new (IsPrefix (IsFileAnswer c contents))

@@ -16,7 +16,7 @@ use Rattle.loft_history.specs.Report.{head_lines, report}
 use Rattle.loft_translation.specs.Compiled.{compiled}
 use Rattle.loft_listing.specs.Listing.{listing_text}
 use Rattle.loft_bound.specs.BoundText.{IsBoundText}
-use Rattle.loft_words.specs.Command.{Command, Run, Exec, Show, Check, Compile, Bound}
+use Rattle.loft_words.specs.Command.{FileCommand, Run, Exec, Show, Check, Compile, Bound}
 use Rattle.loft_refusal.specs.Input.{Input, ASource, AListing}
 use Rattle.loft_commands.specs.Written.{IsLine}
 use Rattle.loft_refusal.specs.Refusals.{IsTextOf}
@@ -39,7 +39,7 @@ pub record IsReport (x : Prog) (o : RunOptions) (text : List ℕ) : Type 0 where
 
 -- what a command answers of a source: the report of a run by its statements, the canonical text, `ok`, the listing of
 -- its code, or the lines of its step bounds
-abbrev pub IsSourceAnswer : Command → Source → List ℕ → Type 0
+abbrev pub IsSourceAnswer : FileCommand → Source → List ℕ → Type 0
 IsSourceAnswer (Run file o) p text = IsReport (Tree (resolved_of (numbered p))) o text
 IsSourceAnswer (Exec file o) p text = ⊥
 IsSourceAnswer (Show file) p text = text ≡ Canon p
@@ -48,7 +48,7 @@ IsSourceAnswer (Compile file) p text = text ≡ listing_text (compiled (resolved
 IsSourceAnswer (Bound file) p text = IsBoundText (numbered p) text
 
 -- and of code: the report of a run by its operations
-abbrev pub IsCodeAnswer : Command → Automata → List ℕ → Type 0
+abbrev pub IsCodeAnswer : FileCommand → Automata → List ℕ → Type 0
 IsCodeAnswer (Run file o) c text = ⊥
 IsCodeAnswer (Exec file o) c text = IsReport (Code c) o text
 IsCodeAnswer (Show file) c text = ⊥
@@ -56,14 +56,14 @@ IsCodeAnswer (Check file) c text = ⊥
 IsCodeAnswer (Compile file) c text = ⊥
 IsCodeAnswer (Bound file) c text = ⊥
 
-abbrev pub IsAnswerText : Command → Input → List ℕ → Type 0
+abbrev pub IsAnswerText : FileCommand → Input → List ℕ → Type 0
 IsAnswerText k (ASource p) text = IsSourceAnswer k p text
 IsAnswerText k (AListing c) text = IsCodeAnswer k c text
 
 -- the command can be done for what was read, and this is the answer
-abbrev pub IsAnswerFor : Command → Input → List ℕ → Type 0
+abbrev pub IsAnswerFor : FileCommand → Input → List ℕ → Type 0
 IsAnswerFor k x text = Takes k x × IsAnswerText k x text
 
 -- the contents say so, and this is the answer for it
-abbrev pub IsAnswer : Command → List ℕ → List ℕ → Type 0
-IsAnswer k contents text = (x : Input) × IsTextOf contents x × IsAnswerFor k x text
+abbrev pub IsFileAnswer : FileCommand → List ℕ → List ℕ → Type 0
+IsFileAnswer k contents text = (x : Input) × IsTextOf contents x × IsAnswerFor k x text

@@ -4,13 +4,13 @@ ghost use Rattle.std.specs.Prelude.{◌≤◌, IsTrue, IsErrOf};
 ghost use Rattle.loft_base.specs.Outside.{Rose};
 ghost use Rattle.loft_words.specs.Command.{file_of};
 ghost use Rattle.loft_words.specs.Ranges.{KeepsRanges};
-ghost use Rattle.loft_words.specs.CommandView.{command_of};
+ghost use Rattle.loft_words.specs.CommandView.{file_command_of};
 ghost use Rattle.loft_commands.specs.Doing.{Attempts};
 
 use crate::command::{check, exec, list_code, run, show_text, tell_bounds};
 use loft_base::{Files, Gate, Sink};
 use loft_refusal::{Stopped, read_code, read_program};
-use loft_words::Command;
+use loft_words::FileCommand;
 use std::alloc::Global;
 use std::sync::Wait;
 use std::thread::Threads;
@@ -19,42 +19,42 @@ use std::thread::Threads;
 pub fn attempt<R: Threads + Wait + Sync, F: Files, S: Sink, G: Gate>(
     rt: &R,
     alloc: Global,
-    command: Command,
+    command: FileCommand,
     files: &mut F,
     sink: &mut S,
     gate: &G,
 ) -> Result<(), Stopped>
-    requires file { IsTrue (F.may_ask files.old (file_of (command_of command))) }
-    requires ranges { KeepsRanges (command_of command) }
-    ensures attempts { Attempts (command_of command.entry)
-        (F.contents files.old (file_of (command_of command.entry))) result
+    requires file { IsTrue (F.may_ask files.old (file_of (file_command_of command))) }
+    requires ranges { KeepsRanges (file_command_of command) }
+    ensures attempts { Attempts (file_command_of command.entry)
+        (F.contents files.old (file_of (file_command_of command.entry))) result
         (S.written sink.old) (S.written sink.new) }
     ensures file_fault { IsErrOf result Stopped.FileFault → Rose (F.faults files.old) (F.faults files.new) }
     ensures sink_fault { IsErrOf result Stopped.SinkFault → Rose (S.faults sink.old) (S.faults sink.new) }
     ensures never_falls { S.faults sink.old ≤ S.faults sink.new }
 {
     match command {
-        Command::Run { file, options } => {
+        FileCommand::Run { file, options } => {
             let program = read_program(alloc, files, file)?;
             run(rt, alloc, program, &options, sink, gate)
         }
-        Command::Exec { file, options } => {
+        FileCommand::Exec { file, options } => {
             let code = read_code(alloc, files, file)?;
             exec(rt, alloc, &code, &options, sink, gate)
         }
-        Command::Show(file) => {
+        FileCommand::Show(file) => {
             let program = read_program(alloc, files, file)?;
             show_text(alloc, &program, sink)
         }
-        Command::Check(file) => {
+        FileCommand::Check(file) => {
             let program = read_program(alloc, files, file)?;
             check(alloc, program, sink)
         }
-        Command::Compile(file) => {
+        FileCommand::Compile(file) => {
             let program = read_program(alloc, files, file)?;
             list_code(alloc, program, sink)
         }
-        Command::Bound(file) => {
+        FileCommand::Bound(file) => {
             let program = read_program(alloc, files, file)?;
             tell_bounds(alloc, program, sink)
         }

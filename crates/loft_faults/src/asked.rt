@@ -23,21 +23,22 @@ end
 start A.m();
 ";
 
-/// Each command, with the contents of the file that it reads.
+/// Each command that reads a file, with the contents of it.
 pub static COMMANDS: [(&str, &[u8]); 6] = [
-    ("run", TWO_PRINTS),
-    ("exec", LISTING),
-    ("show", TWO_PRINTS),
-    ("check", TWO_PRINTS),
-    ("compile", TWO_PRINTS),
-    ("bound", TWO_PRINTS),
+    ("run a", TWO_PRINTS),
+    ("exec a", LISTING),
+    ("show a", TWO_PRINTS),
+    ("check a", TWO_PRINTS),
+    ("compile a", TWO_PRINTS),
+    ("bound a", TWO_PRINTS),
 ];
 
-/// The words of a command that reads the file `a`.
+/// The words of a command, which stand with a blank between them.
 pub fn words(alloc: Global, command: &str) -> Result<Vec<String>, AllocError> {
     let mut words = Vec::new(alloc);
-    words.push(String::from_str(alloc, command)?)?;
-    words.push(String::from_str(alloc, "a")?)?;
+    for word in command.split(' ') {
+        words.push(String::from_str(alloc, word)?)?;
+    }
     Ok(words)
 }
 

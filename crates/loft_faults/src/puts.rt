@@ -74,12 +74,19 @@ fn each_put_fails_in_turn(rt: HostRuntime) -> Result<(), Fail> {
     Ok(())
 }
 
+/// The same of a summary, for which no file is read.
+#[test]
+fn each_put_of_a_summary_fails_in_turn(rt: HostRuntime) -> Result<(), Fail> {
+    assert_eq!(rt; puts(&rt, "gen 1 --run", b"", 1)?, 9);
+    Ok(())
+}
+
 /// What a run leaves in its sink where the third put fails and keeps so many bytes.
 fn third_put<R: Threads + Wait + Sync + AllocGlobal>(rt: &R, keep: usize) -> Result<Vec<u8>, Fail> {
     let mut files = files(rt.alloc(), TWO_PRINTS)?;
     let mut sink = sink(rt.alloc())?;
     sink.fail_at(rt.alloc(), 3, keep)?;
-    ended(rt, "run", &mut files, &mut sink)?;
+    ended(rt, "run a", &mut files, &mut sink)?;
     Ok(Vec::from_slice(rt.alloc(), sink.bytes())?)
 }
 

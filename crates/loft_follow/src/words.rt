@@ -7,7 +7,7 @@ ghost use Rattle.loft_words.specs.Words.{words_of};
 ghost use Rattle.loft_follow.specs.Words.{Asks};
 
 use loft_base::RunOptions;
-use loft_words::{Command, read_words};
+use loft_words::{Command, FileCommand, read_words};
 
 /// A file of choices and the file of a source, and the options with which they are followed.
 #[derive(Clone, Copy)]
@@ -28,7 +28,7 @@ pub fn read_request(words: &[String]) -> Option<Request<'_>>
 {
     let (choices, command) = words.split_first()?;
     match read_words(command)? {
-        Command::Run { file, options } => Some(Request {
+        Command::OfFile(FileCommand::Run { file, options }) => Some(Request {
             choices: choices.as_str(),
             source: file,
             options,

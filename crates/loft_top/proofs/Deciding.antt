@@ -17,7 +17,7 @@ use Rattle.loft_reading.specs.declared.error.ListError.{ListError}
 use Rattle.loft_reading.specs.Lists.{Lists, LineFault}
 use Rattle.loft_refusal.specs.declared.refusal.Refusal.{Refusal}
 use Rattle.loft_refusal.specs.declared.refusal.Refusal.TheVariants as refusal
-use Rattle.loft_words.specs.Command.{Command, Run, Exec, Show, Check, Compile, Bound}
+use Rattle.loft_words.specs.Command.{FileCommand, Run, Exec, Show, Check, Compile, Bound}
 use Rattle.loft_refusal.specs.Input.{Input, ASource, AListing}
 use Rattle.loft_refusal.specs.Refusals.{IsTextOf, IsSourceOf, IsListingOf, Well, IsCause}
 use Rattle.loft_commands.specs.Asks.{Asks, Takes, asks_source, asks_well, asks_listing}
@@ -89,7 +89,7 @@ valid_taken d contents c (refusal.Code e modules) text valid asks (AListing a, o
 
 -- ---- commands
 
-pub taken_not_refused : (d : Decided) (c : Command) (contents : List ℕ) (x : Input) (r : Refusal) → IsTextOf contents x → Takes c x → Asks c r → IsCause contents r → ⊥
+pub taken_not_refused : (d : Decided) (c : FileCommand) (contents : List ℕ) (x : Input) (r : Refusal) → IsTextOf contents x → Takes c x → Asks c r → IsCause contents r → ⊥
 taken_not_refused d (Run file o) contents (ASource p) r text takes asks cause = well_taken d contents p r text takes asks cause
 taken_not_refused d (Run file o) contents (AListing a) r text takes asks cause = absurd takes
 taken_not_refused d (Exec file o) contents (ASource p) r text takes asks cause = absurd takes

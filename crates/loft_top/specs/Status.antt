@@ -1,5 +1,7 @@
 -- How the program may end (docs/COMMANDS.md, "Statuses").
-use Rattle.std.specs.Prelude.{ℕ}
+use Rattle.std.specs.Prelude.{ℕ, Result, Ok, Err}
+use Rattle.loft_base.specs.declared.writing.WriteError.{WriteError}
+use Rattle.loft_base.specs.declared.writing.WriteError.TheVariants as write
 use Rattle.loft_top.specs.declared.status.Status.{Status}
 use Rattle.loft_top.specs.declared.status.Status.TheVariants.{Done, Usage, Source, Log, FileFault, SinkFault, NoMemory}
 
@@ -32,3 +34,9 @@ IsAccepted Log = ⊥
 IsAccepted FileFault = Unit {0}
 IsAccepted SinkFault = Unit {0}
 IsAccepted NoMemory = Unit {0}
+
+-- how a command ends whose answer was written so
+abbrev pub status_of_write : Result (Unit {0}) WriteError → Status
+status_of_write (Ok done) = Done
+status_of_write (Err write.Sink) = SinkFault
+status_of_write (Err write.NoMemory) = NoMemory

@@ -1,6 +1,7 @@
 //! The call that the program makes (`loft_main`), with its status.
 #![tactic(auto)]
 
+mod generated;
 mod status;
 mod top_call;
 

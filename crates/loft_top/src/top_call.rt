@@ -1,19 +1,19 @@
 //! The call that the program makes.
 
 ghost use Rattle.std.specs.Prelude.{◌≡◌, ◌≢◌, ◌<◌, ◌⊎◌, ◌++◌, ◌∷◌, [], ℕ, List, length, IsTrue, IsSome, Some, None, codes};
+ghost use Rattle.std.specs.List.{Contains};
 ghost use Rattle.loft_base.specs.Outside.{Rose, appended, GrowsByPrefix};
-ghost use Rattle.loft_refusal.specs.Input.{Input};
-ghost use Rattle.loft_words.specs.Command.{Command as PlainCommand, command, file_of};
-ghost use Rattle.loft_words.specs.Ranges.{KeepsRanges};
+ghost use Rattle.loft_words.specs.Command.{Command as PlainCommand, OfFile, command, file_of, files_of};
+ghost use Rattle.loft_words.specs.Ranges.{KeepsRanges, IsInRanges};
 ghost use Rattle.loft_words.specs.Words.{words_of};
-ghost use Rattle.loft_words.specs.CommandView.{command_of};
+ghost use Rattle.loft_words.specs.CommandView.{command_of, file_command_of};
 ghost use Rattle.loft_commands.specs.Written.{Appends, IsLine, IsPrefix};
-ghost use Rattle.loft_refusal.specs.Refusals.{IsTextOf, line_of};
-ghost use Rattle.loft_commands.specs.Asks.{Refuses, IsRefusal, Takes};
-ghost use Rattle.loft_commands.specs.Promise.{IsAnswer};
+ghost use Rattle.loft_refusal.specs.Refusals.{line_of};
 ghost use Rattle.loft_top.specs.Status.{IsRefused, IsAccepted};
-ghost use Rattle.loft_top.specs.Answer.{IsText, Answers};
+ghost use Rattle.loft_top.specs.Reads.{contents_of};
+ghost use Rattle.loft_top.specs.Answer.{IsAnswer, Refuses, IsRefusal, AreTaken, IsText, Answers};
 
+use crate::generated::{generate, summarize};
 use crate::status::Status;
 use loft_base::{Files, Gate, Sink};
 use loft_code::code_is_decided;
@@ -23,7 +23,7 @@ use loft_parse::texts_are_decided;
 use loft_place::links_are_decided;
 use loft_refusal::{Refusal, Stopped};
 use loft_roundtrip::texts_have_one_answer;
-use loft_words::{Command, read_words};
+use loft_words::{Command, FileCommand, read_words};
 use std::alloc::Global;
 use std::sync::Wait;
 use std::thread::Threads;
@@ -61,19 +61,19 @@ fn refuse<S: Sink>(alloc: Global, sink: &mut S, refusal: &Refusal) -> Status
     }
 }
 
-/// The answer of a command.
-fn answer<R: Threads + Wait + Sync, F: Files, S: Sink, G: Gate>(
+/// The answer of a command that reads one file.
+fn file_answer<R: Threads + Wait + Sync, F: Files, S: Sink, G: Gate>(
     rt: &R,
     alloc: Global,
-    command: Command,
+    command: FileCommand,
     files: &mut F,
     sink: &mut S,
     gate: &G,
 ) -> Status
-    requires file { IsTrue (F.may_ask files.old (file_of (command_of command))) }
-    requires ranges { KeepsRanges (command_of command) }
-    ensures answers { Answers (command_of command.entry)
-        (F.contents files.old (file_of (command_of command.entry))) result
+    requires file { IsTrue (F.may_ask files.old (file_of (file_command_of command))) }
+    requires ranges { KeepsRanges (file_command_of command) }
+    ensures answers { Answers (OfFile (file_command_of command.entry))
+        (contents_of (F.contents files.old) (file_of (file_command_of command.entry) ∷ [])) result
         (S.written sink.old) (S.written sink.new) (F.faults files.old) (F.faults files.new) }
     ensures file_fault { result ≡ Status.FileFault → Rose (F.faults files.old) (F.faults files.new) }
     ensures sink_fault { result ≡ Status.SinkFault → Rose (S.faults sink.old) (S.faults sink.new) }
@@ -92,6 +92,31 @@ fn answer<R: Threads + Wait + Sync, F: Files, S: Sink, G: Gate>(
     }
 }
 
+/// The answer of a command.
+fn answer<R: Threads + Wait + Sync, F: Files, S: Sink, G: Gate>(
+    rt: &R,
+    alloc: Global,
+    command: Command,
+    files: &mut F,
+    sink: &mut S,
+    gate: &G,
+) -> Status
+    requires files { (file : List ℕ) → Contains (files_of (command_of command)) file
+        → IsTrue (F.may_ask files.old file) }
+    requires ranges { IsInRanges (command_of command) }
+    ensures answers { Answers (command_of command.entry)
+        (contents_of (F.contents files.old) (files_of (command_of command.entry))) result
+        (S.written sink.old) (S.written sink.new) (F.faults files.old) (F.faults files.new) }
+    ensures file_fault { result ≡ Status.FileFault → Rose (F.faults files.old) (F.faults files.new) }
+    ensures sink_fault { result ≡ Status.SinkFault → Rose (S.faults sink.old) (S.faults sink.new) }
+{
+    match command {
+        Command::OfFile(command) => file_answer(rt, alloc, command, files, sink, gate),
+        Command::Gen(number) => generate(alloc, number, sink),
+        Command::GenRun(number) => summarize(rt, alloc, number, sink, gate),
+    }
+}
+
 /// Does what the words after the program's name ask for: reads, answers, and says how it ended.
 pub fn loft_main<R: Threads + Wait + Sync, F: Files, S: Sink, G: Gate>(
     rt: &R,
@@ -101,13 +126,14 @@ pub fn loft_main<R: Threads + Wait + Sync, F: Files, S: Sink, G: Gate>(
     sink: &mut S,
     gate: &G,
 ) -> Status
-    // The file of the command may be asked.
-    requires { (c : PlainCommand) → command (words_of words.now) ≡ Some c
-        → IsTrue (F.may_ask files.old (file_of c)) }
+    // The files of the command may be asked.
+    requires { (c : PlainCommand) (file : List ℕ) → command (words_of words.now) ≡ Some c
+        → Contains (files_of c) file → IsTrue (F.may_ask files.old file) }
 
-    // The promise of each command: the report of a run of a source or a listing, the canonical text, `ok`, the listing.
-    ensures done { (c : PlainCommand) (contents : List ℕ) → command (words_of words.now) ≡ Some c
-        → F.contents files.old (file_of c) ≡ Some contents → result ≡ Status.Done
+    // The promise of each command: the report of a run of a source or a listing, the canonical text, `ok`, the listing, the
+    // step bounds, the source of a number, or the summary of its run.
+    ensures done { (c : PlainCommand) (contents : List (List ℕ)) → command (words_of words.now) ≡ Some c
+        → contents_of (F.contents files.old) (files_of c) ≡ Some contents → result ≡ Status.Done
         → Appends (S.written sink.old) (S.written sink.new) (IsAnswer c contents) }
     ensures done_runs { result ≡ Status.Done → IsSome (command (words_of words.now)) }
 
@@ -120,20 +146,22 @@ pub fn loft_main<R: Threads + Wait + Sync, F: Files, S: Sink, G: Gate>(
 
     // Source comes exactly where the contents are refused, unless a file or the sink fails or the program is out of memory.
     ensures source_runs { result ≡ Status.Source → IsSome (command (words_of words.now)) }
-    ensures source { (c : PlainCommand) (contents : List ℕ) → command (words_of words.now) ≡ Some c
-        → F.contents files.old (file_of c) ≡ Some contents → result ≡ Status.Source
+    ensures source { (c : PlainCommand) (contents : List (List ℕ)) → command (words_of words.now) ≡ Some c
+        → contents_of (F.contents files.old) (files_of c) ≡ Some contents → result ≡ Status.Source
         → Appends (S.written sink.old) (S.written sink.new) (IsRefusal c contents) }
-    ensures refused { (c : PlainCommand) (contents line : List ℕ) → command (words_of words.now) ≡ Some c
-        → F.contents files.old (file_of c) ≡ Some contents → Refuses c contents line
+    ensures refused { (c : PlainCommand) (contents : List (List ℕ)) (line : List ℕ)
+        → command (words_of words.now) ≡ Some c
+        → contents_of (F.contents files.old) (files_of c) ≡ Some contents → Refuses c contents line
         → IsRefused result }
-    ensures accepted { (c : PlainCommand) (contents : List ℕ) (x : Input)
-        → command (words_of words.now) ≡ Some c → F.contents files.old (file_of c) ≡ Some contents
-        → IsTextOf contents x → Takes c x → IsAccepted result }
+    ensures accepted { (c : PlainCommand) (contents : List (List ℕ))
+        → command (words_of words.now) ≡ Some c
+        → contents_of (F.contents files.old) (files_of c) ≡ Some contents → AreTaken c contents
+        → IsAccepted result }
     ensures never_log { result ≢ Status.Log }
 
     // Where the sink fails or the program is out of memory, a prefix of what is to be written stands there.
-    ensures prefix { (c : PlainCommand) (contents : List ℕ) → command (words_of words.now) ≡ Some c
-        → F.contents files.old (file_of c) ≡ Some contents
+    ensures prefix { (c : PlainCommand) (contents : List (List ℕ)) → command (words_of words.now) ≡ Some c
+        → contents_of (F.contents files.old) (files_of c) ≡ Some contents
         → result ≡ Status.SinkFault ⊎ result ≡ Status.NoMemory
         → Appends (S.written sink.old) (S.written sink.new)
         (IsPrefix (IsText c contents (F.faults files.old) (F.faults files.new))) }

@@ -1,22 +1,29 @@
--- Each command takes the same of arguments and of what is parts_of of them.
-use Rattle.std.proofs.Common.{◌≡◌, ℕ, ◌≤◌, arith, length, Bool, true, false, List, [], ◌∷◌, refl, ap, Option, Some, None}
-use Rattle.std.specs.Prelude.{codes, if◌then◌else◌, option_and_then}
+-- Each command takes the same of arguments and of the parts that were gathered of them.
+use Rattle.std.proofs.Common.{◌≡◌, ℕ, ◌≤◌, arith, length, Bool, true, false, List, [], ◌∷◌, refl, ◌∙◌, ap, Option, Some, None}
+use Rattle.std.specs.Prelude.{codes, ◌&&◌, is_none, is_some, if◌then◌else◌, option_and_then}
 use Rattle.std.specs.Option.{option_map}
 use Rattle.std.specs.Str.{bytes_eq}
+use Rattle.std.proofs.Math.Bool.{and-true}
 use Rattle.loft_base.specs.declared.options.RunOptions.{RunOptions}
 use Rattle.loft_base.specs.declared.options.TheConstants.{MAX_INSTANTS, MAX_BUDGET, MAX_BLOCK, MAX_WORKERS}
+use Rattle.loft_gen.specs.declared.source.TheConstants.{GENERATED_MAX}
 use Rattle.loft_words.specs.declared.defaults.TheConstants.{DEFAULT_INSTANTS, DEFAULT_BUDGET, DEFAULT_BLOCK, DEFAULT_WORKERS}
-use Rattle.loft_words.specs.Arguments.{Argument, Plain, Given, plain_words, values, has_only}
-use Rattle.loft_words.specs.Command.{Command, Run, Exec, Show, Check, Compile, Bound, only_file, number_of, options_from, run_names, run_options, run_of, file_alone, command_named}
-use Rattle.loft_words.specs.Parts.{Parts, no_parts, with_arguments}
-use Rattle.loft_words.specs.FromParts.{run_from, file_from, command_from}
-use Rattle.loft_words.proofs.Telling.{Tells, IsRefused, Files, Instants, Budget, Block, Workers, Other, TellsAll, told}
+use Rattle.loft_words.specs.Arguments.{Argument, Plain, Given, Flag, is_among, plain_words, values, flags_of, has_only}
+use Rattle.loft_words.specs.Command.{FileCommand, Run, Exec, Show, Check, Compile, Bound, OfFile, only_file, only_number, number_of, flag_of, options_from, run_names, run_flag, run_options, taking, with_options, of_file, gen_with, gen, file_command_named, command_named}
+use Rattle.loft_words.specs.Parts.{Parts, no_parts, with_arguments, has_no_values, has_no_options}
+use Rattle.loft_words.specs.FromParts.{option_list, run_options_from, run_from, file_from, file_command_from, gen_from, command_from}
+use Rattle.loft_words.proofs.Telling.{Tells, IsRefused, Words, Instants, Budget, Block, Workers, Run as Flags, Other, TellsAll, told}
 
--- two files are too many
+-- two words are too many
 pub not_one : (names : List (List ℕ)) → 2 ≤ length names → only_file names ≡ None
 not_one [] many = absurd (omega arith)
 not_one (name ∷ []) many = absurd (omega arith)
 not_one (name ∷ other ∷ more) many = refl
+
+pub not_one_number : (most : ℕ) (names : List (List ℕ)) → 2 ≤ length names → only_number most names ≡ None
+not_one_number most [] many = absurd (omega arith)
+not_one_number most (name ∷ []) many = absurd (omega arith)
+not_one_number most (name ∷ other ∷ more) many = refl
 
 -- and so are two values
 pub no_number : (most default : ℕ) (values : List (List ℕ)) → 2 ≤ length values → number_of most default values ≡ None
@@ -24,11 +31,17 @@ no_number most default [] many = absurd (omega arith)
 no_number most default (value ∷ []) many = absurd (omega arith)
 no_number most default (value ∷ other ∷ more) many = refl
 
+-- and a flag that is given twice
+pub no_flag : (flags : List (List ℕ)) → 2 ≤ length flags → flag_of flags ≡ None
+no_flag [] many = absurd (omega arith)
+no_flag (flag ∷ []) many = absurd (omega arith)
+no_flag (flag ∷ other ∷ more) many = refl
+
 if_none : {A : Type 0} (b : Bool) (o : Option A) → o ≡ None → (if b then o else None) ≡ None
 if_none true o is = is
 if_none false o is = refl
 
-no_options : (make : List ℕ → RunOptions → Command) (file : Option (List ℕ)) (options : Option RunOptions) → options ≡ None → option_and_then (λ file. option_map (make file) options) file ≡ None
+no_options : (make : List ℕ → RunOptions → FileCommand) (file : Option (List ℕ)) (options : Option RunOptions) → options ≡ None → option_and_then (λ file. option_map (make file) options) file ≡ None
 no_options make None options is = refl
 no_options make (Some file) options is = ap (λ (o : Option RunOptions). option_map (make file) o) is
 
@@ -48,64 +61,166 @@ fourth_missing (Some n) None c d is = refl
 fourth_missing (Some n) (Some m) None d is = refl
 fourth_missing (Some n) (Some m) (Some l) d is = ap (λ (o : Option ℕ). options_from (Some n) (Some m) (Some l) o) is
 
-run_without : (make : List ℕ → RunOptions → Command) (given : List Argument) → run_options given ≡ None → run_of make given ≡ None
-run_without make given is = if_none (has_only run_names given) _ (no_options make (only_file (plain_words given)) (run_options given) is)
-
-run_refused : (make : List ℕ → RunOptions → Command) (given : List Argument) → IsRefused given → run_of make given ≡ None
-run_refused make given (Files many) = if_none (has_only run_names given) _ (ap (λ (o : Option (List ℕ)). option_and_then (λ file. option_map (make file) (run_options given)) o) (not_one (plain_words given) many))
-run_refused make given (Instants many) = run_without make given (ap (λ (o : Option ℕ). options_from o
-    (number_of MAX_BUDGET DEFAULT_BUDGET (values (codes "--budget") given))
-    (number_of MAX_BLOCK DEFAULT_BLOCK (values (codes "--block") given))
-    (number_of MAX_WORKERS DEFAULT_WORKERS (values (codes "--workers") given))) (no_number MAX_INSTANTS DEFAULT_INSTANTS (values (codes "--instants") given) many))
-run_refused make given (Budget many) = run_without make given (second_missing _ _ _ _ (no_number MAX_BUDGET DEFAULT_BUDGET (values (codes "--budget") given) many))
-run_refused make given (Block many) = run_without make given (third_missing _ _ _ _ (no_number MAX_BLOCK DEFAULT_BLOCK (values (codes "--block") given) many))
-run_refused make given (Workers many) = run_without make given (fourth_missing _ _ _ _ (no_number MAX_WORKERS DEFAULT_WORKERS (values (codes "--workers") given) many))
-run_refused make given (Other not) = ap (λ (b : Bool). if b then option_and_then (λ file. option_map (make file) (run_options given)) (only_file (plain_words given)) else None) not
-
--- where no option is given
-no_values : (name : List ℕ) (given : List Argument) → has_only [] given ≡ true → values name given ≡ []
-no_values name [] is = refl
-no_values name (Plain word ∷ more) is = no_values name more is
-no_values name (Given other value ∷ more) is = absurd cc
-
-all_known : (given : List Argument) → has_only [] given ≡ true → has_only run_names given ≡ true
-all_known [] is = refl
-all_known (Plain word ∷ more) is = all_known more is
-all_known (Given other value ∷ more) is = absurd cc
-
-few : (name : List ℕ) (given : List Argument) → has_only [] given ≡ true → 2 ≤ length (values name given) → ⊥
-few name given is many = absurd (omega (arith, ap (λ (l : List (List ℕ)). length l) (no_values name given is)))
-
-file_refused : (given : List Argument) → IsRefused given → file_alone given ≡ None
-file_refused given refused = go (has_only [] given) refl refused
+-- where no flag may be given, none is
+no_flags : (options : List (List ℕ)) (given : List Argument) → has_only options [] given ≡ true → flags_of (codes "--run") given ≡ []
+no_flags options [] is = refl
+no_flags options (Plain word ∷ more) is = no_flags options more is
+no_flags options (Given name value ∷ more) is = no_flags options more (rest _ _ is)
   where
-    go : (b : Bool) → has_only [] given ≡ b → IsRefused given → (if b then only_file (plain_words given) else None) ≡ None
-    go false is refused = refl
-    go true is (Files many) = not_one (plain_words given) many
-    go true is (Instants many) = absurd (few (codes "--instants") given is many)
-    go true is (Budget many) = absurd (few (codes "--budget") given is many)
-    go true is (Block many) = absurd (few (codes "--block") given is many)
-    go true is (Workers many) = absurd (few (codes "--workers") given is many)
-    go true is (Other not) = absurd (cc (all_known given is))
+    rest : (a b : Bool) → (a && b) ≡ true → b ≡ true
+    rest true b is = is
+    rest false b is = absurd cc
+no_flags options (Flag name ∷ more) is = absurd cc
 
-run_told : (make : List ℕ → RunOptions → Command) (given : List Argument) (p : Parts) → Tells p given → run_of make given ≡ run_from make p
-run_told make given p t = rw (t.known, t.file, t.instants, t.budget, t.block, t.workers) refl
-
-file_told : (given : List Argument) (p : Parts) → Tells p given → file_alone given ≡ file_from p
-file_told given p t = rw (t.alone, t.file) refl
-
-command_told : (word : List ℕ) (given : List Argument) (o : Option Parts) → TellsAll given o → command_named word given ≡ option_and_then (command_from word) o
-command_told word given (Some p) t = rw (run_told Run given p t, run_told Exec given p t, file_told given p t) refl
-command_told word given None refused = go (bytes_eq word (codes "run")) (bytes_eq word (codes "exec")) (bytes_eq word (codes "show")) (bytes_eq word (codes "check")) (bytes_eq word (codes "compile")) (bytes_eq word (codes "bound"))
+-- and where no option may have a value, none has
+no_values : (name : List ℕ) (flags : List (List ℕ)) (given : List Argument) → has_only [] flags given ≡ true → values name given ≡ []
+no_values name flags [] is = refl
+no_values name flags (Plain word ∷ more) is = no_values name flags more is
+no_values name flags (Given other value ∷ more) is = absurd cc
+no_values name flags (Flag other ∷ more) is = no_values name flags more (rest _ _ is)
   where
-    go : (a e b c d f : Bool) → (if a then run_of Run given else (if e then run_of Exec given else (if b then option_map Show (file_alone given) else (if c then option_map Check (file_alone given) else (if d then option_map Compile (file_alone given) else (if f then option_map Bound (file_alone given) else None)))))) ≡ None
+    rest : (a b : Bool) → (a && b) ≡ true → b ≡ true
+    rest true b is = is
+    rest false b is = absurd cc
+
+too_few : {P : Type 0} (names : List (List ℕ)) → names ≡ [] → 2 ≤ length names → P
+too_few names is many = absurd (omega (arith, ap (λ (l : List (List ℕ)). length l) is))
+
+-- what may be given is known
+known : (options flags : List (List ℕ)) → ((a : Argument) → is_among options flags a ≡ true → is_among run_names run_flag a ≡ true)
+    → (given : List Argument) → has_only options flags given ≡ true → has_only run_names run_flag given ≡ true
+known options flags more [] is = refl
+known options flags more (argument ∷ given) is = go (is_among options flags argument) refl is (λ rest. known options flags more given rest)
+  where
+    go : (b : Bool) → is_among options flags argument ≡ b → (b && has_only options flags given) ≡ true
+        → (has_only options flags given ≡ true → has_only run_names run_flag given ≡ true) → (is_among run_names run_flag argument && has_only run_names run_flag given) ≡ true
+    go true among rest others = rw (more argument among) (others rest)
+    go false among rest others = absurd cc
+
+known_options : (a : Argument) → is_among run_names [] a ≡ true → is_among run_names run_flag a ≡ true
+known_options (Plain word) is = refl
+known_options (Given name value) is = is
+known_options (Flag name) is = absurd cc
+
+known_flag : (a : Argument) → is_among [] run_flag a ≡ true → is_among run_names run_flag a ≡ true
+known_flag (Plain word) is = refl
+known_flag (Given name value) is = absurd cc
+known_flag (Flag name) is = is
+
+known_alone : (a : Argument) → is_among [] [] a ≡ true → is_among run_names run_flag a ≡ true
+known_alone (Plain word) is = refl
+known_alone (Given name value) is = absurd cc
+known_alone (Flag name) is = absurd cc
+
+-- ---- arguments that were refused
+
+refuses : {A : Type 0} (options flags : List (List ℕ)) (given : List Argument) (asked : Option A) → (has_only options flags given ≡ true → asked ≡ None) → taking options flags given asked ≡ None
+refuses {A} options flags given asked none = go (has_only options flags given) refl
+  where
+    go : (b : Bool) → has_only options flags given ≡ b → (if b then asked else None) ≡ None
+    go true is = none is
+    go false is = refl
+
+run_refused : (make : List ℕ → RunOptions → FileCommand) (given : List Argument) → IsRefused given → taking run_names [] given (with_options make given) ≡ None
+run_refused make given r = refuses run_names [] given (with_options make given) (go r)
+  where
+    go : IsRefused given → has_only run_names [] given ≡ true → with_options make given ≡ None
+    go (Words many) is = ap (λ (o : Option (List ℕ)). option_and_then (λ file. option_map (make file) (run_options given)) o) (not_one (plain_words given) many)
+    go (Instants many) is = no_options make (only_file (plain_words given)) (run_options given) (ap (λ (o : Option ℕ). options_from o
+        (number_of MAX_BUDGET DEFAULT_BUDGET (values (codes "--budget") given))
+        (number_of MAX_BLOCK DEFAULT_BLOCK (values (codes "--block") given))
+        (number_of MAX_WORKERS DEFAULT_WORKERS (values (codes "--workers") given))) (no_number MAX_INSTANTS DEFAULT_INSTANTS (values (codes "--instants") given) many))
+    go (Budget many) is = no_options make (only_file (plain_words given)) (run_options given) (second_missing _ _ _ _ (no_number MAX_BUDGET DEFAULT_BUDGET (values (codes "--budget") given) many))
+    go (Block many) is = no_options make (only_file (plain_words given)) (run_options given) (third_missing _ _ _ _ (no_number MAX_BLOCK DEFAULT_BLOCK (values (codes "--block") given) many))
+    go (Workers many) is = no_options make (only_file (plain_words given)) (run_options given) (fourth_missing _ _ _ _ (no_number MAX_WORKERS DEFAULT_WORKERS (values (codes "--workers") given) many))
+    go (Flags many) is = too_few (flags_of (codes "--run") given) (no_flags run_names given is) many
+    go (Other not) is = absurd (cc (known run_names [] known_options given is))
+
+file_refused : (make : List ℕ → FileCommand) (given : List Argument) → IsRefused given → taking [] [] given (of_file make given) ≡ None
+file_refused make given r = refuses [] [] given (of_file make given) (go r)
+  where
+    go : IsRefused given → has_only [] [] given ≡ true → of_file make given ≡ None
+    go (Words many) is = ap (λ (o : Option (List ℕ)). option_map make o) (not_one (plain_words given) many)
+    go (Instants many) is = too_few (values (codes "--instants") given) (no_values (codes "--instants") [] given is) many
+    go (Budget many) is = too_few (values (codes "--budget") given) (no_values (codes "--budget") [] given is) many
+    go (Block many) is = too_few (values (codes "--block") given) (no_values (codes "--block") [] given is) many
+    go (Workers many) is = too_few (values (codes "--workers") given) (no_values (codes "--workers") [] given is) many
+    go (Flags many) is = too_few (flags_of (codes "--run") given) (no_flags [] given is) many
+    go (Other not) is = absurd (cc (known [] [] known_alone given is))
+
+no_gen : (o : Option ℕ) (run : Option Bool) → run ≡ None → option_and_then (λ number. option_map (gen_with number) run) o ≡ None
+no_gen None run is = refl
+no_gen (Some number) run is = ap (λ (o : Option Bool). option_map (gen_with number) o) is
+
+gen_refused : (given : List Argument) → IsRefused given → taking [] run_flag given (gen given) ≡ None
+gen_refused given r = refuses [] run_flag given (gen given) (go r)
+  where
+    go : IsRefused given → has_only [] run_flag given ≡ true → gen given ≡ None
+    go (Words many) is = ap (λ (o : Option ℕ). option_and_then (λ number. option_map (gen_with number) (flag_of (flags_of (codes "--run") given))) o) (not_one_number GENERATED_MAX (plain_words given) many)
+    go (Instants many) is = too_few (values (codes "--instants") given) (no_values (codes "--instants") run_flag given is) many
+    go (Budget many) is = too_few (values (codes "--budget") given) (no_values (codes "--budget") run_flag given is) many
+    go (Block many) is = too_few (values (codes "--block") given) (no_values (codes "--block") run_flag given is) many
+    go (Workers many) is = too_few (values (codes "--workers") given) (no_values (codes "--workers") run_flag given is) many
+    go (Flags many) is = no_gen (only_number GENERATED_MAX (plain_words given)) (flag_of (flags_of (codes "--run") given)) (no_flag (flags_of (codes "--run") given) many)
+    go (Other not) is = absurd (cc (known [] run_flag known_flag given is))
+
+-- ---- arguments that were gathered
+
+run_same : (make : List ℕ → RunOptions → FileCommand) (b : Bool) (file : Option (List ℕ)) (o : Option RunOptions)
+    → (if b then option_and_then (λ f. option_map (make f) o) file else None) ≡ option_and_then (λ f. option_map (make f) (if b then o else None)) file
+run_same make true file o = refl
+run_same make false None o = refl
+run_same make false (Some f) o = refl
+
+run_told : (make : List ℕ → RunOptions → FileCommand) (given : List Argument) (p : Parts) → Tells p given → taking run_names [] given (with_options make given) ≡ run_from make p
+run_told make given p t =
+    let only : has_only run_names [] given ≡ is_none p.run = t.only run_names [] in
+    rw (only, t.plain, t.instants, t.budget, t.block, t.workers) (run_same make (is_none p.run) (only_file (option_list p.plain)) (run_options_from p))
+
+file_same : (make : List ℕ → FileCommand) (b : Bool) (file : Option (List ℕ)) → (if b then option_map make file else None) ≡ option_map make (if b then file else None)
+file_same make true file = refl
+file_same make false file = refl
+
+file_told : (make : List ℕ → FileCommand) (given : List Argument) (p : Parts) → Tells p given → taking [] [] given (of_file make given) ≡ option_map make (file_from p)
+file_told make given p t =
+    let only : has_only [] [] given ≡ has_no_options p = t.only [] [] in
+    rw (only, t.plain) (file_same make (has_no_options p) (only_file (option_list p.plain)))
+
+gen_same : (b : Bool) (number : Option ℕ) (run : Option (List ℕ))
+    → (if b then option_and_then (λ n. option_map (gen_with n) (flag_of (option_list run))) number else None) ≡ option_map (λ n. gen_with n (is_some run)) (if b then number else None)
+gen_same false number run = refl
+gen_same true None run = refl
+gen_same true (Some n) None = refl
+gen_same true (Some n) (Some flag) = refl
+
+gen_told : (given : List Argument) (p : Parts) → Tells p given → taking [] run_flag given (gen given) ≡ gen_from p
+gen_told given p t =
+    let only : has_only [] run_flag given ≡ has_no_values p = t.only [] run_flag ∙ and-true (has_no_values p) in
+    rw (only, t.plain, t.run) (gen_same (has_no_values p) (only_number GENERATED_MAX (option_list p.plain)) p.run)
+
+file_command_told : (word : List ℕ) (given : List Argument) (o : Option Parts) → TellsAll given o → file_command_named word given ≡ option_and_then (file_command_from word) o
+file_command_told word given (Some p) t =
+    rw (run_told Run given p t, run_told Exec given p t, file_told Show given p t, file_told Check given p t, file_told Compile given p t, file_told Bound given p t) refl
+file_command_told word given None refused = go (bytes_eq word (codes "run")) (bytes_eq word (codes "exec")) (bytes_eq word (codes "show")) (bytes_eq word (codes "check")) (bytes_eq word (codes "compile")) (bytes_eq word (codes "bound"))
+  where
+    go : (a e b c d f : Bool) → (if a then taking run_names [] given (with_options Run given) else (if e then taking run_names [] given (with_options Exec given)
+        else (if b then taking [] [] given (of_file Show given) else (if c then taking [] [] given (of_file Check given)
+        else (if d then taking [] [] given (of_file Compile given) else (if f then taking [] [] given (of_file Bound given) else None)))))) ≡ None
     go true e b c d f = run_refused Run given refused
     go false true b c d f = run_refused Exec given refused
-    go false false true c d f = ap (λ (o : Option (List ℕ)). option_map Show o) (file_refused given refused)
-    go false false false true d f = ap (λ (o : Option (List ℕ)). option_map Check o) (file_refused given refused)
-    go false false false false true f = ap (λ (o : Option (List ℕ)). option_map Compile o) (file_refused given refused)
-    go false false false false false true = ap (λ (o : Option (List ℕ)). option_map Bound o) (file_refused given refused)
+    go false false true c d f = file_refused Show given refused
+    go false false false true d f = file_refused Check given refused
+    go false false false false true f = file_refused Compile given refused
+    go false false false false false true = file_refused Bound given refused
     go false false false false false false = refl
+
+command_told : (word : List ℕ) (given : List Argument) (o : Option Parts) → TellsAll given o → command_named word given ≡ option_and_then (command_from word) o
+command_told word given (Some p) t = rw (gen_told given p t, file_command_told word given (Some p) t) refl
+command_told word given None refused = go (bytes_eq word (codes "gen"))
+  where
+    go : (a : Bool) → (if a then taking [] run_flag given (gen given) else option_map OfFile (file_command_named word given)) ≡ None
+    go true = gen_refused given refused
+    go false = ap (λ (o : Option FileCommand). option_map OfFile o) (file_command_told word given None refused)
 
 pub command_from_parts : (word : List ℕ) (o : Option (List Argument)) → option_and_then (command_named word) o ≡ option_and_then (command_from word) (option_and_then (with_arguments no_parts) o)
 command_from_parts word None = refl

@@ -8,7 +8,7 @@ use Rattle.std.proofs.Math.Seq.{drop-append-add}
 use Rattle.std.proofs.lemmas.Grind.{common_steps}
 use Rattle.std.proofs.lemmas.List.Folds.{list_any-append}
 use Rattle.std.proofs.lemmas.Slice.Eq.{bytes_eq-Decides}
-use Rattle.loft_words.specs.Words.{is_option, is_equals_sign, has_value, name_in, value_in}
+use Rattle.loft_words.specs.Words.{is_option, is_flag, is_equals_sign, has_value, name_in, value_in}
 use Rattle.loft_words.specs.Arguments.{arguments}
 
 -- the '=' after a name without one is the first
@@ -44,7 +44,7 @@ is_option_still : (name value : List ℕ) → is_option name ≡ true → is_opt
 is_option_still [] value is = absurd cc
 is_option_still (b ∷ bs) value is = is
 
-pub two_forms : (name value : List ℕ) (words : List (List ℕ)) → is_option name ≡ true → bytes_eq name (codes "--") ≡ false → has_value name ≡ false → is_option value ≡ false
+pub two_forms : (name value : List ℕ) (words : List (List ℕ)) → is_option name ≡ true → bytes_eq name (codes "--") ≡ false → has_value name ≡ false → is_flag name ≡ false → is_option value ≡ false
     → arguments ((name ++ (61 ∷ value)) ∷ words) ≡ arguments (name ∷ value ∷ words)
-two_forms name value words option end none plain =
-    rw (no_end name value, is_option_still name value option, has_sign name value, name_of name value none, value_of name value none, end, option, none, plain) refl
+two_forms name value words option end none valued plain =
+    rw (no_end name value, is_option_still name value option, has_sign name value, name_of name value none, value_of name value none, end, option, none, valued, plain) refl

@@ -1,4 +1,4 @@
--- The numbers of a run have their ranges.
+-- The numbers of a command have their ranges.
 use Rattle.std.proofs.Common.{◌≡◌, ℕ, ◌≤◌, arith, Bool, true, false, List, [], ◌∷◌, refl, subst, Option, Some, None}
 use Rattle.std.specs.Prelude.{codes, ◌&&◌, nat_le, if◌then◌else◌, option_and_then}
 use Rattle.std.specs.Option.{option_map}
@@ -9,10 +9,11 @@ use Rattle.loft_base.specs.declared.options.RunOptions.{RunOptions}
 use Rattle.loft_base.specs.declared.options.TheConstants.{MAX_INSTANTS, MAX_BUDGET, MAX_BLOCK, MAX_WORKERS}
 use Rattle.loft_words.specs.declared.defaults.TheConstants.{DEFAULT_INSTANTS, DEFAULT_BUDGET, DEFAULT_BLOCK, DEFAULT_WORKERS}
 use Rattle.loft_words.specs.Words.{is_number, number_in}
-use Rattle.loft_words.specs.Arguments.{Argument, arguments, plain_words, values, has_only}
-use Rattle.loft_words.specs.Command.{Command, Run, Exec, Show, Check, Compile, Bound, only_file, number_of, options_from, run_names, run_options, run_of, file_alone, command_named, command}
+use Rattle.loft_gen.specs.declared.source.TheConstants.{GENERATED_MAX}
+use Rattle.loft_words.specs.Arguments.{Argument, arguments, plain_words, values, flags_of, has_only}
+use Rattle.loft_words.specs.Command.{FileCommand, Run, Exec, Show, Check, Compile, Bound, Command, OfFile, only_file, only_number, number_of, flag_of, options_from, run_names, run_flag, run_options, taking, with_options, of_file, gen_with, gen, file_command_named, command_named, command}
 use Rattle.loft_base.specs.Options.{AreInRange}
-use Rattle.loft_words.specs.Ranges.{KeepsRanges}
+use Rattle.loft_words.specs.Ranges.{KeepsRanges, IsInRanges}
 
 number_in_range : (most n : ℕ) (word : List ℕ) → number_in most word ≡ Some n → (1 ≤ n) × (n ≤ most)
 number_in_range most n word is = go (is_number word) (nat_le 1 (digits_value 10 word)) (nat_le (digits_value 10 word) most) refl refl is
@@ -53,13 +54,13 @@ run_options_range given options is = options_range _ _ _ _ options
     (λ n e. number_of_range MAX_WORKERS DEFAULT_WORKERS n (values (codes "--workers") given) (omega arith) (omega arith) e) is
 
 -- what there is keeps its ranges
-abbrev Keeps : Option Command → Type 0
+abbrev Keeps : Option FileCommand → Type 0
 Keeps None = Unit {0}
 Keeps (Some c) = KeepsRanges c
 
-run_keeps : (make : List ℕ → RunOptions → Command) → ((file : List ℕ) (o : RunOptions) → AreInRange o → KeepsRanges (make file o))
-    → (given : List Argument) → Keeps (run_of make given)
-run_keeps make made given = go (has_only run_names given) (only_file (plain_words given)) (run_options given) refl
+run_keeps : (make : List ℕ → RunOptions → FileCommand) → ((file : List ℕ) (o : RunOptions) → AreInRange o → KeepsRanges (make file o))
+    → (given : List Argument) → Keeps (taking run_names [] given (with_options make given))
+run_keeps make made given = go (has_only run_names [] given) (only_file (plain_words given)) (run_options given) refl
   where
     go : (b : Bool) (file : Option (List ℕ)) (o : Option RunOptions) → run_options given ≡ o → Keeps (if b then option_and_then (λ f. option_map (make f) o) file else None)
     go false file o is = tt
@@ -67,30 +68,68 @@ run_keeps make made given = go (has_only run_names given) (only_file (plain_word
     go true (Some f) None is = tt
     go true (Some f) (Some o) is = made f o (run_options_range given o is)
 
-file_keeps : (make : List ℕ → Command) → ((file : List ℕ) → KeepsRanges (make file)) → (o : Option (List ℕ)) → Keeps (option_map make o)
-file_keeps make made None = tt
-file_keeps make made (Some file) = made file
-
-named_keeps : (word : List ℕ) (given : List Argument) → Keeps (command_named word given)
-named_keeps word given = go (bytes_eq word (codes "run")) (bytes_eq word (codes "exec")) (bytes_eq word (codes "show")) (bytes_eq word (codes "check")) (bytes_eq word (codes "compile")) (bytes_eq word (codes "bound"))
+file_keeps : (make : List ℕ → FileCommand) → ((file : List ℕ) → KeepsRanges (make file)) → (given : List Argument) → Keeps (taking [] [] given (of_file make given))
+file_keeps make made given = go (has_only [] [] given) (only_file (plain_words given))
   where
-    go : (a e b c d f : Bool) → Keeps (if a then run_of Run given else (if e then run_of Exec given else (if b then option_map Show (file_alone given) else (if c then option_map Check (file_alone given) else (if d then option_map Compile (file_alone given) else (if f then option_map Bound (file_alone given) else None))))))
+    go : (b : Bool) (file : Option (List ℕ)) → Keeps (if b then option_map make file else None)
+    go false file = tt
+    go true None = tt
+    go true (Some f) = made f
+
+file_named_keeps : (word : List ℕ) (given : List Argument) → Keeps (file_command_named word given)
+file_named_keeps word given = go (bytes_eq word (codes "run")) (bytes_eq word (codes "exec")) (bytes_eq word (codes "show")) (bytes_eq word (codes "check")) (bytes_eq word (codes "compile")) (bytes_eq word (codes "bound"))
+  where
+    go : (a e b c d f : Bool) → Keeps (if a then taking run_names [] given (with_options Run given) else (if e then taking run_names [] given (with_options Exec given)
+        else (if b then taking [] [] given (of_file Show given) else (if c then taking [] [] given (of_file Check given)
+        else (if d then taking [] [] given (of_file Compile given) else (if f then taking [] [] given (of_file Bound given) else None))))))
     go true e b c d f = run_keeps Run (λ file o range. range) given
     go false true b c d f = run_keeps Exec (λ file o range. range) given
-    go false false true c d f = file_keeps Show (λ file. tt) (file_alone given)
-    go false false false true d f = file_keeps Check (λ file. tt) (file_alone given)
-    go false false false false true f = file_keeps Compile (λ file. tt) (file_alone given)
-    go false false false false false true = file_keeps Bound (λ file. tt) (file_alone given)
+    go false false true c d f = file_keeps Show (λ file. tt) given
+    go false false false true d f = file_keeps Check (λ file. tt) given
+    go false false false false true f = file_keeps Compile (λ file. tt) given
+    go false false false false false true = file_keeps Bound (λ file. tt) given
     go false false false false false false = tt
 
-words_keep : (words : List (List ℕ)) → Keeps (command words)
+-- the same of every command
+abbrev AreKept : Option Command → Type 0
+AreKept None = Unit {0}
+AreKept (Some c) = IsInRanges c
+
+only_number_range : (most : ℕ) (words : List (List ℕ)) (n : ℕ) → only_number most words ≡ Some n → (1 ≤ n) × (n ≤ most)
+only_number_range most [] n is = absurd cc
+only_number_range most (word ∷ []) n is = number_in_range most n word is
+only_number_range most (word ∷ other ∷ more) n is = absurd cc
+
+gen_keeps : (given : List Argument) → AreKept (taking [] run_flag given (gen given))
+gen_keeps given = go (has_only [] run_flag given) (only_number GENERATED_MAX (plain_words given)) (flag_of (flags_of (codes "--run") given)) refl
+  where
+    go : (b : Bool) (number : Option ℕ) (run : Option Bool) → only_number GENERATED_MAX (plain_words given) ≡ number
+        → AreKept (if b then option_and_then (λ n. option_map (gen_with n) run) number else None)
+    go false number run is = tt
+    go true None run is = tt
+    go true (Some n) None is = tt
+    go true (Some n) (Some true) is = only_number_range GENERATED_MAX (plain_words given) n is
+    go true (Some n) (Some false) is = only_number_range GENERATED_MAX (plain_words given) n is
+
+of_file_kept : (o : Option FileCommand) → Keeps o → AreKept (option_map OfFile o)
+of_file_kept None keeps = tt
+of_file_kept (Some c) keeps = keeps
+
+named_keeps : (word : List ℕ) (given : List Argument) → AreKept (command_named word given)
+named_keeps word given = go (bytes_eq word (codes "gen"))
+  where
+    go : (a : Bool) → AreKept (if a then taking [] run_flag given (gen given) else option_map OfFile (file_command_named word given))
+    go true = gen_keeps given
+    go false = of_file_kept (file_command_named word given) (file_named_keeps word given)
+
+words_keep : (words : List (List ℕ)) → AreKept (command words)
 words_keep [] = tt
 words_keep (word ∷ words) = go (arguments words)
   where
-    go : (o : Option (List Argument)) → Keeps (option_and_then (command_named word) o)
+    go : (o : Option (List Argument)) → AreKept (option_and_then (command_named word) o)
     go None = tt
     go (Some given) = named_keeps word given
 
 -- whatever the words are
-pub command_range : (words : List (List ℕ)) (c : Command) → command words ≡ Some c → KeepsRanges c
-command_range words c is = subst Keeps is (words_keep words)
+pub command_range : (words : List (List ℕ)) (c : Command) → command words ≡ Some c → IsInRanges c
+command_range words c is = subst AreKept is (words_keep words)

@@ -1,5 +1,5 @@
 pub mod Texts
-pub mod TwoFiles
+pub mod TwoWords
 pub mod Telling
 pub mod Commands
 pub mod InRange

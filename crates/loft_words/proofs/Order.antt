@@ -8,9 +8,10 @@ use Rattle.std.proofs.lemmas.List.Elements.{filter_map-append}
 use Rattle.std.proofs.lemmas.List.Folds.{list_all-append}
 use Rattle.loft_base.specs.declared.options.TheConstants.{MAX_INSTANTS, MAX_BUDGET, MAX_BLOCK, MAX_WORKERS}
 use Rattle.loft_words.specs.declared.defaults.TheConstants.{DEFAULT_INSTANTS, DEFAULT_BUDGET, DEFAULT_BLOCK, DEFAULT_WORKERS}
-use Rattle.loft_words.specs.Arguments.{Argument, plain_word, value_for, is_among, has_only}
-use Rattle.loft_words.specs.Command.{Command, Run, Exec, Show, Check, Compile, Bound, only_file, number_of, options_from, run_names, command_named}
-use Rattle.loft_words.proofs.Commands.{not_one, no_number}
+use Rattle.loft_gen.specs.declared.source.TheConstants.{GENERATED_MAX}
+use Rattle.loft_words.specs.Arguments.{Argument, plain_word, value_for, flag_for, is_among, has_only}
+use Rattle.loft_words.specs.Command.{FileCommand, Run, Exec, Show, Check, Compile, Bound, Command, OfFile, only_file, only_number, number_of, flag_of, options_from, run_names, run_flag, gen_with, command_named}
+use Rattle.loft_words.proofs.Commands.{not_one, not_one_number, no_number, no_flag}
 
 -- the same words, or more than one on both sides
 abbrev AreAlike : List (List ℕ) → List (List ℕ) → Type 0
@@ -42,40 +43,60 @@ same_file : (xs ys : List (List ℕ)) → AreAlike xs ys → only_file xs ≡ on
 same_file xs ys (inl same) = ap (λ (l : List (List ℕ)). only_file l) same
 same_file xs ys (inr (many, much)) = not_one xs many ∙ sym (not_one ys much)
 
+same_k : (xs ys : List (List ℕ)) → AreAlike xs ys → only_number GENERATED_MAX xs ≡ only_number GENERATED_MAX ys
+same_k xs ys (inl same) = ap (λ (l : List (List ℕ)). only_number GENERATED_MAX l) same
+same_k xs ys (inr (many, much)) = not_one_number GENERATED_MAX xs many ∙ sym (not_one_number GENERATED_MAX ys much)
+
+same_flag : (xs ys : List (List ℕ)) → AreAlike xs ys → flag_of xs ≡ flag_of ys
+same_flag xs ys (inl same) = ap (λ (l : List (List ℕ)). flag_of l) same
+same_flag xs ys (inr (many, much)) = no_flag xs many ∙ sym (no_flag ys much)
+
 swapped : (a b c : Bool) → (a && (b && c)) ≡ (b && (a && c))
 swapped true true c = refl
 swapped true false c = refl
 swapped false true c = refl
 swapped false false c = refl
 
-same_names : (names : List (List ℕ)) (before after : List Argument) (a b : Argument) → has_only names (before ++ (a ∷ b ∷ after)) ≡ has_only names (before ++ (b ∷ a ∷ after))
-same_names names before after a b =
-    list_all-append (is_among names) before (a ∷ b ∷ after)
-    ∙ ap (λ (t : Bool). list_all (is_among names) before && t) (swapped (is_among names a) (is_among names b) (list_all (is_among names) after))
-    ∙ sym (list_all-append (is_among names) before (b ∷ a ∷ after))
+same_names : (options flags : List (List ℕ)) (before after : List Argument) (a b : Argument) → has_only options flags (before ++ (a ∷ b ∷ after)) ≡ has_only options flags (before ++ (b ∷ a ∷ after))
+same_names options flags before after a b =
+    list_all-append (is_among options flags) before (a ∷ b ∷ after)
+    ∙ ap (λ (t : Bool). list_all (is_among options flags) before && t) (swapped (is_among options flags a) (is_among options flags b) (list_all (is_among options flags) after))
+    ∙ sym (list_all-append (is_among options flags) before (b ∷ a ∷ after))
 
--- a command is made of seven answers
-made_alike : (F : Bool → Bool → Option (List ℕ) → Option ℕ → Option ℕ → Option ℕ → Option ℕ → Option Command)
+-- a command that reads one file is made of seven answers, and that of a number of three
+file_made_alike : (F : Bool → Bool → Option (List ℕ) → Option ℕ → Option ℕ → Option ℕ → Option ℕ → Option FileCommand)
     (b c d e : Bool) (f g : Option (List ℕ)) (i j k l m n o p : Option ℕ) → b ≡ c → d ≡ e → f ≡ g → i ≡ j → k ≡ l → m ≡ n → o ≡ p
     → F b d f i k m o ≡ F c e g j l n p
-made_alike F b c d e f g i j k l m n o p r s t u v w x = cc
+file_made_alike F b c d e f g i j k l m n o p r s t u v w x = cc
 
-abbrev command_with : List ℕ → (known alone : Bool) (file : Option (List ℕ)) (instants budget block workers : Option ℕ) → Option Command
-command_with word known alone file instants budget block workers =
+made_alike : (F : Bool → Option ℕ → Option Bool → Option FileCommand → Option Command) (b c : Bool) (i j : Option ℕ) (r s : Option Bool) (f g : Option FileCommand)
+    → b ≡ c → i ≡ j → r ≡ s → f ≡ g → F b i r f ≡ F c j s g
+made_alike F b c i j r s f g t u v w = cc
+
+abbrev file_command_with : List ℕ → (known alone : Bool) (file : Option (List ℕ)) (instants budget block workers : Option ℕ) → Option FileCommand
+file_command_with word known alone file instants budget block workers =
     if bytes_eq word (codes "run") then (if known then option_and_then (λ f. option_map (Run f) (options_from instants budget block workers)) file else None)
     else (if bytes_eq word (codes "exec") then (if known then option_and_then (λ f. option_map (Exec f) (options_from instants budget block workers)) file else None)
-    else (if bytes_eq word (codes "show") then option_map Show (if alone then file else None)
-    else (if bytes_eq word (codes "check") then option_map Check (if alone then file else None)
-    else (if bytes_eq word (codes "compile") then option_map Compile (if alone then file else None)
-    else (if bytes_eq word (codes "bound") then option_map Bound (if alone then file else None) else None)))))
+    else (if bytes_eq word (codes "show") then (if alone then option_map Show file else None)
+    else (if bytes_eq word (codes "check") then (if alone then option_map Check file else None)
+    else (if bytes_eq word (codes "compile") then (if alone then option_map Compile file else None)
+    else (if bytes_eq word (codes "bound") then (if alone then option_map Bound file else None) else None)))))
+
+abbrev command_with : List ℕ → (numbered : Bool) (number : Option ℕ) (run : Option Bool) (file : Option FileCommand) → Option Command
+command_with word numbered number run file =
+    if bytes_eq word (codes "gen") then (if numbered then option_and_then (λ n. option_map (gen_with n) run) number else None) else option_map OfFile file
 
 pub neighbours : (word : List ℕ) (before after : List Argument) (a b : Argument)
     → command_named word (before ++ (a ∷ b ∷ after)) ≡ command_named word (before ++ (b ∷ a ∷ after))
-neighbours word before after a b = made_alike (command_with word) _ _ _ _ _ _ _ _ _ _ _ _ _ _
-    (same_names run_names before after a b)
-    (same_names [] before after a b)
+neighbours word before after a b = made_alike (command_with word) _ _ _ _ _ _ _ _
+    (same_names [] run_flag before after a b)
+    (same_k _ _ (alike plain_word before after a b))
+    (same_flag _ _ (alike (flag_for (codes "--run")) before after a b))
+    (file_made_alike (file_command_with word) _ _ _ _ _ _ _ _ _ _ _ _ _ _
+    (same_names run_names [] before after a b)
+    (same_names [] [] before after a b)
     (same_file _ _ (alike plain_word before after a b))
     (same_number MAX_INSTANTS DEFAULT_INSTANTS _ _ (alike (value_for (codes "--instants")) before after a b))
     (same_number MAX_BUDGET DEFAULT_BUDGET _ _ (alike (value_for (codes "--budget")) before after a b))
     (same_number MAX_BLOCK DEFAULT_BLOCK _ _ (alike (value_for (codes "--block")) before after a b))
-    (same_number MAX_WORKERS DEFAULT_WORKERS _ _ (alike (value_for (codes "--workers")) before after a b))
+    (same_number MAX_WORKERS DEFAULT_WORKERS _ _ (alike (value_for (codes "--workers")) before after a b)))

@@ -1,132 +1,164 @@
 -- What parts tell of arguments.
 use Rattle.std.proofs.Common.{◌≡◌, ℕ, ◌≤◌, arith, length, Bool, true, false, List, [], ◌∷◌, ◌++◌, refl, sym, ◌∙◌, ap, subst, Option, Some, None, append_assoc}
-use Rattle.std.specs.Prelude.{codes, ◌&&◌, if◌then◌else◌, is_none, option_and_then}
+use Rattle.std.specs.Prelude.{codes, ◌&&◌, ◌||◌, if◌then◌else◌, is_none, option_and_then}
 use Rattle.std.specs.Option.{option_map}
+use Rattle.std.specs.List.{filter_map, list_any}
 use Rattle.std.specs.Str.{bytes_eq}
-use Rattle.std.proofs.Math.Bool.{and-false, and-true}
+use Rattle.std.proofs.Math.Bool.{and-false, and-true, or-true}
 use Rattle.std.proofs.lemmas.List.{append-nil}
 use Rattle.std.proofs.lemmas.Slice.Eq.{bytes_eq-Decides}
 use Rattle.std.proofs.lemmas.List.Elements.{filter_map-append}
 use Rattle.std.proofs.lemmas.List.Folds.{list_all-append}
-use Rattle.loft_words.specs.Arguments.{Argument, Plain, Given, plain_word, value_for, is_among, plain_words, values, has_only}
-use Rattle.loft_words.specs.Parts.{Parts, no_parts, with_argument, with_arguments, first_value, has_no_options}
+use Rattle.loft_words.specs.Arguments.{Argument, Plain, Given, Flag, plain_word, value_for, flag_for, is_among, plain_words, values, flags_of, has_only}
+use Rattle.loft_words.specs.Parts.{Parts, no_parts, with_argument, with_arguments, first_value}
 use Rattle.loft_words.specs.FromParts.{option_list}
-use Rattle.loft_words.specs.Command.{run_names}
+use Rattle.loft_words.specs.Command.{run_names, run_flag}
 
--- these arguments have this file and these values of options
+-- no option but these, where each is there only if it is among them
+abbrev pub five : (a b c d e : Bool) → Bool
+five a b c d e = a && b && c && d && e
+
+abbrev pub within : (name : List ℕ) (names : List (List ℕ)) → Option (List ℕ) → Bool
+within name names o = list_any (λ other. bytes_eq name other) names || is_none o
+
+abbrev pub only_these : (options flags : List (List ℕ)) → Parts → Bool
+only_these options flags p = five (within (codes "--instants") options p.instants) (within (codes "--budget") options p.budget) (within (codes "--block") options p.block) (within (codes "--workers") options p.workers) (within (codes "--run") flags p.run)
+
+-- these arguments have this word that is no option, these values of options, and this flag
 pub record Tells (p : Parts) (given : List Argument) : Type 0 where
-  pub file : plain_words given ≡ option_list p.file
+  pub plain : plain_words given ≡ option_list p.plain
   pub instants : values (codes "--instants") given ≡ option_list p.instants
   pub budget : values (codes "--budget") given ≡ option_list p.budget
   pub block : values (codes "--block") given ≡ option_list p.block
   pub workers : values (codes "--workers") given ≡ option_list p.workers
-  pub known : has_only run_names given ≡ true
-  pub alone : has_only [] given ≡ has_no_options p
+  pub run : flags_of (codes "--run") given ≡ option_list p.run
+  pub only : (options flags : List (List ℕ)) → has_only options flags given ≡ only_these options flags p
 
--- two files, an option twice, or one that isn't known
+-- two words that are no options, an option twice, or one that isn't known
 pub data IsRefused (given : List Argument) : Type 0 where
-  Files : 2 ≤ length (plain_words given) → IsRefused given
+  Words : 2 ≤ length (plain_words given) → IsRefused given
   Instants : 2 ≤ length (values (codes "--instants") given) → IsRefused given
   Budget : 2 ≤ length (values (codes "--budget") given) → IsRefused given
   Block : 2 ≤ length (values (codes "--block") given) → IsRefused given
   Workers : 2 ≤ length (values (codes "--workers") given) → IsRefused given
-  Other : has_only run_names given ≡ false → IsRefused given
+  Run : 2 ≤ length (flags_of (codes "--run") given) → IsRefused given
+  Other : has_only run_names run_flag given ≡ false → IsRefused given
 
 -- one argument more
-plain_of : (done more : List Argument) → plain_words (done ++ more) ≡ plain_words done ++ plain_words more
-plain_of done more = filter_map-append plain_word done more
+has_only_of : (options flags : List (List ℕ)) (done more : List Argument) → has_only options flags (done ++ more) ≡ (has_only options flags done && has_only options flags more)
+has_only_of options flags done more = list_all-append (is_among options flags) done more
 
-values_of : (name : List ℕ) (done more : List Argument) → values name (done ++ more) ≡ values name done ++ values name more
-values_of name done more = filter_map-append (value_for name) done more
+-- an argument in which nothing is found
+found_kept : (f : Argument → Option (List ℕ)) (done : List Argument) (argument : Argument) (o : Option (List ℕ)) → f argument ≡ None → filter_map f done ≡ option_list o
+    → filter_map f (done ++ (argument ∷ [])) ≡ option_list o
+found_kept f done argument o is had = grind (arith, filter_map-append f done (argument ∷ []), append-nil (filter_map f done))
 
-has_only_of : (names : List (List ℕ)) (done more : List Argument) → has_only names (done ++ more) ≡ (has_only names done && has_only names more)
-has_only_of names done more = list_all-append (is_among names) done more
+-- one in which the first is found
+found_first : (f : Argument → Option (List ℕ)) (done : List Argument) (argument : Argument) (o : Option (List ℕ)) (value : List ℕ) → f argument ≡ Some value → filter_map f done ≡ option_list o → o ≡ None
+    → filter_map f (done ++ (argument ∷ [])) ≡ value ∷ []
+found_first f done argument o value is had empty = grind (arith, filter_map-append f done (argument ∷ []))
 
--- an argument that has no value for this name
-values_kept : (name : List ℕ) (done : List Argument) (argument : Argument) (o : Option (List ℕ)) → value_for name argument ≡ None → values name done ≡ option_list o
-    → values name (done ++ (argument ∷ [])) ≡ option_list o
-values_kept name done argument o is had = grind (arith, values_of name done (argument ∷ []), append-nil (values name done))
+-- one in which a second is found
+found_twice : (f : Argument → Option (List ℕ)) (done more : List Argument) (argument : Argument) (o : Option (List ℕ)) (before value : List ℕ) → f argument ≡ Some value
+    → filter_map f done ≡ option_list o → o ≡ Some before → 2 ≤ length (filter_map f (done ++ (argument ∷ more)))
+found_twice f done more argument o before value is had full = grind (arith, filter_map-append f done (argument ∷ more))
 
--- one that has the first
-values_first : (name : List ℕ) (done : List Argument) (argument : Argument) (o : Option (List ℕ)) (value : List ℕ) → value_for name argument ≡ Some value → values name done ≡ option_list o → o ≡ None
-    → values name (done ++ (argument ∷ [])) ≡ value ∷ []
-values_first name done argument o value is had empty = grind (arith, values_of name done (argument ∷ []))
+-- ---- where an option is there that wasn't
 
--- one that has a second
-values_twice : (name : List ℕ) (done more : List Argument) (argument : Argument) (o : Option (List ℕ)) (before value : List ℕ) → value_for name argument ≡ Some value
-    → values name done ≡ option_list o → o ≡ Some before → 2 ≤ length (values name (done ++ (argument ∷ more)))
-values_twice name done more argument o before value is had full = grind (arith, values_of name done (argument ∷ more))
+first_more : (a b c d e : Bool) (o : Option (List ℕ)) → o ≡ None → (five (a || is_none o) b c d e && (a && true)) ≡ five (a || false) b c d e
+first_more true b c d e o is = and-true (five true b c d e)
+first_more false b c d e o is = and-false (five (is_none o) b c d e)
 
--- a file
-file_more : (p : Parts) (done : List Argument) (word : List ℕ) → Tells p done → p.file ≡ None → Tells (record p { file = Some word }) (done ++ (Plain word ∷ []))
-file_more p done word t empty = record {
-  file = plain_of done (Plain word ∷ []) ∙ ap (λ (l : List (List ℕ)). l ++ (word ∷ [])) (t.file ∙ ap (λ (o : Option (List ℕ)). option_list o) empty);
-  instants = values_kept (codes "--instants") done (Plain word) p.instants refl t.instants;
-  budget = values_kept (codes "--budget") done (Plain word) p.budget refl t.budget;
-  block = values_kept (codes "--block") done (Plain word) p.block refl t.block;
-  workers = values_kept (codes "--workers") done (Plain word) p.workers refl t.workers;
-  known = has_only_of run_names done (Plain word ∷ []) ∙ and-true (has_only run_names done) ∙ t.known;
-  alone = has_only_of [] done (Plain word ∷ []) ∙ and-true (has_only [] done) ∙ t.alone;
+second_more : (a b c d e : Bool) (o : Option (List ℕ)) → o ≡ None → (five a (b || is_none o) c d e && (b && true)) ≡ five a (b || false) c d e
+second_more a true c d e o is = and-true (five a true c d e)
+second_more a false c d e o is = and-false (five a (is_none o) c d e) ∙ sym (ap (λ (x : Bool). x && c && d && e) (and-false a))
+
+third_more : (a b c d e : Bool) (o : Option (List ℕ)) → o ≡ None → (five a b (c || is_none o) d e && (c && true)) ≡ five a b (c || false) d e
+third_more a b true d e o is = and-true (five a b true d e)
+third_more a b false d e o is = and-false (five a b (is_none o) d e) ∙ sym (ap (λ (x : Bool). x && d && e) (and-false (a && b)))
+
+fourth_more : (a b c d e : Bool) (o : Option (List ℕ)) → o ≡ None → (five a b c (d || is_none o) e && (d && true)) ≡ five a b c (d || false) e
+fourth_more a b c true e o is = and-true (five a b c true e)
+fourth_more a b c false e o is = and-false (five a b c (is_none o) e) ∙ sym (ap (λ (x : Bool). x && e) (and-false (a && b && c)))
+
+fifth_more : (a b c d e : Bool) (o : Option (List ℕ)) → o ≡ None → (five a b c d (e || is_none o) && (e && true)) ≡ five a b c d (e || false)
+fifth_more a b c d true o is = and-true (five a b c d true)
+fifth_more a b c d false o is = and-false (five a b c d (is_none o)) ∙ sym (and-false (a && b && c && d))
+
+plain_more : (p : Parts) (done : List Argument) (word : List ℕ) → Tells p done → p.plain ≡ None → Tells (record p { plain = Some word }) (done ++ (Plain word ∷ []))
+plain_more p done word t empty = record {
+  plain = found_first plain_word done (Plain word) p.plain word refl t.plain empty;
+  instants = found_kept (value_for (codes "--instants")) done (Plain word) p.instants refl t.instants;
+  budget = found_kept (value_for (codes "--budget")) done (Plain word) p.budget refl t.budget;
+  block = found_kept (value_for (codes "--block")) done (Plain word) p.block refl t.block;
+  workers = found_kept (value_for (codes "--workers")) done (Plain word) p.workers refl t.workers;
+  run = found_kept (flag_for (codes "--run")) done (Plain word) p.run refl t.run;
+  only = λ options flags. has_only_of options flags done (Plain word ∷ []) ∙ and-true (has_only options flags done) ∙ t.only options flags;
 }
-
--- an option leaves the file, and is known where its name is
-file_kept : (name value : List ℕ) (p : Parts) (done : List Argument) → Tells p done → plain_words (done ++ (Given name value ∷ [])) ≡ option_list p.file
-file_kept name value p done t = plain_of done (Given name value ∷ []) ∙ append-nil (plain_words done) ∙ t.file
-
-known_more : (name value : List ℕ) (p : Parts) (done : List Argument) → Tells p done → is_among run_names (Given name value) ≡ true
-    → has_only run_names (done ++ (Given name value ∷ [])) ≡ true
-known_more name value p done t is = has_only_of run_names done (Given name value ∷ []) ∙ ap (λ (b : Bool). b && (is_among run_names (Given name value) && true)) t.known
-    ∙ ap (λ (b : Bool). true && (b && true)) is
-
-not_alone : (name value : List ℕ) (done : List Argument) → has_only [] (done ++ (Given name value ∷ [])) ≡ false
-not_alone name value done = has_only_of [] done (Given name value ∷ []) ∙ and-false (has_only [] done)
 
 instants_more : (p : Parts) (done : List Argument) (value : List ℕ) → Tells p done → p.instants ≡ None
     → Tells (record p { instants = Some value }) (done ++ (Given (codes "--instants") value ∷ []))
 instants_more p done value t empty = record {
-  file = file_kept (codes "--instants") value p done t;
-  instants = values_first (codes "--instants") done (Given (codes "--instants") value) p.instants value refl t.instants empty;
-  budget = values_kept (codes "--budget") done (Given (codes "--instants") value) p.budget refl t.budget;
-  block = values_kept (codes "--block") done (Given (codes "--instants") value) p.block refl t.block;
-  workers = values_kept (codes "--workers") done (Given (codes "--instants") value) p.workers refl t.workers;
-  known = known_more (codes "--instants") value p done t refl;
-  alone = not_alone (codes "--instants") value done;
+  plain = found_kept plain_word done (Given (codes "--instants") value) p.plain refl t.plain;
+  instants = found_first (value_for (codes "--instants")) done (Given (codes "--instants") value) p.instants value refl t.instants empty;
+  budget = found_kept (value_for (codes "--budget")) done (Given (codes "--instants") value) p.budget refl t.budget;
+  block = found_kept (value_for (codes "--block")) done (Given (codes "--instants") value) p.block refl t.block;
+  workers = found_kept (value_for (codes "--workers")) done (Given (codes "--instants") value) p.workers refl t.workers;
+  run = found_kept (flag_for (codes "--run")) done (Given (codes "--instants") value) p.run refl t.run;
+  only = λ options flags. has_only_of options flags done (Given (codes "--instants") value ∷ []) ∙ ap (λ (b : Bool). b && (list_any (λ other. bytes_eq (codes "--instants") other) options && true)) (t.only options flags)
+      ∙ first_more (list_any (λ other. bytes_eq (codes "--instants") other) options) (within (codes "--budget") options p.budget) (within (codes "--block") options p.block) (within (codes "--workers") options p.workers) (within (codes "--run") flags p.run) p.instants empty;
 }
 
 budget_more : (p : Parts) (done : List Argument) (value : List ℕ) → Tells p done → p.budget ≡ None
     → Tells (record p { budget = Some value }) (done ++ (Given (codes "--budget") value ∷ []))
 budget_more p done value t empty = record {
-  file = file_kept (codes "--budget") value p done t;
-  instants = values_kept (codes "--instants") done (Given (codes "--budget") value) p.instants refl t.instants;
-  budget = values_first (codes "--budget") done (Given (codes "--budget") value) p.budget value refl t.budget empty;
-  block = values_kept (codes "--block") done (Given (codes "--budget") value) p.block refl t.block;
-  workers = values_kept (codes "--workers") done (Given (codes "--budget") value) p.workers refl t.workers;
-  known = known_more (codes "--budget") value p done t refl;
-  alone = not_alone (codes "--budget") value done ∙ sym (ap (λ (b : Bool). b && is_none p.block && is_none p.workers) (and-false (is_none p.instants)));
+  plain = found_kept plain_word done (Given (codes "--budget") value) p.plain refl t.plain;
+  instants = found_kept (value_for (codes "--instants")) done (Given (codes "--budget") value) p.instants refl t.instants;
+  budget = found_first (value_for (codes "--budget")) done (Given (codes "--budget") value) p.budget value refl t.budget empty;
+  block = found_kept (value_for (codes "--block")) done (Given (codes "--budget") value) p.block refl t.block;
+  workers = found_kept (value_for (codes "--workers")) done (Given (codes "--budget") value) p.workers refl t.workers;
+  run = found_kept (flag_for (codes "--run")) done (Given (codes "--budget") value) p.run refl t.run;
+  only = λ options flags. has_only_of options flags done (Given (codes "--budget") value ∷ []) ∙ ap (λ (b : Bool). b && (list_any (λ other. bytes_eq (codes "--budget") other) options && true)) (t.only options flags)
+      ∙ second_more (within (codes "--instants") options p.instants) (list_any (λ other. bytes_eq (codes "--budget") other) options) (within (codes "--block") options p.block) (within (codes "--workers") options p.workers) (within (codes "--run") flags p.run) p.budget empty;
 }
 
 block_more : (p : Parts) (done : List Argument) (value : List ℕ) → Tells p done → p.block ≡ None
     → Tells (record p { block = Some value }) (done ++ (Given (codes "--block") value ∷ []))
 block_more p done value t empty = record {
-  file = file_kept (codes "--block") value p done t;
-  instants = values_kept (codes "--instants") done (Given (codes "--block") value) p.instants refl t.instants;
-  budget = values_kept (codes "--budget") done (Given (codes "--block") value) p.budget refl t.budget;
-  block = values_first (codes "--block") done (Given (codes "--block") value) p.block value refl t.block empty;
-  workers = values_kept (codes "--workers") done (Given (codes "--block") value) p.workers refl t.workers;
-  known = known_more (codes "--block") value p done t refl;
-  alone = not_alone (codes "--block") value done ∙ sym (ap (λ (b : Bool). b && is_none p.workers) (and-false (is_none p.instants && is_none p.budget)));
+  plain = found_kept plain_word done (Given (codes "--block") value) p.plain refl t.plain;
+  instants = found_kept (value_for (codes "--instants")) done (Given (codes "--block") value) p.instants refl t.instants;
+  budget = found_kept (value_for (codes "--budget")) done (Given (codes "--block") value) p.budget refl t.budget;
+  block = found_first (value_for (codes "--block")) done (Given (codes "--block") value) p.block value refl t.block empty;
+  workers = found_kept (value_for (codes "--workers")) done (Given (codes "--block") value) p.workers refl t.workers;
+  run = found_kept (flag_for (codes "--run")) done (Given (codes "--block") value) p.run refl t.run;
+  only = λ options flags. has_only_of options flags done (Given (codes "--block") value ∷ []) ∙ ap (λ (b : Bool). b && (list_any (λ other. bytes_eq (codes "--block") other) options && true)) (t.only options flags)
+      ∙ third_more (within (codes "--instants") options p.instants) (within (codes "--budget") options p.budget) (list_any (λ other. bytes_eq (codes "--block") other) options) (within (codes "--workers") options p.workers) (within (codes "--run") flags p.run) p.block empty;
 }
 
 workers_more : (p : Parts) (done : List Argument) (value : List ℕ) → Tells p done → p.workers ≡ None
     → Tells (record p { workers = Some value }) (done ++ (Given (codes "--workers") value ∷ []))
 workers_more p done value t empty = record {
-  file = file_kept (codes "--workers") value p done t;
-  instants = values_kept (codes "--instants") done (Given (codes "--workers") value) p.instants refl t.instants;
-  budget = values_kept (codes "--budget") done (Given (codes "--workers") value) p.budget refl t.budget;
-  block = values_kept (codes "--block") done (Given (codes "--workers") value) p.block refl t.block;
-  workers = values_first (codes "--workers") done (Given (codes "--workers") value) p.workers value refl t.workers empty;
-  known = known_more (codes "--workers") value p done t refl;
-  alone = not_alone (codes "--workers") value done ∙ sym (and-false (is_none p.instants && is_none p.budget && is_none p.block));
+  plain = found_kept plain_word done (Given (codes "--workers") value) p.plain refl t.plain;
+  instants = found_kept (value_for (codes "--instants")) done (Given (codes "--workers") value) p.instants refl t.instants;
+  budget = found_kept (value_for (codes "--budget")) done (Given (codes "--workers") value) p.budget refl t.budget;
+  block = found_kept (value_for (codes "--block")) done (Given (codes "--workers") value) p.block refl t.block;
+  workers = found_first (value_for (codes "--workers")) done (Given (codes "--workers") value) p.workers value refl t.workers empty;
+  run = found_kept (flag_for (codes "--run")) done (Given (codes "--workers") value) p.run refl t.run;
+  only = λ options flags. has_only_of options flags done (Given (codes "--workers") value ∷ []) ∙ ap (λ (b : Bool). b && (list_any (λ other. bytes_eq (codes "--workers") other) options && true)) (t.only options flags)
+      ∙ fourth_more (within (codes "--instants") options p.instants) (within (codes "--budget") options p.budget) (within (codes "--block") options p.block) (list_any (λ other. bytes_eq (codes "--workers") other) options) (within (codes "--run") flags p.run) p.workers empty;
+}
+
+run_more : (p : Parts) (done : List Argument) → Tells p done → p.run ≡ None
+    → Tells (record p { run = Some (codes "--run") }) (done ++ (Flag (codes "--run") ∷ []))
+run_more p done t empty = record {
+  plain = found_kept plain_word done (Flag (codes "--run")) p.plain refl t.plain;
+  instants = found_kept (value_for (codes "--instants")) done (Flag (codes "--run")) p.instants refl t.instants;
+  budget = found_kept (value_for (codes "--budget")) done (Flag (codes "--run")) p.budget refl t.budget;
+  block = found_kept (value_for (codes "--block")) done (Flag (codes "--run")) p.block refl t.block;
+  workers = found_kept (value_for (codes "--workers")) done (Flag (codes "--run")) p.workers refl t.workers;
+  run = found_first (flag_for (codes "--run")) done (Flag (codes "--run")) p.run (codes "--run") refl t.run empty;
+  only = λ options flags. has_only_of options flags done (Flag (codes "--run") ∷ []) ∙ ap (λ (b : Bool). b && (list_any (λ other. bytes_eq (codes "--run") other) flags && true)) (t.only options flags)
+      ∙ fifth_more (within (codes "--instants") options p.instants) (within (codes "--budget") options p.budget) (within (codes "--block") options p.block) (within (codes "--workers") options p.workers) (list_any (λ other. bytes_eq (codes "--run") other) flags) p.run empty;
 }
 
 -- what putting an argument tells, where these arguments follow it
@@ -134,21 +166,17 @@ abbrev TellsMore : List Argument → Argument → List Argument → Option Parts
 TellsMore done argument more (Some h) = Tells h (done ++ (argument ∷ []))
 TellsMore done argument more None = IsRefused (done ++ (argument ∷ more))
 
--- the words before a second file
-file_twice : (done more : List Argument) (word before : List ℕ) (o : Option (List ℕ)) → plain_words done ≡ option_list o → o ≡ Some before
-    → 2 ≤ length (plain_words (done ++ (Plain word ∷ more)))
-file_twice done more word before o had full = grind (arith, plain_of done (Plain word ∷ more))
-
 -- an option that isn't known
-unknown : (name value : List ℕ) (done more : List Argument) → is_among run_names (Given name value) ≡ false → has_only run_names (done ++ (Given name value ∷ more)) ≡ false
-unknown name value done more is = has_only_of run_names done (Given name value ∷ more) ∙ ap (λ (b : Bool). has_only run_names done && (b && has_only run_names more)) is ∙ and-false (has_only run_names done)
+unknown : (done more : List Argument) (argument : Argument) → is_among run_names run_flag argument ≡ false → has_only run_names run_flag (done ++ (argument ∷ more)) ≡ false
+unknown done more argument is = has_only_of run_names run_flag done (argument ∷ more)
+    ∙ ap (λ (b : Bool). has_only run_names run_flag done && (b && has_only run_names run_flag more)) is ∙ and-false (has_only run_names run_flag done)
 
-putting_file : (p : Parts) (done more : List Argument) (word : List ℕ) → Tells p done → TellsMore done (Plain word) more (with_argument (Plain word) p)
-putting_file p done more word t = go p.file refl
+putting_plain : (p : Parts) (done more : List Argument) (word : List ℕ) → Tells p done → TellsMore done (Plain word) more (with_argument (Plain word) p)
+putting_plain p done more word t = go p.plain refl
   where
-    go : (o : Option (List ℕ)) → p.file ≡ o → TellsMore done (Plain word) more (option_map (λ v. record p { file = Some v }) (first_value o word))
-    go None is = file_more p done word t is
-    go (Some before) is = Files (file_twice done more word before p.file t.file is)
+    go : (o : Option (List ℕ)) → p.plain ≡ o → TellsMore done (Plain word) more (option_map (λ v. record p { plain = Some v }) (first_value o word))
+    go None is = plain_more p done word t is
+    go (Some before) is = Words (found_twice plain_word done more (Plain word) p.plain before word refl t.plain is)
 
 -- the first of the options that has the name, and else none
 putting_option : (p : Parts) (done more : List Argument) (name value : List ℕ) → Tells p done → TellsMore done (Given name value) more (with_argument (Given name value) p)
@@ -157,19 +185,19 @@ putting_option p done more name value t =
   where
     set_instants : (o : Option (List ℕ)) → p.instants ≡ o → TellsMore done (Given (codes "--instants") value) more (option_map (λ v. record p { instants = Some v }) (first_value o value))
     set_instants None is = instants_more p done value t is
-    set_instants (Some before) is = Instants (values_twice (codes "--instants") done more (Given (codes "--instants") value) p.instants before value refl t.instants is)
+    set_instants (Some before) is = Instants (found_twice (value_for (codes "--instants")) done more (Given (codes "--instants") value) p.instants before value refl t.instants is)
 
     set_budget : (o : Option (List ℕ)) → p.budget ≡ o → TellsMore done (Given (codes "--budget") value) more (option_map (λ v. record p { budget = Some v }) (first_value o value))
     set_budget None is = budget_more p done value t is
-    set_budget (Some before) is = Budget (values_twice (codes "--budget") done more (Given (codes "--budget") value) p.budget before value refl t.budget is)
+    set_budget (Some before) is = Budget (found_twice (value_for (codes "--budget")) done more (Given (codes "--budget") value) p.budget before value refl t.budget is)
 
     set_block : (o : Option (List ℕ)) → p.block ≡ o → TellsMore done (Given (codes "--block") value) more (option_map (λ v. record p { block = Some v }) (first_value o value))
     set_block None is = block_more p done value t is
-    set_block (Some before) is = Block (values_twice (codes "--block") done more (Given (codes "--block") value) p.block before value refl t.block is)
+    set_block (Some before) is = Block (found_twice (value_for (codes "--block")) done more (Given (codes "--block") value) p.block before value refl t.block is)
 
     set_workers : (o : Option (List ℕ)) → p.workers ≡ o → TellsMore done (Given (codes "--workers") value) more (option_map (λ v. record p { workers = Some v }) (first_value o value))
     set_workers None is = workers_more p done value t is
-    set_workers (Some before) is = Workers (values_twice (codes "--workers") done more (Given (codes "--workers") value) p.workers before value refl t.workers is)
+    set_workers (Some before) is = Workers (found_twice (value_for (codes "--workers")) done more (Given (codes "--workers") value) p.workers before value refl t.workers is)
 
     pick : (a b c d : Bool) → bytes_eq name (codes "--instants") ≡ a → bytes_eq name (codes "--budget") ≡ b → bytes_eq name (codes "--block") ≡ c → bytes_eq name (codes "--workers") ≡ d
         → TellsMore done (Given name value) more
@@ -189,11 +217,27 @@ putting_option p done more name value t =
     pick false false false true i u k w =
         let P : List ℕ → Type 0 = λ (n : List ℕ). TellsMore done (Given n value) more (option_map (λ v. record p { workers = Some v }) (first_value p.workers value)) in
         subst P (sym ((bytes_eq-Decides name (codes "--workers")).0 w)) (set_workers p.workers refl)
-    pick false false false false i u k w = Other (unknown name value done more (grind (arith, i, u, k, w)))
+    pick false false false false i u k w = Other (unknown done more (Given name value) (grind (arith, i, u, k, w)))
+
+-- the flag, and else none
+putting_flag : (p : Parts) (done more : List Argument) (name : List ℕ) → Tells p done → TellsMore done (Flag name) more (with_argument (Flag name) p)
+putting_flag p done more name t = pick (bytes_eq name (codes "--run")) refl
+  where
+    set_run : (o : Option (List ℕ)) → p.run ≡ o → TellsMore done (Flag (codes "--run")) more (option_map (λ v. record p { run = Some v }) (first_value o (codes "--run")))
+    set_run None is = run_more p done t is
+    set_run (Some before) is = Run (found_twice (flag_for (codes "--run")) done more (Flag (codes "--run")) p.run before (codes "--run") refl t.run is)
+
+    pick : (a : Bool) → bytes_eq name (codes "--run") ≡ a
+        → TellsMore done (Flag name) more (if a then option_map (λ v. record p { run = Some v }) (first_value p.run name) else None)
+    pick true r =
+        let P : List ℕ → Type 0 = λ (n : List ℕ). TellsMore done (Flag n) more (option_map (λ v. record p { run = Some v }) (first_value p.run n)) in
+        subst P (sym ((bytes_eq-Decides name (codes "--run")).0 r)) (set_run p.run refl)
+    pick false r = Other (unknown done more (Flag name) (grind (arith, r)))
 
 putting : (p : Parts) (done more : List Argument) (argument : Argument) → Tells p done → TellsMore done argument more (with_argument argument p)
-putting p done more (Plain word) t = putting_file p done more word t
+putting p done more (Plain word) t = putting_plain p done more word t
 putting p done more (Given name value) t = putting_option p done more name value t
+putting p done more (Flag name) t = putting_flag p done more name t
 
 -- what putting all arguments tells
 abbrev pub TellsAll : List Argument → Option Parts → Type 0
@@ -209,5 +253,16 @@ told_more p done (argument ∷ more) t = go (with_argument argument p) (putting 
     go None s rest = s
     go (Some h) s rest = let P : List Argument → Type 0 = λ (l : List Argument). TellsAll l (with_arguments h more) in subst P (append_assoc done (argument ∷ []) more) (rest h s)
 
+-- where nothing is given, nothing is too much
+none_within : (name : List ℕ) (names : List (List ℕ)) → within name names None ≡ true
+none_within name names = or-true (list_any (λ other. bytes_eq name other) names)
+
+all_true : {a b c d e : Bool} → a ≡ true → b ≡ true → c ≡ true → d ≡ true → e ≡ true → true ≡ five a b c d e
+all_true i k b w r = rw (i, k, b, w, r) refl
+
+all_within : (options flags : List (List ℕ)) → true ≡ only_these options flags no_parts
+all_within options flags = all_true (none_within (codes "--instants") options) (none_within (codes "--budget") options) (none_within (codes "--block") options)
+    (none_within (codes "--workers") options) (none_within (codes "--run") flags)
+
 pub told : (given : List Argument) → TellsAll given (with_arguments no_parts given)
-told given = told_more no_parts [] given (record { file = refl; instants = refl; budget = refl; block = refl; workers = refl; known = refl; alone = refl })
+told given = told_more no_parts [] given (record { plain = refl; instants = refl; budget = refl; block = refl; workers = refl; run = refl; only = λ options flags. all_within options flags })

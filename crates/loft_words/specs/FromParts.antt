@@ -1,12 +1,13 @@
 -- What each command makes of the parts that were gathered.
-use Rattle.std.specs.Prelude.{ℕ, List, [], ◌∷◌, codes, Option, Some, None, if◌then◌else◌, option_and_then}
+use Rattle.std.specs.Prelude.{ℕ, List, [], ◌∷◌, codes, Option, Some, None, is_none, is_some, if◌then◌else◌, option_and_then}
 use Rattle.std.specs.Option.{option_map}
 use Rattle.std.specs.Str.{bytes_eq}
 use Rattle.loft_base.specs.declared.options.RunOptions.{RunOptions}
 use Rattle.loft_base.specs.declared.options.TheConstants.{MAX_INSTANTS, MAX_BUDGET, MAX_BLOCK, MAX_WORKERS}
+use Rattle.loft_gen.specs.declared.source.TheConstants.{GENERATED_MAX}
 use Rattle.loft_words.specs.declared.defaults.TheConstants.{DEFAULT_INSTANTS, DEFAULT_BUDGET, DEFAULT_BLOCK, DEFAULT_WORKERS}
-use Rattle.loft_words.specs.Command.{Command, Run, Exec, Show, Check, Compile, Bound, only_file, number_of, options_from}
-use Rattle.loft_words.specs.Parts.{Parts, has_no_options}
+use Rattle.loft_words.specs.Command.{FileCommand, Run, Exec, Show, Check, Compile, Bound, Command, OfFile, only_file, only_number, number_of, options_from, gen_with}
+use Rattle.loft_words.specs.Parts.{Parts, has_no_values, has_no_options}
 
 abbrev pub option_list : {A : Type 0} → Option A → List A
 option_list None = []
@@ -19,17 +20,32 @@ run_options_from p = options_from
     (number_of MAX_BLOCK DEFAULT_BLOCK (option_list p.block))
     (number_of MAX_WORKERS DEFAULT_WORKERS (option_list p.workers))
 
-abbrev pub run_from : (List ℕ → RunOptions → Command) → Parts → Option Command
-run_from make p = option_and_then (λ file. option_map (make file) (run_options_from p)) (only_file (option_list p.file))
+-- the options of a run, where the flag isn't given
+abbrev pub only_options_from : Parts → Option RunOptions
+only_options_from p = if is_none p.run then run_options_from p else None
+
+abbrev pub run_from : (List ℕ → RunOptions → FileCommand) → Parts → Option FileCommand
+run_from make p = option_and_then (λ file. option_map (make file) (only_options_from p)) (only_file (option_list p.plain))
 
 abbrev pub file_from : Parts → Option (List ℕ)
-file_from p = if has_no_options p then only_file (option_list p.file) else None
+file_from p = if has_no_options p then only_file (option_list p.plain) else None
 
-abbrev pub command_from : List ℕ → Parts → Option Command
-command_from word p =
+abbrev pub file_command_from : List ℕ → Parts → Option FileCommand
+file_command_from word p =
     if bytes_eq word (codes "run") then run_from Run p
     else (if bytes_eq word (codes "exec") then run_from Exec p
     else (if bytes_eq word (codes "show") then option_map Show (file_from p)
     else (if bytes_eq word (codes "check") then option_map Check (file_from p)
     else (if bytes_eq word (codes "compile") then option_map Compile (file_from p)
     else (if bytes_eq word (codes "bound") then option_map Bound (file_from p) else None)))))
+
+-- the number of a source, where no option with a value is given
+abbrev pub number_from : Parts → Option ℕ
+number_from p = if has_no_values p then only_number GENERATED_MAX (option_list p.plain) else None
+
+abbrev pub gen_from : Parts → Option Command
+gen_from p = option_map (λ number. gen_with number (is_some p.run)) (number_from p)
+
+abbrev pub command_from : List ℕ → Parts → Option Command
+command_from word p =
+    if bytes_eq word (codes "gen") then gen_from p else option_map OfFile (file_command_from word p)

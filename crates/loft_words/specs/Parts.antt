@@ -1,35 +1,39 @@
--- What words say, gathered so that each command finds what it takes: a file, and each option of a run once at most.
+-- What words say, gathered so that each command finds what it takes: one word that is no option, each option of a run once
+-- at most, and the flag.
 use Rattle.std.specs.Prelude.{ℕ, Bool, ◌&&◌, List, [], ◌∷◌, codes, Option, Some, None, is_none, if◌then◌else◌, option_and_then}
 use Rattle.std.specs.Option.{option_map, option_copied}
 use Rattle.std.specs.Str.{bytes_eq}
 use Rattle.loft_words.specs.declared.argument.Argument.{Argument as ArgumentInMemory}
 use Rattle.loft_words.specs.declared.argument.Argument.TheVariants as argument
 use Rattle.loft_words.specs.declared.parts.Parts.{Parts as PartsInMemory}
-use Rattle.loft_words.specs.Arguments.{Argument, Plain, Given, arguments}
+use Rattle.loft_words.specs.Arguments.{Argument, Plain, Given, Flag, arguments}
 
 abbrev pub argument_of : ArgumentInMemory → Argument
 argument_of (argument.Plain word) = Plain word.now
 argument_of (argument.Given name value) = Given name.now value.now
+argument_of (argument.Flag name) = Flag name.now
 
--- the file, and the values of the options of a run
+-- the word that is no option, the values of the options of a run, and the flag `--run`
 pub record Parts : Type 0 where
-  pub file : Option (List ℕ)
+  pub plain : Option (List ℕ)
   pub instants : Option (List ℕ)
   pub budget : Option (List ℕ)
   pub block : Option (List ℕ)
   pub workers : Option (List ℕ)
+  pub run : Option (List ℕ)
 
 abbrev pub parts_of : PartsInMemory → Parts
 parts_of p = record {
-  file = option_copied p.file;
+  plain = option_copied p.plain;
   instants = option_copied p.instants;
   budget = option_copied p.budget;
   block = option_copied p.block;
   workers = option_copied p.workers;
+  run = option_copied p.run;
 }
 
 abbrev pub no_parts : Parts
-no_parts = record { file = None; instants = None; budget = None; block = None; workers = None }
+no_parts = record { plain = None; instants = None; budget = None; block = None; workers = None; run = None }
 
 -- a value where there was none
 abbrev pub first_value : Option (List ℕ) → List ℕ → Option (List ℕ)
@@ -38,13 +42,15 @@ first_value (Some before) value = None
 
 -- one argument more
 abbrev pub with_argument : Argument → Parts → Option Parts
-with_argument (Plain word) p = option_map (λ v. record p { file = Some v }) (first_value p.file word)
+with_argument (Plain word) p = option_map (λ v. record p { plain = Some v }) (first_value p.plain word)
 with_argument (Given name value) p =
     if bytes_eq name (codes "--instants") then option_map (λ v. record p { instants = Some v }) (first_value p.instants value)
     else (if bytes_eq name (codes "--budget") then option_map (λ v. record p { budget = Some v }) (first_value p.budget value)
     else (if bytes_eq name (codes "--block") then option_map (λ v. record p { block = Some v }) (first_value p.block value)
     else (if bytes_eq name (codes "--workers") then option_map (λ v. record p { workers = Some v }) (first_value p.workers value)
     else None)))
+with_argument (Flag name) p =
+    if bytes_eq name (codes "--run") then option_map (λ v. record p { run = Some v }) (first_value p.run name) else None
 
 abbrev pub with_arguments : Parts → List Argument → Option Parts
 with_arguments p [] = Some p
@@ -54,5 +60,10 @@ with_arguments p (argument ∷ more) = option_and_then (λ q. with_arguments q m
 abbrev pub with_words : Parts → List (List ℕ) → Option Parts
 with_words p words = option_and_then (with_arguments p) (arguments words)
 
+-- no option with a value is given
+abbrev pub has_no_values : Parts → Bool
+has_no_values p = is_none p.instants && is_none p.budget && is_none p.block && is_none p.workers
+
+-- no option is given
 abbrev pub has_no_options : Parts → Bool
-has_no_options p = is_none p.instants && is_none p.budget && is_none p.block && is_none p.workers
+has_no_options p = has_no_values p && is_none p.run

@@ -1,7 +1,7 @@
 -- What is said of single words (docs/COMMANDS.md, "Words").
-use Rattle.std.specs.Prelude.{ℕ, Bool, true, false, not, ◌==◌, nat_le, ◌&&◌, List, [], ◌∷◌, map, Option, Some, None, String, string_bytes, if◌then◌else◌}
+use Rattle.std.specs.Prelude.{ℕ, Bool, true, false, not, ◌==◌, nat_le, ◌&&◌, List, [], ◌∷◌, map, Option, Some, None, String, string_bytes, codes, if◌then◌else◌}
 use Rattle.std.specs.List.{list_any, before_first, after_first}
-use Rattle.std.specs.Str.{all_ascii_digits}
+use Rattle.std.specs.Str.{all_ascii_digits, bytes_eq}
 use Rattle.std.specs.Str.Parse.{digits_value}
 
 -- words as bytes
@@ -12,6 +12,10 @@ words_of words = map string_bytes words
 abbrev pub is_option : List ℕ → Bool
 is_option [] = false
 is_option (b ∷ bs) = b == 45
+
+-- the options that have no value
+abbrev pub is_flag : List ℕ → Bool
+is_flag word = bytes_eq word (codes "--run")
 
 abbrev pub is_equals_sign : ℕ → Bool
 is_equals_sign b = b == 61

@@ -2,17 +2,19 @@
 
 ghost use Rattle.std.specs.Prelude.{◌≡◌, ◌≤◌, length, ◌∷◌, None, false, codes, IfSome, IfNone};
 ghost use Rattle.std.specs.Str.{bytes_eq};
-ghost use Rattle.loft_words.specs.Words.{is_option, words_of};
+ghost use Rattle.loft_words.specs.Words.{is_option, is_flag, words_of};
 ghost use Rattle.loft_words.specs.Arguments.{arguments, value_first, one_more};
 ghost use Rattle.loft_words.specs.Parts.{argument_of};
 
-/// A word that is no option, or an option with its value.
+/// A word that is no option, or an option, with its value where it has one.
 #[derive(Clone, Copy)]
 pub enum Argument<'a> {
     /// A word that is no option, as a file's name.
     Plain(&'a str),
     /// An option with its value. The name has its dashes.
     Given { name: &'a str, value: &'a str },
+    /// An option that has no value. The name has its dashes.
+    Flag(&'a str),
 }
 
 /// Whether a word begins as an option does.
@@ -23,6 +25,13 @@ fn is_option(word: &str) -> bool
         [] => false,
         [first, ..] => *first == b'-',
     }
+}
+
+/// Whether a word is an option that has no value.
+fn is_flag(word: &str) -> bool
+    ensures { result ≡ is_flag word.now }
+{
+    word == "--run"
 }
 
 /// An option whose value is the first of the words, and the words after that. None where there is no value.
@@ -56,6 +65,7 @@ pub fn next_argument<'a>(word: &'a str, words: &'a [String]) -> Option<(Argument
     }
     match word.split_once('=') {
         Some((name, value)) => Some((Argument::Given { name, value }, words)),
+        None if is_flag(word) => Some((Argument::Flag(word), words)),
         None => with_value(word, words),
     }
 }

@@ -4,11 +4,11 @@ ghost use Rattle.std.specs.Prelude.{◌≡◌, Some};
 ghost use Rattle.std.specs.Option.{option_copied, option_map};
 ghost use Rattle.loft_base.specs.declared.options.RunOptions.{RunOptions};
 ghost use Rattle.loft_words.specs.Words.{words_of, is_file_name};
-ghost use Rattle.loft_words.specs.Ranges.{KeepsRanges};
+ghost use Rattle.loft_words.specs.Ranges.{IsInRanges};
 ghost use Rattle.loft_words.specs.Command.{Command as PlainCommand, Exec, Run, Show, Check, Compile, Bound, command, file_of, only_file, number_of};
-ghost use Rattle.loft_words.specs.CommandView.{meant, command_of};
+ghost use Rattle.loft_words.specs.CommandView.{meant, file_meant, file_command_of};
 ghost use Rattle.loft_words.specs.Parts.{parts_of};
-ghost use Rattle.loft_words.specs.FromParts.{option_list, run_from, run_options_from, file_from, command_from};
+ghost use Rattle.loft_words.specs.FromParts.{option_list, run_from, run_options_from, only_options_from, file_from, file_command_from, number_from, gen_from, command_from};
 ghost use Rattle.loft_base.specs.declared.options.TheConstants.{MAX_WORKERS};
 ghost use Rattle.loft_words.specs.declared.defaults.TheConstants.{DEFAULT_WORKERS};
 
@@ -16,10 +16,11 @@ use crate::defaults::{DEFAULT_BLOCK, DEFAULT_BUDGET, DEFAULT_INSTANTS, DEFAULT_W
 use crate::number::number_in;
 use crate::parts::Parts;
 use loft_base::{Limits, MAX_BLOCK, MAX_BUDGET, MAX_INSTANTS, MAX_WORKERS, RunOptions};
+use loft_gen::GENERATED_MAX;
 
-/// A command, and the file that it reads.
+/// A command that reads a source or a listing, and nothing else, with the name of that file.
 #[derive(Clone, Copy)]
-pub enum Command<'a> {
+pub enum FileCommand<'a> {
     /// To run the source in this file. Each number of the options is in its range (`MAX_INSTANTS` and the others).
     Run { file: &'a str, options: RunOptions },
     /// To run the code of the listing in this file, with the same options.
@@ -34,18 +35,29 @@ pub enum Command<'a> {
     Bound(&'a str),
 }
 
-impl<'a> Command<'a> {
+/// A command, by what it reads.
+#[derive(Clone, Copy)]
+pub enum Command<'a> {
+    /// To read one file.
+    OfFile(FileCommand<'a>),
+    /// To write the source of this number, which is from 1 to `GENERATED_MAX`.
+    Gen(u32),
+    /// To run the source of this number, from 1 to `GENERATED_MAX`, and to tell the summary of the run.
+    GenRun(u32),
+}
+
+impl<'a> FileCommand<'a> {
     /// The file that is to be read.
     pub fn file(self) -> &'a str
-        ensures { result.now ≡ file_of (command_of self.entry) }
+        ensures { result.now ≡ file_of (file_command_of self.entry) }
     {
         match self {
-            Command::Run { file, .. }
-            | Command::Exec { file, .. }
-            | Command::Show(file)
-            | Command::Check(file)
-            | Command::Compile(file)
-            | Command::Bound(file) => file,
+            FileCommand::Run { file, .. }
+            | FileCommand::Exec { file, .. }
+            | FileCommand::Show(file)
+            | FileCommand::Check(file)
+            | FileCommand::Compile(file)
+            | FileCommand::Bound(file) => file,
         }
     }
 }
@@ -74,7 +86,7 @@ fn file_alone<'a>(parts: Parts<'a>) -> Option<&'a str>
     ensures { option_copied result ≡ file_from (parts_of parts.entry) }
 {
     if parts.has_no_options() {
-        only_file(parts.file)
+        only_file(parts.plain)
     } else {
         None
     }
@@ -111,55 +123,89 @@ fn run_options(parts: Parts<'_>) -> Option<RunOptions>
     Some(RunOptions { limits, workers })
 }
 
-/// To run a source with the options of a run.
-fn run<'a>(parts: Parts<'a>) -> Option<Command<'a>>
-    ensures { meant result ≡ run_from Run (parts_of parts.entry) }
+/// The options of a run, where the flag isn't given.
+fn only_run_options(parts: Parts<'_>) -> Option<RunOptions>
+    ensures { result ≡ only_options_from (parts_of parts.entry) }
 {
-    let file = only_file(parts.file)?;
-    let options = run_options(parts)?;
-    Some(Command::Run { file, options })
+    if parts.run.is_none() {
+        run_options(parts)
+    } else {
+        None
+    }
+}
+
+/// To run a source with the options of a run.
+fn run<'a>(parts: Parts<'a>) -> Option<FileCommand<'a>>
+    ensures { file_meant result ≡ run_from Run (parts_of parts.entry) }
+{
+    let file = only_file(parts.plain)?;
+    let options = only_run_options(parts)?;
+    Some(FileCommand::Run { file, options })
 }
 
 /// To run a listing with the options of a run.
-fn exec<'a>(parts: Parts<'a>) -> Option<Command<'a>>
-    ensures { meant result ≡ run_from Exec (parts_of parts.entry) }
+fn exec<'a>(parts: Parts<'a>) -> Option<FileCommand<'a>>
+    ensures { file_meant result ≡ run_from Exec (parts_of parts.entry) }
 {
-    let file = only_file(parts.file)?;
-    let options = run_options(parts)?;
-    Some(Command::Exec { file, options })
+    let file = only_file(parts.plain)?;
+    let options = only_run_options(parts)?;
+    Some(FileCommand::Exec { file, options })
 }
 
 /// To show a source.
-fn show<'a>(parts: Parts<'a>) -> Option<Command<'a>>
-    ensures { meant result ≡ option_map Show (file_from (parts_of parts.entry)) }
+fn show<'a>(parts: Parts<'a>) -> Option<FileCommand<'a>>
+    ensures { file_meant result ≡ option_map Show (file_from (parts_of parts.entry)) }
 {
-    Some(Command::Show(file_alone(parts)?))
+    Some(FileCommand::Show(file_alone(parts)?))
 }
 
 /// To check a source.
-fn check<'a>(parts: Parts<'a>) -> Option<Command<'a>>
-    ensures { meant result ≡ option_map Check (file_from (parts_of parts.entry)) }
+fn check<'a>(parts: Parts<'a>) -> Option<FileCommand<'a>>
+    ensures { file_meant result ≡ option_map Check (file_from (parts_of parts.entry)) }
 {
-    Some(Command::Check(file_alone(parts)?))
+    Some(FileCommand::Check(file_alone(parts)?))
 }
 
 /// To compile a source.
-fn compile<'a>(parts: Parts<'a>) -> Option<Command<'a>>
-    ensures { meant result ≡ option_map Compile (file_from (parts_of parts.entry)) }
+fn compile<'a>(parts: Parts<'a>) -> Option<FileCommand<'a>>
+    ensures { file_meant result ≡ option_map Compile (file_from (parts_of parts.entry)) }
 {
-    Some(Command::Compile(file_alone(parts)?))
+    Some(FileCommand::Compile(file_alone(parts)?))
 }
 
 /// To tell step bounds.
-fn bound<'a>(parts: Parts<'a>) -> Option<Command<'a>>
-    ensures { meant result ≡ option_map Bound (file_from (parts_of parts.entry)) }
+fn bound<'a>(parts: Parts<'a>) -> Option<FileCommand<'a>>
+    ensures { file_meant result ≡ option_map Bound (file_from (parts_of parts.entry)) }
 {
-    Some(Command::Bound(file_alone(parts)?))
+    Some(FileCommand::Bound(file_alone(parts)?))
 }
 
-/// The command with this name.
-fn command_named<'a>(word: &str, parts: Parts<'a>) -> Option<Command<'a>>
-    ensures { meant result ≡ command_from word.now (parts_of parts.entry) }
+/// The number of a source, where no option with a value is given.
+fn number_alone(parts: Parts<'_>) -> Option<u32>
+    ensures { result ≡ number_from (parts_of parts.entry) }
+{
+    if !parts.has_no_values() {
+        return None;
+    }
+    let number = number_in(u64::from(GENERATED_MAX), parts.plain?)?;
+    u32::try_from(number).ok()
+}
+
+/// To make a source of a number, or to run it.
+fn generate<'a>(parts: Parts<'a>) -> Option<Command<'a>>
+    ensures { meant result ≡ gen_from (parts_of parts.entry) }
+{
+    let number = number_alone(parts)?;
+    if parts.run.is_some() {
+        Some(Command::GenRun(number))
+    } else {
+        Some(Command::Gen(number))
+    }
+}
+
+/// The command with this name, of those that read one file.
+fn file_command_named<'a>(word: &str, parts: Parts<'a>) -> Option<FileCommand<'a>>
+    ensures { file_meant result ≡ file_command_from word.now (parts_of parts.entry) }
 {
     if word == "run" {
         run(parts)
@@ -178,16 +224,27 @@ fn command_named<'a>(word: &str, parts: Parts<'a>) -> Option<Command<'a>>
     }
 }
 
+/// The command with this name.
+fn command_named<'a>(word: &str, parts: Parts<'a>) -> Option<Command<'a>>
+    ensures { meant result ≡ command_from word.now (parts_of parts.entry) }
+{
+    if word == "gen" {
+        return generate(parts);
+    }
+    Some(Command::OfFile(file_command_named(word, parts)?))
+}
+
 /// What the words after the program's name ask for (docs/COMMANDS.md, "Words"). The first is the
-/// command: `run`, `exec`, `show`, `check`, `compile` or `bound`. After it stand one file and, for
-/// `run` and `exec`, options in any order: `--instants N`, `--budget B`, `--block U` and
-/// `--workers W`, each once at most, as two words or as one with `=`. After `--` no word is an
-/// option. All other words are no command: None. It takes no memory.
+/// command: `run`, `exec`, `show`, `check`, `compile`, `bound` or `gen`. After it stand one file (of
+/// `gen`, a number) and, for `run` and `exec`, options in any order: `--instants N`, `--budget B`,
+/// `--block U` and `--workers W`, each once at most, as two words or as one with `=`; for `gen`,
+/// perhaps the option `--run`. After `--` no word is an option. All other words are no command:
+/// None. It takes no memory.
 #[tactic(auto, using(crate::proofs::Commands::command_from_parts))]
 pub fn read_words(words: &[String]) -> Option<Command<'_>>
     ensures meant { meant result ≡ command (words_of words.now) }
     // the numbers of a command have their ranges
-    ensures in_range { (c : PlainCommand) → command (words_of words.now) ≡ Some c → KeepsRanges c }
+    ensures in_range { (c : PlainCommand) → command (words_of words.now) ≡ Some c → IsInRanges c }
 {
     let (word, rest) = words.split_first()?;
     command_named(word.as_str(), Parts::read(rest)?)

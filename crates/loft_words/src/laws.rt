@@ -2,16 +2,16 @@
 
 ghost use Rattle.std.specs.Prelude.{◌≡◌, ◌∷◌, ◌++◌, ℕ, List, true, false, codes};
 ghost use Rattle.std.specs.Str.{bytes_eq};
-ghost use Rattle.loft_words.specs.Words.{is_option, has_value};
+ghost use Rattle.loft_words.specs.Words.{is_option, is_flag, has_value};
 ghost use Rattle.loft_words.specs.Arguments.{Argument, arguments};
 ghost use Rattle.loft_words.specs.Command.{command_named};
 
-/// An option says the same with its value after `=` as with its value in the next word, where that doesn't begin with
-/// `-`.
+/// An option that isn't a flag says the same with its value after `=` as with its value in the next word, where that
+/// doesn't begin with `-`.
 pub fn options_have_two_forms()
     ensures { (name value : List ℕ) (words : List (List ℕ))
         → is_option name ≡ true → bytes_eq name (codes "--") ≡ false → has_value name ≡ false
-        → is_option value ≡ false
+        → is_flag name ≡ false → is_option value ≡ false
         → arguments ((name ++ (codes "=" ++ value)) ∷ words) ≡ arguments (name ∷ value ∷ words) }
 {}
 

@@ -8,6 +8,6 @@ mod laws;
 mod number;
 mod parts;
 
-pub use command::{Command, read_words};
+pub use command::{Command, FileCommand, read_words};
 pub use defaults::{DEFAULT_BLOCK, DEFAULT_BUDGET, DEFAULT_INSTANTS, DEFAULT_WORKERS};
 pub use laws::{arguments_change_places, options_have_two_forms};

@@ -3,16 +3,16 @@
 ghost use Rattle.std.specs.Prelude.{◌≡◌, ◌≤◌, length, ◌∷◌, None, map, IfSome, IfNone};
 ghost use Rattle.std.specs.Option.{option_map, option_copied};
 ghost use Rattle.loft_words.specs.Words.{words_of};
-ghost use Rattle.loft_words.specs.Arguments.{Plain, Given};
-ghost use Rattle.loft_words.specs.Parts.{argument_of, parts_of, no_parts, first_value, with_argument, with_arguments, with_words, has_no_options};
+ghost use Rattle.loft_words.specs.Arguments.{Plain, Given, Flag};
+ghost use Rattle.loft_words.specs.Parts.{argument_of, parts_of, no_parts, first_value, with_argument, with_arguments, with_words, has_no_values, has_no_options};
 
 use crate::argument::{Argument, next_argument};
 
-/// The file, and the values of the options of a run.
+/// The word that is no option, the values of the options of a run, and the flag of `gen`.
 #[derive(Clone, Copy)]
 pub struct Parts<'a> {
     /// The word that is no option.
-    pub file: Option<&'a str>,
+    pub plain: Option<&'a str>,
     /// The value of `--instants`.
     pub instants: Option<&'a str>,
     /// The value of `--budget`.
@@ -21,6 +21,8 @@ pub struct Parts<'a> {
     pub block: Option<&'a str>,
     /// The value of `--workers`.
     pub workers: Option<&'a str>,
+    /// The flag `--run`.
+    pub run: Option<&'a str>,
 }
 
 /// A value where there was none.
@@ -34,8 +36,8 @@ fn first_value<'a>(before: Option<&'a str>, value: &'a str) -> Option<&'a str>
 }
 
 impl<'a> Parts<'a> {
-    /// What words say. None where they name two files, where an option stands twice or isn't one of a run, and where it
-    /// has no value.
+    /// What words say. None where two of them are no options, where an option stands twice or isn't known, and where
+    /// it has no value and needs one.
     pub fn read(words: &'a [String]) -> Option<Self>
         ensures { option_map parts_of result ≡ with_words no_parts (words_of words.now) }
     {
@@ -45,6 +47,13 @@ impl<'a> Parts<'a> {
     /// Whether no option is given.
     pub fn has_no_options(self) -> bool
         ensures { result ≡ has_no_options (parts_of self.entry) }
+    {
+        self.has_no_values() && self.run.is_none()
+    }
+
+    /// Whether no option with a value is given.
+    pub fn has_no_values(self) -> bool
+        ensures { result ≡ has_no_values (parts_of self.entry) }
     {
         self.instants.is_none()
             && self.budget.is_none()
@@ -57,23 +66,24 @@ impl<'a> Parts<'a> {
         ensures { parts_of result ≡ no_parts }
     {
         Parts {
-            file: None,
+            plain: None,
             instants: None,
             budget: None,
             block: None,
             workers: None,
+            run: None,
         }
     }
 
     /// With one more word that is no option.
-    fn with_file(self, word: &'a str) -> Option<Self>
+    fn with_plain(self, word: &'a str) -> Option<Self>
         ensures { option_map parts_of result ≡ with_argument (Plain word.now) (parts_of self.entry) }
     {
-        let file = Some(first_value(self.file, word)?);
-        Some(Parts { file, ..self })
+        let plain = Some(first_value(self.plain, word)?);
+        Some(Parts { plain, ..self })
     }
 
-    /// With one more option.
+    /// With one more option that has a value.
     fn with_option(self, name: &str, value: &'a str) -> Option<Self>
         ensures { option_map parts_of result ≡ with_argument (Given name.now value.now) (parts_of self.entry) }
     {
@@ -92,24 +102,36 @@ impl<'a> Parts<'a> {
         if before.is_none() { Some(parts) } else { None }
     }
 
+    /// With one more option that has none.
+    fn with_flag(self, name: &'a str) -> Option<Self>
+        ensures { option_map parts_of result ≡ with_argument (Flag name.now) (parts_of self.entry) }
+    {
+        if name != "--run" {
+            return None;
+        }
+        let run = Some(first_value(self.run, name)?);
+        Some(Parts { run, ..self })
+    }
+
     /// With one more argument.
     fn with_argument(self, argument: Argument<'a>) -> Option<Self>
         ensures { option_map parts_of result ≡ with_argument (argument_of argument.entry) (parts_of self.entry) }
     {
         match argument {
-            Argument::Plain(word) => self.with_file(word),
+            Argument::Plain(word) => self.with_plain(word),
             Argument::Given { name, value } => self.with_option(name, value),
+            Argument::Flag(name) => self.with_flag(name),
         }
     }
 
     /// With words of which none is an option.
-    fn with_files(self, words: &'a [String]) -> Option<Self>
+    fn with_plains(self, words: &'a [String]) -> Option<Self>
         ensures { option_map parts_of result
             ≡ with_arguments (parts_of self.entry) (map Plain (words_of words.now)) }
     {
         match words {
             [] => Some(self),
-            [word] => self.with_file(word.as_str()),
+            [word] => self.with_plain(word.as_str()),
             [_, _, ..] => None,
         }
     }
@@ -122,13 +144,13 @@ impl<'a> Parts<'a> {
         ensures shorter { IfSome result (λ r. length r.1.now ≤ length words.now) }
     {
         if word == "--" {
-            return Some((self.with_files(words)?, &[]));
+            return Some((self.with_plains(words)?, &[]));
         }
         let (argument, rest) = next_argument(word, words)?;
         Some((self.with_argument(argument)?, rest))
     }
 
-    /// With what more words say. Each call adds one of the five parts, so six calls lie in one another at most, however
+    /// With what more words say. Each call adds one of the six parts, so seven calls lie in one another at most, however
     /// many words there are.
     fn with_words(self, words: &'a [String]) -> Option<Self>
         ensures { option_map parts_of result ≡ with_words (parts_of self.entry) (words_of words.now) }

@@ -1,7 +1,7 @@
 use Rattle.std.proofs.Common.{◌∙◌, sym, ap, subst, [], Result, Err}
 use Rattle.std.proofs.lemmas.Result.{err_from_is_err_and}
-use Rattle.loft_words.specs.Command.{Command, Run, Exec, Show, Check, Compile, Bound, file_of}
-use Rattle.loft_words.specs.CommandView.{command_of}
+use Rattle.loft_words.specs.Command.{FileCommand, Run, Exec, Show, Check, Compile, Bound, file_of}
+use Rattle.loft_words.specs.CommandView.{file_command_of}
 use Rattle.loft_refusal.specs.declared.refusal.Stopped.{Stopped}
 use Rattle.loft_commands.specs.Doing.{Attempts}
 use Rattle.loft_commands.proofs.Doing.{does_attempts, unread_attempts, unlisted_attempts}
@@ -9,7 +9,7 @@ use Rattle.loft_commands.proofs.attempt_command.attempt.Goals as goal
 
 pub returns-in_ok-program-in-Run-clause-attempts : goal.returns-in_ok-program-in-Run-clause-attempts
 returns-in_ok-program-in-Run-clause-attempts g c =
-    subst (λ (k : Command). Attempts k (g.F.Files.contents c.args.files.now (file_of k)) c.run.result (g.S.Sink.written c.args.sink.now) (g.S.Sink.written c.run.new.sink)) (sym (ap command_of c.in-Run.is))
+    subst (λ (k : FileCommand). Attempts k (g.F.Files.contents c.args.files.now (file_of k)) c.run.result (g.S.Sink.written c.args.sink.now) (g.S.Sink.written c.run.new.sink)) (sym (ap file_command_of c.in-Run.is))
     (does_attempts {c = Run c.in-Run.file.now c.in-Run.options} (λ contents t. c.in_ok-program-in-Run.ensures.program contents t) (c.run.ensures.does c.in-Run.file.now))
 
 pub returns-in_ok-program-in-Run-clause-file_fault : goal.returns-in_ok-program-in-Run-clause-file_fault
@@ -20,13 +20,13 @@ returns-in_err-program-in-Run-clause-attempts g c =
     let p = err_from_is_err_and c.from_residual.result c.from_residual.ensures.1 in
     let is = p.1 ∙ ap (λ (s : Stopped). Err s) p.2 in
     let written = g.S.Sink.written c.args.sink.now in
-    subst (λ (k : Command). Attempts k (g.F.Files.contents c.args.files.now (file_of k)) c.from_residual.result written written) (sym (ap command_of c.in-Run.is))
+    subst (λ (k : FileCommand). Attempts k (g.F.Files.contents c.args.files.now (file_of k)) c.from_residual.result written written) (sym (ap file_command_of c.in-Run.is))
     (subst (λ (r : Result (Unit {0}) Stopped). Attempts (Run c.in-Run.file.now c.in-Run.options) (g.F.Files.contents c.args.files.now c.in-Run.file.now) r written written) (sym is)
     (unread_attempts (Run c.in-Run.file.now c.in-Run.options) (g.F.Files.contents c.args.files.now c.in-Run.file.now) c.in_err-program-in-Run.field-0.0 written tt (λ contents t. c.in_err-program-in-Run.ensures.refused contents t)))
 
 pub returns-in_ok-program-in-Show-clause-attempts : goal.returns-in_ok-program-in-Show-clause-attempts
 returns-in_ok-program-in-Show-clause-attempts g c =
-    subst (λ (k : Command). Attempts k (g.F.Files.contents c.args.files.now (file_of k)) c.show_text.result (g.S.Sink.written c.args.sink.now) (g.S.Sink.written c.show_text.new.sink)) (sym (ap command_of c.in-Show.is))
+    subst (λ (k : FileCommand). Attempts k (g.F.Files.contents c.args.files.now (file_of k)) c.show_text.result (g.S.Sink.written c.args.sink.now) (g.S.Sink.written c.show_text.new.sink)) (sym (ap file_command_of c.in-Show.is))
     (does_attempts {c = Show c.in-Show.file.now} (λ contents t. c.in_ok-program-in-Show.ensures.program contents t) (c.show_text.ensures.does c.in-Show.file.now))
 
 pub returns-in_ok-program-in-Show-clause-file_fault : goal.returns-in_ok-program-in-Show-clause-file_fault
@@ -37,13 +37,13 @@ returns-in_err-program-in-Show-clause-attempts g c =
     let p = err_from_is_err_and c.from_residual-in_err-program-in-Show.result c.from_residual-in_err-program-in-Show.ensures.1 in
     let is = p.1 ∙ ap (λ (s : Stopped). Err s) p.2 in
     let written = g.S.Sink.written c.args.sink.now in
-    subst (λ (k : Command). Attempts k (g.F.Files.contents c.args.files.now (file_of k)) c.from_residual-in_err-program-in-Show.result written written) (sym (ap command_of c.in-Show.is))
+    subst (λ (k : FileCommand). Attempts k (g.F.Files.contents c.args.files.now (file_of k)) c.from_residual-in_err-program-in-Show.result written written) (sym (ap file_command_of c.in-Show.is))
     (subst (λ (r : Result (Unit {0}) Stopped). Attempts (Show c.in-Show.file.now) (g.F.Files.contents c.args.files.now c.in-Show.file.now) r written written) (sym is)
     (unread_attempts (Show c.in-Show.file.now) (g.F.Files.contents c.args.files.now c.in-Show.file.now) c.in_err-program-in-Show.field-0.0 written tt (λ contents t. c.in_err-program-in-Show.ensures.refused contents t)))
 
 pub returns-in_ok-program-in-Check-clause-attempts : goal.returns-in_ok-program-in-Check-clause-attempts
 returns-in_ok-program-in-Check-clause-attempts g c =
-    subst (λ (k : Command). Attempts k (g.F.Files.contents c.args.files.now (file_of k)) c.check.result (g.S.Sink.written c.args.sink.now) (g.S.Sink.written c.check.new.sink)) (sym (ap command_of c.in-Check.is))
+    subst (λ (k : FileCommand). Attempts k (g.F.Files.contents c.args.files.now (file_of k)) c.check.result (g.S.Sink.written c.args.sink.now) (g.S.Sink.written c.check.new.sink)) (sym (ap file_command_of c.in-Check.is))
     (does_attempts {c = Check c.in-Check.file.now} (λ contents t. c.in_ok-program-in-Check.ensures.program contents t) (c.check.ensures.does c.in-Check.file.now))
 
 pub returns-in_ok-program-in-Check-clause-file_fault : goal.returns-in_ok-program-in-Check-clause-file_fault
@@ -54,13 +54,13 @@ returns-in_err-program-in-Check-clause-attempts g c =
     let p = err_from_is_err_and c.from_residual-in_err-program-in-Check.result c.from_residual-in_err-program-in-Check.ensures.1 in
     let is = p.1 ∙ ap (λ (s : Stopped). Err s) p.2 in
     let written = g.S.Sink.written c.args.sink.now in
-    subst (λ (k : Command). Attempts k (g.F.Files.contents c.args.files.now (file_of k)) c.from_residual-in_err-program-in-Check.result written written) (sym (ap command_of c.in-Check.is))
+    subst (λ (k : FileCommand). Attempts k (g.F.Files.contents c.args.files.now (file_of k)) c.from_residual-in_err-program-in-Check.result written written) (sym (ap file_command_of c.in-Check.is))
     (subst (λ (r : Result (Unit {0}) Stopped). Attempts (Check c.in-Check.file.now) (g.F.Files.contents c.args.files.now c.in-Check.file.now) r written written) (sym is)
     (unread_attempts (Check c.in-Check.file.now) (g.F.Files.contents c.args.files.now c.in-Check.file.now) c.in_err-program-in-Check.field-0.0 written tt (λ contents t. c.in_err-program-in-Check.ensures.refused contents t)))
 
 pub returns-in_ok-program-in-Compile-clause-attempts : goal.returns-in_ok-program-in-Compile-clause-attempts
 returns-in_ok-program-in-Compile-clause-attempts g c =
-    subst (λ (k : Command). Attempts k (g.F.Files.contents c.args.files.now (file_of k)) c.list_code.result (g.S.Sink.written c.args.sink.now) (g.S.Sink.written c.list_code.new.sink)) (sym (ap command_of c.in-Compile.is))
+    subst (λ (k : FileCommand). Attempts k (g.F.Files.contents c.args.files.now (file_of k)) c.list_code.result (g.S.Sink.written c.args.sink.now) (g.S.Sink.written c.list_code.new.sink)) (sym (ap file_command_of c.in-Compile.is))
     (does_attempts {c = Compile c.in-Compile.file.now} (λ contents t. c.in_ok-program-in-Compile.ensures.program contents t) (c.list_code.ensures.does c.in-Compile.file.now))
 
 pub returns-in_ok-program-in-Compile-clause-file_fault : goal.returns-in_ok-program-in-Compile-clause-file_fault
@@ -71,13 +71,13 @@ returns-in_err-program-in-Compile-clause-attempts g c =
     let p = err_from_is_err_and c.from_residual-in_err-program-in-Compile.result c.from_residual-in_err-program-in-Compile.ensures.1 in
     let is = p.1 ∙ ap (λ (s : Stopped). Err s) p.2 in
     let written = g.S.Sink.written c.args.sink.now in
-    subst (λ (k : Command). Attempts k (g.F.Files.contents c.args.files.now (file_of k)) c.from_residual-in_err-program-in-Compile.result written written) (sym (ap command_of c.in-Compile.is))
+    subst (λ (k : FileCommand). Attempts k (g.F.Files.contents c.args.files.now (file_of k)) c.from_residual-in_err-program-in-Compile.result written written) (sym (ap file_command_of c.in-Compile.is))
     (subst (λ (r : Result (Unit {0}) Stopped). Attempts (Compile c.in-Compile.file.now) (g.F.Files.contents c.args.files.now c.in-Compile.file.now) r written written) (sym is)
     (unread_attempts (Compile c.in-Compile.file.now) (g.F.Files.contents c.args.files.now c.in-Compile.file.now) c.in_err-program-in-Compile.field-0.0 written tt (λ contents t. c.in_err-program-in-Compile.ensures.refused contents t)))
 
 pub returns-in_ok-program-in-Bound-clause-attempts : goal.returns-in_ok-program-in-Bound-clause-attempts
 returns-in_ok-program-in-Bound-clause-attempts g c =
-    subst (λ (k : Command). Attempts k (g.F.Files.contents c.args.files.now (file_of k)) c.tell_bounds.result (g.S.Sink.written c.args.sink.now) (g.S.Sink.written c.tell_bounds.new.sink)) (sym (ap command_of c.in-Bound.is))
+    subst (λ (k : FileCommand). Attempts k (g.F.Files.contents c.args.files.now (file_of k)) c.tell_bounds.result (g.S.Sink.written c.args.sink.now) (g.S.Sink.written c.tell_bounds.new.sink)) (sym (ap file_command_of c.in-Bound.is))
     (does_attempts {c = Bound c.in-Bound.file.now} (λ contents t. c.in_ok-program-in-Bound.ensures.program contents t) (c.tell_bounds.ensures.does c.in-Bound.file.now))
 
 pub returns-in_ok-program-in-Bound-clause-file_fault : goal.returns-in_ok-program-in-Bound-clause-file_fault
@@ -88,13 +88,13 @@ returns-in_err-program-in-Bound-clause-attempts g c =
     let p = err_from_is_err_and c.from_residual-in_err-program-in-Bound.result c.from_residual-in_err-program-in-Bound.ensures.1 in
     let is = p.1 ∙ ap (λ (s : Stopped). Err s) p.2 in
     let written = g.S.Sink.written c.args.sink.now in
-    subst (λ (k : Command). Attempts k (g.F.Files.contents c.args.files.now (file_of k)) c.from_residual-in_err-program-in-Bound.result written written) (sym (ap command_of c.in-Bound.is))
+    subst (λ (k : FileCommand). Attempts k (g.F.Files.contents c.args.files.now (file_of k)) c.from_residual-in_err-program-in-Bound.result written written) (sym (ap file_command_of c.in-Bound.is))
     (subst (λ (r : Result (Unit {0}) Stopped). Attempts (Bound c.in-Bound.file.now) (g.F.Files.contents c.args.files.now c.in-Bound.file.now) r written written) (sym is)
     (unread_attempts (Bound c.in-Bound.file.now) (g.F.Files.contents c.args.files.now c.in-Bound.file.now) c.in_err-program-in-Bound.field-0.0 written tt (λ contents t. c.in_err-program-in-Bound.ensures.refused contents t)))
 
 pub returns-in_ok-code-in-Exec-clause-attempts : goal.returns-in_ok-code-in-Exec-clause-attempts
 returns-in_ok-code-in-Exec-clause-attempts g c =
-    subst (λ (k : Command). Attempts k (g.F.Files.contents c.args.files.now (file_of k)) c.exec.result (g.S.Sink.written c.args.sink.now) (g.S.Sink.written c.exec.new.sink)) (sym (ap command_of c.in-Exec.is))
+    subst (λ (k : FileCommand). Attempts k (g.F.Files.contents c.args.files.now (file_of k)) c.exec.result (g.S.Sink.written c.args.sink.now) (g.S.Sink.written c.exec.new.sink)) (sym (ap file_command_of c.in-Exec.is))
     (does_attempts {c = Exec c.in-Exec.file.now c.in-Exec.options} (λ contents t. c.in_ok-code-in-Exec.ensures.code contents t) (c.exec.ensures.does c.in-Exec.file.now))
 
 pub returns-in_ok-code-in-Exec-clause-file_fault : goal.returns-in_ok-code-in-Exec-clause-file_fault
@@ -105,6 +105,6 @@ returns-in_err-code-in-Exec-clause-attempts g c =
     let p = err_from_is_err_and c.from_residual-in_err-code-in-Exec.result c.from_residual-in_err-code-in-Exec.ensures.1 in
     let is = p.1 ∙ ap (λ (s : Stopped). Err s) p.2 in
     let written = g.S.Sink.written c.args.sink.now in
-    subst (λ (k : Command). Attempts k (g.F.Files.contents c.args.files.now (file_of k)) c.from_residual-in_err-code-in-Exec.result written written) (sym (ap command_of c.in-Exec.is))
+    subst (λ (k : FileCommand). Attempts k (g.F.Files.contents c.args.files.now (file_of k)) c.from_residual-in_err-code-in-Exec.result written written) (sym (ap file_command_of c.in-Exec.is))
     (subst (λ (r : Result (Unit {0}) Stopped). Attempts (Exec c.in-Exec.file.now c.in-Exec.options) (g.F.Files.contents c.args.files.now c.in-Exec.file.now) r written written) (sym is)
     (unlisted_attempts c.in-Exec.file.now c.in-Exec.options (g.F.Files.contents c.args.files.now c.in-Exec.file.now) c.in_err-code-in-Exec.field-0.0 written (λ contents t. c.in_err-code-in-Exec.ensures.refused contents t)))

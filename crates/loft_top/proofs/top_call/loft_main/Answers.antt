@@ -1,38 +1,40 @@
 use Rattle.std.proofs.Common.{◌≡◌, ◌++◌, ◌∷◌, [], refl, sym, List, ℕ, Some}
 use Rattle.std.specs.Prelude.{codes}
-use Rattle.loft_words.specs.Command.{file_of}
+use Rattle.loft_words.specs.Command.{files_of}
 use Rattle.loft_words.specs.CommandView.{command_of}
 use Rattle.loft_commands.specs.Written.{Appends, IsLine, IsPrefix}
-use Rattle.loft_commands.specs.Asks.{Refuses, IsRefusal}
 use Rattle.loft_top.specs.Status.{IsRefused}
-use Rattle.loft_commands.specs.Promise.{IsAnswer}
-use Rattle.loft_top.specs.Answer.{IsText}
-use Rattle.loft_commands.proofs.Written.{appends, begun, of_command}
+use Rattle.loft_top.specs.Reads.{contents_of}
+use Rattle.loft_top.specs.Answer.{IsAnswer, Refuses, IsRefusal, IsText}
+use Rattle.loft_commands.proofs.Written.{appends, begun, of_found}
 use Rattle.loft_top.proofs.top_call.loft_main.Goals as goal
+
+pub answer-requires-clause-files : goal.answer-requires-clause-files
+answer-requires-clause-files g c κs within = λ file has. c.requires (command_of c.in-Some.command) file (sym c.in-Some.ensures.meant) has
 
 pub answer-requires-clause-ranges : goal.answer-requires-clause-ranges
 answer-requires-clause-ranges g c κs within = c.in-Some.ensures.in_range (command_of c.in-Some.command) (sym c.in-Some.ensures.meant)
 
 pub returns-in-Some-clause-done : goal.returns-in-Some-clause-done
 returns-in-Some-clause-done g c = λ k contents is known done.
-    of_command (λ k. g.F.Files.contents c.args.files.now (file_of k) ≡ Some contents
+    of_found (λ k. contents_of (g.F.Files.contents c.args.files.now) (files_of k) ≡ Some contents
     → Appends (g.S.Sink.written c.args.sink.now) (g.S.Sink.written c.answer.new.sink) (IsAnswer k contents))
     c.in-Some.ensures.meant is (λ t. c.answer.ensures.answers.done contents t done) known
 
 pub returns-in-Some-clause-source : goal.returns-in-Some-clause-source
 returns-in-Some-clause-source g c = λ k contents is known source.
-    of_command (λ k. g.F.Files.contents c.args.files.now (file_of k) ≡ Some contents
+    of_found (λ k. contents_of (g.F.Files.contents c.args.files.now) (files_of k) ≡ Some contents
     → Appends (g.S.Sink.written c.args.sink.now) (g.S.Sink.written c.answer.new.sink) (IsRefusal k contents))
     c.in-Some.ensures.meant is (λ t. c.answer.ensures.answers.source contents t source) known
 
 pub returns-in-Some-clause-refused : goal.returns-in-Some-clause-refused
 returns-in-Some-clause-refused g c = λ k contents line is known refuses.
-    of_command (λ k. g.F.Files.contents c.args.files.now (file_of k) ≡ Some contents → Refuses k contents line → IsRefused c.answer.result)
+    of_found (λ k. contents_of (g.F.Files.contents c.args.files.now) (files_of k) ≡ Some contents → Refuses k contents line → IsRefused c.answer.result)
     c.in-Some.ensures.meant is (λ t r. c.answer.ensures.answers.refused contents line t r) known refuses
 
 pub returns-in-Some-clause-prefix : goal.returns-in-Some-clause-prefix
 returns-in-Some-clause-prefix g c = λ k contents is known cut.
-    of_command (λ k. g.F.Files.contents c.args.files.now (file_of k) ≡ Some contents
+    of_found (λ k. contents_of (g.F.Files.contents c.args.files.now) (files_of k) ≡ Some contents
     → Appends (g.S.Sink.written c.args.sink.now) (g.S.Sink.written c.answer.new.sink)
     (IsPrefix (IsText k contents (g.F.Files.faults c.args.files.now) (g.F.Files.faults c.answer.new.files))))
     c.in-Some.ensures.meant is (λ t. c.answer.ensures.answers.prefix contents t cut) known

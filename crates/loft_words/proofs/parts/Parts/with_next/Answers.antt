@@ -7,11 +7,11 @@ use Rattle.loft_words.proofs.parts.Parts.with_next.Goals as goal
 
 pub returns-then-eq-clause-some : goal.returns-then-eq-clause-some
 returns-then-eq-clause-some c =
-    after_dashes (parts_of c.args.self) c.args.word.now (words_of c.args.words.now) (sym c.eq.ensures ∙ c.if-eq.true) ∙ sym c.in_ok-with_files.ensures
+    after_dashes (parts_of c.args.self) c.args.word.now (words_of c.args.words.now) (sym c.eq.ensures ∙ c.if-eq.true) ∙ sym c.in_ok-with_plains.ensures
 
-pub returns-in_err-with_files-clause-none : goal.returns-in_err-with_files-clause-none
-returns-in_err-with_files-clause-none c =
-    rw c.from_residual.ensures (after_dashes (parts_of c.args.self) c.args.word.now (words_of c.args.words.now) (sym c.eq.ensures ∙ c.if-eq.true) ∙ sym c.in_err-with_files.ensures)
+pub returns-in_err-with_plains-clause-none : goal.returns-in_err-with_plains-clause-none
+returns-in_err-with_plains-clause-none c =
+    rw c.from_residual.ensures (after_dashes (parts_of c.args.self) c.args.word.now (words_of c.args.words.now) (sym c.eq.ensures ∙ c.if-eq.true) ∙ sym c.in_err-with_plains.ensures)
 
 pub returns-in_err-argument-clause-none : goal.returns-in_err-argument-clause-none
 returns-in_err-argument-clause-none c =

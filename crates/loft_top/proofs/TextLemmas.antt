@@ -1,0 +1,56 @@
+-- From how a text was written to what a command that reads no file promises of its answer.
+use Rattle.std.proofs.Common.{◌≡◌, ℕ, inl, inr, List, refl, Option, Result, Ok, Err}
+use Rattle.loft_base.specs.Outside.{Rose}
+use Rattle.loft_base.specs.declared.writing.WriteError.{WriteError}
+use Rattle.loft_base.specs.declared.writing.WriteError.TheVariants as write
+use Rattle.loft_words.specs.Command.{Command}
+use Rattle.loft_commands.specs.Written.{Appends, IsPrefix}
+use Rattle.loft_gen_command.specs.Writes.{WritesOneOf}
+use Rattle.loft_top.specs.declared.status.Status.TheVariants as status
+use Rattle.loft_top.specs.Status.{status_of_write}
+use Rattle.loft_top.specs.Answer.{IsAnswer, Refuses, IsText, Answers}
+use Rattle.loft_commands.proofs.Written.{appends, begun, not_begun}
+use Rattle.loft_top.proofs.AnswerLemmas.{cut_answers}
+
+-- a command that refuses nothing, and answers each text of which P holds
+module _ (c : Command) (P : List ℕ → Type 0) (answers : (contents : List (List ℕ)) (text : List ℕ) → P text → IsAnswer c contents text)
+    (never : (contents : List (List ℕ)) (line : List ℕ) → Refuses c contents line → ⊥) where
+  whole_answers : (known : Option (List (List ℕ))) (old new : Option (List ℕ)) (f g before after : ℕ) → WritesOneOf P (Ok tt) old new f g → Answers c known status.Done old new before after
+  whole_answers known old new f g before after (inl (text, holds, writes)) = record {
+    done = λ contents k e. appends {P = IsAnswer c contents} text writes.ok (answers contents text holds);
+    source = λ contents k e. absurd cc;
+    refused = λ contents line k r. absurd (never contents line r);
+    accepted = λ contents k taken. tt;
+    prefix = λ contents k e. absurd (elim e [ inl f ↦ cc | inr f ↦ cc ]);
+    file_line = λ e. absurd cc;
+    never_usage = λ e. cc;
+    never_log = λ e. cc;
+  }
+  whole_answers known old new f g before after (inr (is, same, still)) = absurd cc
+
+  part_of_answer : (e : WriteError) (old new : Option (List ℕ)) (f g before after : ℕ) (contents : List (List ℕ)) → WritesOneOf P (Err e) old new f g
+      → Appends old new (IsPrefix (IsText c contents before after))
+  part_of_answer e old new f g before after contents (inl (text, holds, writes)) = begun (IsText c contents before after) text writes.failed (inl (answers contents text holds))
+  part_of_answer e old new f g before after contents (inr (is, same, still)) = not_begun (IsText c contents before after) same
+
+  pub text_answers : (known : Option (List (List ℕ))) (result : Result (Unit {0}) WriteError) (old new : Option (List ℕ)) (f g before after : ℕ) → WritesOneOf P result old new f g
+      → Answers c known (status_of_write result) old new before after
+  text_answers known (Ok done) old new f g before after writes = whole_answers known old new f g before after writes
+  text_answers known (Err write.Sink) old new f g before after writes =
+      cut_answers c known status.SinkFault old new before after (inl refl) (λ contents k. part_of_answer write.Sink old new f g before after contents writes)
+  text_answers known (Err write.NoMemory) old new f g before after writes =
+      cut_answers c known status.NoMemory old new before after (inr refl) (λ contents k. part_of_answer write.NoMemory old new f g before after contents writes)
+
+-- the sink is blamed only where it failed
+pub sink_blamed : {P : List ℕ → Type 0} (result : Result (Unit {0}) WriteError) (old new : Option (List ℕ)) (before after : ℕ) → WritesOneOf P result old new before after
+    → status_of_write result ≡ status.SinkFault → Rose before after
+sink_blamed (Ok done) old new before after writes is = absurd cc
+sink_blamed (Err write.Sink) old new before after (inl (text, holds, writes)) is = writes.cause refl
+sink_blamed (Err write.Sink) old new before after (inr (no_memory, same, still)) is = absurd cc
+sink_blamed (Err write.NoMemory) old new before after writes is = absurd cc
+
+-- no file is
+pub no_file_blamed : (result : Result (Unit {0}) WriteError) → status_of_write result ≡ status.FileFault → ⊥
+no_file_blamed (Ok done) is = cc
+no_file_blamed (Err write.Sink) is = cc
+no_file_blamed (Err write.NoMemory) is = cc
