@@ -1,6 +1,6 @@
 //! A command is done: its file is read, and what it says is made and written.
 
-ghost use Rattle.std.specs.Prelude.{◌≤◌, IsTrue, IsErrOf};
+ghost use Rattle.std.specs.Prelude.{◌≢◌, ◌≤◌, Err, IsTrue, IsErrOf};
 ghost use Rattle.loft_base.specs.Outside.{Rose};
 ghost use Rattle.loft_words.specs.Command.{file_of};
 ghost use Rattle.loft_words.specs.Ranges.{KeepsRanges};
@@ -32,6 +32,9 @@ pub fn attempt<R: Threads + Wait + Sync, F: Files, S: Sink, G: Gate>(
     ensures file_fault { IsErrOf result Stopped.FileFault → Rose (F.faults files.old) (F.faults files.new) }
     ensures sink_fault { IsErrOf result Stopped.SinkFault → Rose (S.faults sink.old) (S.faults sink.new) }
     ensures never_falls { S.faults sink.old ≤ S.faults sink.new }
+    ensures files_never_fall { F.faults files.old ≤ F.faults files.new }
+    ensures sure { IsTrue (F.never_fails files.old (file_of (file_command_of command.entry)))
+        → result ≢ Err Stopped.FileFault }
 {
     match command {
         FileCommand::Run { file, options } => {

@@ -27,6 +27,8 @@ pub fn read_program<F: Files>(alloc: Global, files: &mut F, name: &str) -> Resul
     ensures file_fault { IsErrOf result Stopped.FileFault → Rose (F.faults files.old) (F.faults files.new) }
     ensures no_sink { IfErr result (λ e. e ≡ Stopped.SinkFault → ⊥) }
     ensures never_falls { F.faults files.old ≤ F.faults files.new }
+    ensures sure { IsTrue (F.never_fails files.old name.now) → IfErr result (λ e. e ≡ Stopped.FileFault → ⊥) }
+    ensures no_fault { IsTrue (F.never_fails files.old name.now) → F.faults files.new ≡ F.faults files.old }
 {
     let text = read_whole(alloc, files, name, MAX_TEXT_LEN as u64)?;
     Ok(parse(alloc, text.as_slice())?)

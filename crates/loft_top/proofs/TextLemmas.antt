@@ -1,5 +1,5 @@
 -- From how a text was written to what a command that reads no file promises of its answer.
-use Rattle.std.proofs.Common.{◌≡◌, ℕ, inl, inr, List, refl, Option, Result, Ok, Err}
+use Rattle.std.proofs.Common.{◌≡◌, ℕ, ◌≤◌, arith, inl, inr, List, refl, Option, Result, Ok, Err}
 use Rattle.loft_base.specs.Outside.{Rose}
 use Rattle.loft_base.specs.declared.writing.WriteError.{WriteError}
 use Rattle.loft_base.specs.declared.writing.WriteError.TheVariants as write
@@ -48,6 +48,12 @@ sink_blamed (Ok done) old new before after writes is = absurd cc
 sink_blamed (Err write.Sink) old new before after (inl (text, holds, writes)) is = writes.cause refl
 sink_blamed (Err write.Sink) old new before after (inr (no_memory, same, still)) is = absurd cc
 sink_blamed (Err write.NoMemory) old new before after writes is = absurd cc
+
+-- the count of its faults doesn't fall
+pub never_fell : {P : List ℕ → Type 0} (result : Result (Unit {0}) WriteError) (old new : Option (List ℕ)) (before after : ℕ) → WritesOneOf P result old new before after
+    → before ≤ after
+never_fell result old new before after (inl (text, holds, writes)) = writes.never_falls
+never_fell result old new before after (inr (no_memory, same, still)) = omega (arith, still)
 
 -- no file is
 pub no_file_blamed : (result : Result (Unit {0}) WriteError) → status_of_write result ≡ status.FileFault → ⊥

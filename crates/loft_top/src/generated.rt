@@ -32,6 +32,7 @@ pub(crate) fn generate<S: Sink>(alloc: Global, number: u32, sink: &mut S) -> Sta
         (S.written sink.old) (S.written sink.new) before after }
     ensures no_file { result ≢ Status.FileFault }
     ensures sink_fault { result ≡ Status.SinkFault → Rose (S.faults sink.old) (S.faults sink.new) }
+    ensures never_falls { S.faults sink.old ≤ S.faults sink.new }
 {
     status_of(write_source(alloc, number, sink))
 }
@@ -50,6 +51,7 @@ pub(crate) fn summarize<R: Threads + Wait + Sync, S: Sink, G: Gate>(
         (S.written sink.old) (S.written sink.new) before after }
     ensures no_file { result ≢ Status.FileFault }
     ensures sink_fault { result ≡ Status.SinkFault → Rose (S.faults sink.old) (S.faults sink.new) }
+    ensures never_falls { S.faults sink.old ≤ S.faults sink.new }
 {
     status_of(write_summary(rt, alloc, number, sink, gate))
 }

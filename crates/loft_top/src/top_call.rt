@@ -1,6 +1,6 @@
 //! The call that the program makes.
 
-ghost use Rattle.std.specs.Prelude.{◌≡◌, ◌≢◌, ◌<◌, ◌⊎◌, ◌++◌, ◌∷◌, [], ℕ, List, length, IsTrue, IsSome, Some, None, codes};
+ghost use Rattle.std.specs.Prelude.{◌≡◌, ◌≢◌, ◌<◌, ◌≤◌, ◌⊎◌, ◌++◌, ◌∷◌, [], ℕ, List, length, IsTrue, IsSome, Some, None, codes};
 ghost use Rattle.std.specs.List.{Contains};
 ghost use Rattle.loft_base.specs.Outside.{Rose, appended, GrowsByPrefix};
 ghost use Rattle.loft_words.specs.Command.{Command as PlainCommand, OfFile, command, file_of, files_of};
@@ -38,6 +38,7 @@ fn tell<S: Sink>(sink: &mut S, line: &[u8], status: Status) -> Status
         → GrowsByPrefix (S.written sink.old) (S.written sink.new) line.now }
     ensures cause { status ≢ Status.SinkFault → result ≡ Status.SinkFault
         → Rose (S.faults sink.old) (S.faults sink.new) }
+    ensures never_falls { S.faults sink.old ≤ S.faults sink.new }
 {
     match sink.put(line) {
         Ok(()) => status,
@@ -54,6 +55,7 @@ fn refuse<S: Sink>(alloc: Global, sink: &mut S, refusal: &Refusal) -> Status
         → GrowsByPrefix (S.written sink.old) (S.written sink.new) (line_of refusal.now ++ 10 ∷ []) }
     ensures no_memory { result ≡ Status.NoMemory → S.written sink.new ≡ S.written sink.old }
     ensures cause { result ≡ Status.SinkFault → Rose (S.faults sink.old) (S.faults sink.new) }
+    ensures never_falls { S.faults sink.old ≤ S.faults sink.new }
 {
     match refusal.line(alloc) {
         Ok(line) => tell(sink, line.as_slice(), Status::Source),
@@ -77,6 +79,10 @@ fn file_answer<R: Threads + Wait + Sync, F: Files, S: Sink, G: Gate>(
         (S.written sink.old) (S.written sink.new) (F.faults files.old) (F.faults files.new) }
     ensures file_fault { result ≡ Status.FileFault → Rose (F.faults files.old) (F.faults files.new) }
     ensures sink_fault { result ≡ Status.SinkFault → Rose (S.faults sink.old) (S.faults sink.new) }
+    ensures files_never_fall { F.faults files.old ≤ F.faults files.new }
+    ensures sink_never_falls { S.faults sink.old ≤ S.faults sink.new }
+    ensures sure { IsTrue (F.never_fails files.old (file_of (file_command_of command.entry)))
+        → result ≢ Status.FileFault }
 {
     texts_are_decided();
     names_are_decided();
@@ -109,6 +115,10 @@ fn answer<R: Threads + Wait + Sync, F: Files, S: Sink, G: Gate>(
         (S.written sink.old) (S.written sink.new) (F.faults files.old) (F.faults files.new) }
     ensures file_fault { result ≡ Status.FileFault → Rose (F.faults files.old) (F.faults files.new) }
     ensures sink_fault { result ≡ Status.SinkFault → Rose (S.faults sink.old) (S.faults sink.new) }
+    ensures files_never_fall { F.faults files.old ≤ F.faults files.new }
+    ensures sink_never_falls { S.faults sink.old ≤ S.faults sink.new }
+    ensures sure { ((file : List ℕ) → Contains (files_of (command_of command.entry)) file
+        → IsTrue (F.never_fails files.old file)) → result ≢ Status.FileFault }
 {
     match command {
         Command::OfFile(command) => file_answer(rt, alloc, command, files, sink, gate),
@@ -173,6 +183,13 @@ pub fn loft_main<R: Threads + Wait + Sync, F: Files, S: Sink, G: Gate>(
     ensures file_line { result ≡ Status.FileFault
         → Appends (S.written sink.old) (S.written sink.new) (IsLine (codes "files: fault")) }
     ensures sink_fault { result ≡ Status.SinkFault → Rose (S.faults sink.old) (S.faults sink.new) }
+
+    // The counts of faults never fall, and files that never fail for the names of the command make no fault.
+    ensures files_never_fall { F.faults files.old ≤ F.faults files.new }
+    ensures sink_never_falls { S.faults sink.old ≤ S.faults sink.new }
+    ensures files_are_sure { (c : PlainCommand) → command (words_of words.now) ≡ Some c
+        → ((file : List ℕ) → Contains (files_of c) file → IsTrue (F.never_fails files.old file))
+        → result ≢ Status.FileFault }
 {
     match read_words(words) {
         Some(command) => answer(rt, alloc, command, files, sink, gate),

@@ -108,3 +108,21 @@ returns-in_err-code-in-Exec-clause-attempts g c =
     subst (λ (k : FileCommand). Attempts k (g.F.Files.contents c.args.files.now (file_of k)) c.from_residual-in_err-code-in-Exec.result written written) (sym (ap file_command_of c.in-Exec.is))
     (subst (λ (r : Result (Unit {0}) Stopped). Attempts (Exec c.in-Exec.file.now c.in-Exec.options) (g.F.Files.contents c.args.files.now c.in-Exec.file.now) r written written) (sym is)
     (unlisted_attempts c.in-Exec.file.now c.in-Exec.options (g.F.Files.contents c.args.files.now c.in-Exec.file.now) c.in_err-code-in-Exec.field-0.0 written (λ contents t. c.in_err-code-in-Exec.ensures.refused contents t)))
+
+pub returns-in_ok-program-in-Run-clause-sure : goal.returns-in_ok-program-in-Run-clause-sure
+returns-in_ok-program-in-Run-clause-sure g c = λ never is. (c.run.ensures.does []).no_file is
+
+pub returns-in_ok-program-in-Show-clause-sure : goal.returns-in_ok-program-in-Show-clause-sure
+returns-in_ok-program-in-Show-clause-sure g c = λ never is. (c.show_text.ensures.does []).no_file is
+
+pub returns-in_ok-program-in-Check-clause-sure : goal.returns-in_ok-program-in-Check-clause-sure
+returns-in_ok-program-in-Check-clause-sure g c = λ never is. (c.check.ensures.does []).no_file is
+
+pub returns-in_ok-program-in-Compile-clause-sure : goal.returns-in_ok-program-in-Compile-clause-sure
+returns-in_ok-program-in-Compile-clause-sure g c = λ never is. (c.list_code.ensures.does []).no_file is
+
+pub returns-in_ok-program-in-Bound-clause-sure : goal.returns-in_ok-program-in-Bound-clause-sure
+returns-in_ok-program-in-Bound-clause-sure g c = λ never is. (c.tell_bounds.ensures.does []).no_file is
+
+pub returns-in_ok-code-in-Exec-clause-sure : goal.returns-in_ok-code-in-Exec-clause-sure
+returns-in_ok-code-in-Exec-clause-sure g c = λ never is. (c.exec.ensures.does []).no_file is

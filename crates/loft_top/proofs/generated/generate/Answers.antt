@@ -3,7 +3,7 @@ use Rattle.loft_gen.specs.Generated.{generated}
 use Rattle.loft_words.specs.Command.{Gen}
 use Rattle.loft_top.specs.declared.status.Status.{Status}
 use Rattle.loft_top.specs.Answer.{Answers}
-use Rattle.loft_top.proofs.TextLemmas.{text_answers, sink_blamed, no_file_blamed}
+use Rattle.loft_top.proofs.TextLemmas.{text_answers, sink_blamed, no_file_blamed, never_fell}
 use Rattle.loft_top.proofs.generated.generate.Goals as goal
 
 pub returns-clause-answers : goal.returns-clause-answers
@@ -20,3 +20,8 @@ pub returns-clause-sink_fault : goal.returns-clause-sink_fault
 returns-clause-sink_fault g c = λ is.
     sink_blamed {P = λ (text : List ℕ). text ≡ generated c.args.number} c.write_source.result (g.S.Sink.written c.args.sink.now) (g.S.Sink.written c.write_source.new.sink)
     (g.S.Sink.faults c.args.sink.now) (g.S.Sink.faults c.write_source.new.sink) c.write_source.ensures (sym c.status_of.ensures ∙ is)
+
+pub returns-clause-never_falls : goal.returns-clause-never_falls
+returns-clause-never_falls g c =
+    never_fell {P = λ (text : List ℕ). text ≡ generated c.args.number} c.write_source.result (g.S.Sink.written c.args.sink.now) (g.S.Sink.written c.write_source.new.sink)
+    (g.S.Sink.faults c.args.sink.now) (g.S.Sink.faults c.write_source.new.sink) c.write_source.ensures

@@ -3,7 +3,7 @@ use Rattle.loft_generated_run.specs.Summary.{IsSummary}
 use Rattle.loft_words.specs.Command.{GenRun}
 use Rattle.loft_top.specs.declared.status.Status.{Status}
 use Rattle.loft_top.specs.Answer.{Answers}
-use Rattle.loft_top.proofs.TextLemmas.{text_answers, sink_blamed, no_file_blamed}
+use Rattle.loft_top.proofs.TextLemmas.{text_answers, sink_blamed, no_file_blamed, never_fell}
 use Rattle.loft_top.proofs.generated.summarize.Goals as goal
 
 pub returns-clause-answers : goal.returns-clause-answers
@@ -20,3 +20,8 @@ pub returns-clause-sink_fault : goal.returns-clause-sink_fault
 returns-clause-sink_fault g c = λ is.
     sink_blamed {P = IsSummary c.args.number} c.write_summary.result (g.S.Sink.written c.args.sink.now) (g.S.Sink.written c.write_summary.new.sink)
     (g.S.Sink.faults c.args.sink.now) (g.S.Sink.faults c.write_summary.new.sink) c.write_summary.ensures (sym c.status_of.ensures ∙ is)
+
+pub returns-clause-never_falls : goal.returns-clause-never_falls
+returns-clause-never_falls g c =
+    never_fell {P = IsSummary c.args.number} c.write_summary.result (g.S.Sink.written c.args.sink.now) (g.S.Sink.written c.write_summary.new.sink)
+    (g.S.Sink.faults c.args.sink.now) (g.S.Sink.faults c.write_summary.new.sink) c.write_summary.ensures
