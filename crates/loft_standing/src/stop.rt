@@ -1,0 +1,29 @@
+//! Stops of a program in memory.
+
+use loft_tree::{NamedStmt, Place};
+
+/// What a stop of a module is.
+#[derive(Clone, Copy)]
+pub enum Kind<'a> {
+    /// The beginning of the module.
+    Begin,
+    /// A statement.
+    Statement(&'a NamedStmt),
+}
+
+/// A stop of a module: what it is, how many `repeat`s it stands in, and where a thread is linked after it.
+#[derive(Clone, Copy)]
+pub struct Stop<'a> {
+    pub kind: Kind<'a>,
+    pub depth: u32,
+    pub after: Place,
+}
+
+/// How a search for a stop ended.
+#[derive(Clone, Copy)]
+pub(crate) enum Search<'a> {
+    /// At the stop.
+    At(Stop<'a>),
+    /// Past all statements, where a thread that comes from there is linked.
+    Past(Place),
+}
