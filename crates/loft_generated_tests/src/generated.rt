@@ -1,10 +1,13 @@
 //! Generated sources and their runs: the numbers that no clause says.
 
-use loft_base::{Gate, NoMemory, OpenGate, Turn};
+use loft_base::{Gate, MemFiles, MemSink, NoMemory, OpenGate, Turn};
 use loft_gen::source_of;
-use loft_generated_run::{run_generated, summary_of};
+use loft_generated_run::summary_of;
+use loft_top::loft_main;
+use std::alloc::{AllocError, Global};
 use std::sync::Wait;
 use std::sync::atomic::{AtomicU64, Ordering};
+use std::test::Fail;
 use std::thread::Threads;
 
 /// The summary of a run of 7.
@@ -38,13 +41,34 @@ impl Gate for CountingGate {
     }
 }
 
-/// The source is run: at least two turns of each scheduler pass the gate.
+/// The words of a command, which stand with a blank between them.
+fn words(alloc: Global, command: &str) -> Result<Vec<String>, AllocError> {
+    let mut words = Vec::new(alloc);
+    for word in command.split(' ') {
+        words.push(String::from_str(alloc, word)?)?;
+    }
+    Ok(words)
+}
+
+/// The summary is that of a run: at least two turns of each scheduler pass the gate.
 #[test]
-fn runs_pass_the_gate(rt: HostRuntime) -> Result<(), NoMemory> {
+fn summaries_are_of_runs(rt: HostRuntime) -> Result<(), Fail> {
     let gate = CountingGate {
         passes: AtomicU64::new(0),
     };
-    run_generated(&rt, rt.alloc(), 1, &gate)?;
+    let words = words(rt.alloc(), "gen 1 --run")?;
+    let mut files = MemFiles::new(rt.alloc())?;
+    let mut sink = MemSink::new(rt.alloc(), 1024)?;
+    let status = loft_main(
+        &rt,
+        rt.alloc(),
+        words.as_slice(),
+        &mut files,
+        &mut sink,
+        &gate,
+    );
+    assert_eq!(rt; status.code(), 0);
+    assert_eq!(rt; sink.bytes(), ONE);
     assert!(rt; gate.passes.load(Ordering::SeqCst) >= 8);
     Ok(())
 }
