@@ -65,7 +65,7 @@ module _ (p : Resolved) (l : Lock) (name : List ℕ) (marks : List Mark) (away :
 pub program_fits : (text : List ℕ) (s : Source) → IsExpansion text s → NamedFits (numbered s)
 program_fits text s e = let named = e.pairs.named in numbered_fits s (spelled_fits (written text 0 0 e.tokens) named.reads.0 (complete named.reads.1) s named.reads.2) named.names
 
-program_placed : (text : List ℕ) (s : Source) → IsExpansion text s → IsPlacedTree (program_of s)
+pub program_placed : (text : List ℕ) (s : Source) → IsExpansion text s → IsPlacedTree (program_of s)
 program_placed text s e = record { source = numbered s; names = program_fits text s e; links = e.pairs.placed; same = refl }
 
 module _ (text : List ℕ) (s : Source) (e : IsExpansion text s) where

@@ -4,3 +4,6 @@ pub mod KeptLemmas
 pub mod CodeLemmas
 pub mod ExampleLemmas
 pub mod OneAnswer
+pub mod LeavingLemmas
+pub mod Rounds
+pub mod SomeAnswer

@@ -23,7 +23,7 @@ use Rattle.loft_forms.specs.Rewriting.{all_say, written, forms}
 use Rattle.loft_forms.specs.Marks.{text_marks}
 use Rattle.loft_forms.specs.Names.{long_name, reserved_name}
 use Rattle.loft_expansion.specs.Expansion.{first_unpaired, first_leaving, TellsLeaving, IsWritten, IsRewritten, IsNamed, IsPaired}
-use Rattle.loft_expansion.specs.Reasons.{Reason, TooLong, Lex, LongName, Reserved, Parse, Names, Place, Pair, Leaves, Comes}
+use Rattle.loft_expansion.specs.Refusals.{Refusal, TooLong, Lex, LongName, Reserved, Parse, Names, Place, Pair, Leaves, Comes}
 
 -- ---- a question that is asked after others
 
@@ -51,7 +51,7 @@ unit_one x y = refl
 -- ---- the questions, from the last to the first
 
 abbrev Answer : Type 0
-Answer = Result Source Reason
+Answer = Result Source Refusal
 
 module _ (text : List ℕ) (ts : List Token) (s : Source) where
   abbrev AsksLeaving : (ModuleId → Bool) → Answer → Type 0

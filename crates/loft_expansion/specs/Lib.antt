@@ -1,5 +1,5 @@
 pub mod Checks
 pub mod Expansion
-pub mod Reasons
+pub mod Refusals
 pub mod Kept
 pub mod Example

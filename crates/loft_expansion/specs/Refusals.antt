@@ -20,19 +20,19 @@ use Rattle.loft_forms.specs.Names.{long_name, reserved_name}
 use Rattle.loft_expansion.specs.Expansion.{first_unpaired, first_leaving, TellsLeaving, IsWritten, IsRewritten, IsNamed, IsPaired, IsExpansion}
 
 -- the reasons; a name is told by its offset, and a lock by its name
-pub data Reason : Type 0 where
-  TooLong : Reason
-  Lex : (fault : LexError) → Reason
-  LongName : (at : ℕ) → Reason
-  Reserved : (at : ℕ) → Reason
-  Parse : (fault : ParseError) → Reason
-  Names : (fault : NameError) → Reason
-  Place : (fault : PlaceError) → Reason
-  Pair : («module» : ModuleId) (lock : List ℕ) → Reason
-  Leaves : («module» : ModuleId) (lock : List ℕ) → Reason
+pub data Refusal : Type 0 where
+  TooLong : Refusal
+  Lex : (fault : LexError) → Refusal
+  LongName : (at : ℕ) → Refusal
+  Reserved : (at : ℕ) → Refusal
+  Parse : (fault : ParseError) → Refusal
+  Names : (fault : NameError) → Refusal
+  Place : (fault : PlaceError) → Refusal
+  Pair : («module» : ModuleId) (lock : List ℕ) → Refusal
+  Leaves : («module» : ModuleId) (lock : List ℕ) → Refusal
 
 -- The text is refused for this reason: it applies, and none before it does.
-abbrev pub IsRefused : List ℕ → Reason → Type 0
+abbrev pub IsRefused : List ℕ → Refusal → Type 0
 IsRefused text TooLong = (MAX_TEXT_LEN < length text) ⊎ ((ts : List Token) × Cut text (Ok ts) × (MAX_TEXT_LEN < length (written text 0 0 ts)))
 IsRefused text (Lex fault) = (length text ≤ MAX_TEXT_LEN) × Cut text (Err fault)
 IsRefused text (LongName at) = (ts : List Token) × IsWritten text ts × (long_name text 0 ts ≡ Some at)
@@ -47,6 +47,6 @@ IsRefused text (Leaves m l) =
     × (first_leaving (text_marks text ts) away (numbered s).modules ≡ Some (m, l))
 
 -- what the text comes to: the program that it stands for, or why it stands for none
-abbrev pub Comes : List ℕ → Result Source Reason → Type 0
+abbrev pub Comes : List ℕ → Result Source Refusal → Type 0
 Comes text (Ok s) = IsExpansion text s
-Comes text (Err reason) = IsRefused text reason
+Comes text (Err refusal) = IsRefused text refusal
