@@ -5,16 +5,8 @@ use Rattle.std.proofs.lemmas.Bool.{false≢true}
 use Rattle.loft_base.specs.declared.ids.ModuleId.{ModuleId}
 use Rattle.loft_tree.specs.Resolved.{Pause, Cooperate, Await, Get, Join, Link, Unlink, Halt, Step, Do, Hold, Call, Choose, Loop, Times, Body, Empty, Then, Resolved}
 use Rattle.loft_sense.specs.Tree.{body_at}
+use Rattle.loft_expansion.specs.Going.{is_away, step_goes, body_goes}
 use Rattle.loft_locks.specs.Locks.{IsAway, StepLeaves, BodyLeaves, StepCalls, BodyCalls, Leaves, itself, through}
-
-abbrev is_away : Pause → Bool
-is_away (Cooperate instants) = false
-is_away (Await events limit) = false
-is_away (Get event index target) = false
-is_away (Join thread limit) = false
-is_away (Link s) = true
-is_away Unlink = true
-is_away Halt = false
 
 away_is : (pause : Pause) → is_away pause ≡ true → IsAway pause
 away_is (Cooperate instants) e = false≢true e
@@ -49,20 +41,6 @@ second_true false b e = e
 -- ---- bodies
 
 module _ (away : ModuleId → Bool) where
-  -- whether it has a `link`, an `unlink`, or a `run` of a marked module
-  abbrev mutual
-    pub step_goes : Step → Bool
-    step_goes (Do action) = false
-    step_goes (Hold k pause) = is_away pause
-    step_goes (Call k m arguments) = away m
-    step_goes (Choose test first second) = body_goes first || body_goes second
-    step_goes (Loop test body) = body_goes body
-    step_goes (Times count body) = body_goes body
-
-    pub body_goes : Body → Bool
-    body_goes Empty = false
-    body_goes (Then s rest) = step_goes s || body_goes rest
-
   -- why it does
   abbrev Why : Type 0 → (ModuleId → Type 0) → Type 0
   Why Own Calls = Own ⊎ ((c : ModuleId) × Calls c × (away c ≡ true))
@@ -80,47 +58,47 @@ module _ (away : ModuleId → Bool) where
   why_either false y A B C D e f g = why_right A B C D (g e)
 
   mutual
-    step_why : (s : Step) → step_goes s ≡ true → Why (StepLeaves s) (StepCalls s)
+    step_why : (s : Step) → step_goes away s ≡ true → Why (StepLeaves s) (StepCalls s)
     step_why (Do action) e = absurd (false≢true e)
     step_why (Hold k pause) e = inl (away_is pause e)
     step_why (Call k m arguments) e = inr (m, refl, e)
-    step_why (Choose test x y) e = why_either (body_goes x) (body_goes y) (BodyLeaves x) (BodyLeaves y) (BodyCalls x) (BodyCalls y) e (body_why x) (body_why y)
+    step_why (Choose test x y) e = why_either (body_goes away x) (body_goes away y) (BodyLeaves x) (BodyLeaves y) (BodyCalls x) (BodyCalls y) e (body_why x) (body_why y)
     step_why (Loop test x) e = body_why x e
     step_why (Times count x) e = body_why x e
 
-    body_why : (b : Body) → body_goes b ≡ true → Why (BodyLeaves b) (BodyCalls b)
+    body_why : (b : Body) → body_goes away b ≡ true → Why (BodyLeaves b) (BodyCalls b)
     body_why Empty e = absurd (false≢true e)
-    body_why (Then s b) e = why_either (step_goes s) (body_goes b) (StepLeaves s) (BodyLeaves b) (StepCalls s) (BodyCalls b) e (step_why s) (body_why b)
+    body_why (Then s b) e = why_either (step_goes away s) (body_goes away b) (StepLeaves s) (BodyLeaves b) (StepCalls s) (BodyCalls b) e (step_why s) (body_why b)
 
   mutual
-    step_leaves : (s : Step) → StepLeaves s → step_goes s ≡ true
+    step_leaves : (s : Step) → StepLeaves s → step_goes away s ≡ true
     step_leaves (Do action) h = absurd h
     step_leaves (Hold k pause) h = is_marked pause h
     step_leaves (Call k m arguments) h = absurd h
-    step_leaves (Choose test x y) (inl h) = first_true (body_goes x) (body_goes y) (body_leaves x h)
-    step_leaves (Choose test x y) (inr h) = second_true (body_goes x) (body_goes y) (body_leaves y h)
+    step_leaves (Choose test x y) (inl h) = first_true (body_goes away x) (body_goes away y) (body_leaves x h)
+    step_leaves (Choose test x y) (inr h) = second_true (body_goes away x) (body_goes away y) (body_leaves y h)
     step_leaves (Loop test x) h = body_leaves x h
     step_leaves (Times count x) h = body_leaves x h
 
-    body_leaves : (b : Body) → BodyLeaves b → body_goes b ≡ true
+    body_leaves : (b : Body) → BodyLeaves b → body_goes away b ≡ true
     body_leaves Empty h = absurd h
-    body_leaves (Then s b) (inl h) = first_true (step_goes s) (body_goes b) (step_leaves s h)
-    body_leaves (Then s b) (inr h) = second_true (step_goes s) (body_goes b) (body_leaves b h)
+    body_leaves (Then s b) (inl h) = first_true (step_goes away s) (body_goes away b) (step_leaves s h)
+    body_leaves (Then s b) (inr h) = second_true (step_goes away s) (body_goes away b) (body_leaves b h)
 
   mutual
-    step_calls : (s : Step) (c : ModuleId) → StepCalls s c → away c ≡ true → step_goes s ≡ true
+    step_calls : (s : Step) (c : ModuleId) → StepCalls s c → away c ≡ true → step_goes away s ≡ true
     step_calls (Do action) c h e = absurd h
     step_calls (Hold k pause) c h e = absurd h
     step_calls (Call k m arguments) c h e = ap away h ∙ e
-    step_calls (Choose test x y) c (inl h) e = first_true (body_goes x) (body_goes y) (body_calls x c h e)
-    step_calls (Choose test x y) c (inr h) e = second_true (body_goes x) (body_goes y) (body_calls y c h e)
+    step_calls (Choose test x y) c (inl h) e = first_true (body_goes away x) (body_goes away y) (body_calls x c h e)
+    step_calls (Choose test x y) c (inr h) e = second_true (body_goes away x) (body_goes away y) (body_calls y c h e)
     step_calls (Loop test x) c h e = body_calls x c h e
     step_calls (Times count x) c h e = body_calls x c h e
 
-    body_calls : (b : Body) (c : ModuleId) → BodyCalls b c → away c ≡ true → body_goes b ≡ true
+    body_calls : (b : Body) (c : ModuleId) → BodyCalls b c → away c ≡ true → body_goes away b ≡ true
     body_calls Empty c h e = absurd h
-    body_calls (Then s b) c (inl h) e = first_true (step_goes s) (body_goes b) (step_calls s c h e)
-    body_calls (Then s b) c (inr h) e = second_true (step_goes s) (body_goes b) (body_calls b c h e)
+    body_calls (Then s b) c (inl h) e = first_true (step_goes away s) (body_goes away b) (step_calls s c h e)
+    body_calls (Then s b) c (inr h) e = second_true (step_goes away s) (body_goes away b) (body_calls b c h e)
 
 -- ---- programs
 

@@ -5,7 +5,8 @@ use Rattle.std.proofs.lemmas.Bool.{false≢true}
 use Rattle.loft_base.specs.declared.ids.ModuleId.{ModuleId}
 use Rattle.loft_tree.specs.Resolved.{Body, Empty, Resolved}
 use Rattle.loft_locks.specs.Locks.{Leaves}
-use Rattle.loft_expansion.proofs.LeavingLemmas.{body_goes, goes_leaves, MarksOnly, marks_tell_all}
+use Rattle.loft_expansion.specs.Going.{body_goes}
+use Rattle.loft_expansion.proofs.LeavingLemmas.{goes_leaves, MarksOnly, marks_tell_all}
 
 -- the mark of a module
 abbrev away_of : List Bool → ModuleId → Bool

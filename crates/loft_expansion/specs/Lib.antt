@@ -1,4 +1,5 @@
 pub mod Checks
+pub mod Going
 pub mod Expansion
 pub mod Refusals
 pub mod Kept

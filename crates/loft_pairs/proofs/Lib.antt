@@ -1,0 +1,4 @@
+pub mod MarkLemmas
+pub mod NameLemmas
+pub mod FaultLemmas
+pub mod TurnLemmas
