@@ -1,8 +1,8 @@
 //! Pairs of locks in the modules of a program, and what leaves them (docs/LOCKS.md, "Pairs").
 #![tactic(auto)]
 
-mod leaving;
 mod leaves;
+mod leaving;
 mod marks;
 mod pairs;
 

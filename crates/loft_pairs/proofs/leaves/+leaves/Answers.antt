@@ -1,4 +1,4 @@
-use Rattle.std.proofs.Common.{◌≡◌, ◌+◌, [], List, drop, is_some, true, false, sym, ap, subst, ◌∙◌}
+use Rattle.std.proofs.Common.{◌≡◌, ◌+◌, [], List, drop, sym, ap, subst, ◌∙◌}
 use Rattle.std.proofs.lemmas.List.{drop_all}
 use Rattle.loft_tree.specs.declared.named.NamedStmt.{NamedStmt}
 use Rattle.loft_tree.specs.NamedView.{statements_of}
@@ -37,5 +37,5 @@ left_in-loop-statement-preserved t c =
 pub left_in-returns-clause-fault : goal.left_in-returns-clause-fault
 left_in-returns-clause-fault t c w =
     subst (λ (ss : List NamedStmt). leave_fault (names_seen c.args.outer.now) (names_seen c.loop-statement.own.items) (outline (marks_seen c.args.marks.now) (marked_in c.args.away.now) (statements_of ss))
-        ≡ leave_fault (names_seen c.args.outer.now) [] (outline (marks_seen c.args.marks.now) (marked_in c.args.away.now) (statements_of c.args.body.now)))
+    ≡ leave_fault (names_seen c.args.outer.now) [] (outline (marks_seen c.args.marks.now) (marked_in c.args.away.now) (statements_of c.args.body.now)))
     (drop_all c.loop-statement.statement-index c.args.body.now c.loop-statement-test.false) (c.loop-statement.invariant.fault w)

@@ -22,16 +22,16 @@ loop-number-preserved c n less unmarked =
     let away = c.args.away.now in
     let modules = c.args.modules.now in
     elim (cases_lt n c.loop-number.number) [
-      inl before ↦ c.loop-number.invariant n before unmarked
-    | inr after ↦
-        let same : n ≡ c.loop-number.number = omega (arith, less, after) in
-        let now : IsUnmarked c.args.away.now (bodies_of c.args.modules.now) c.loop-number.number = subst (λ (k : ℕ). IsUnmarked c.args.away.now (bodies_of c.args.modules.now) k) same unmarked in
-        elim c.else-not-away-number.branch [
-          else-not-away-number-via-then-not-away-number+else-body_leaves w ↦
-            false≢true (sym w.if-body_leaves.false ∙ (w.body_leaves.ensures
-            ∙ (ap (λ (ss : List NamedStmt). body_goes (marked_in c.args.away.now) (body_of (statements_of ss))) w.as_slice.ensures.value
-            ∙ (sym (ap (λ (b : Body). body_goes (marked_in c.args.away.now) b)
-            (body_is c.args.modules.now c.loop-number.number w.index-modules-number.result c.loop-number-test.true)) ∙ now.goes))))
-        | else-not-away-number-via-else-not-away-number w ↦ false≢true (sym now.unmarked ∙ w.if-not-away-number.false)
-        ]
+      | inl before ↦ c.loop-number.invariant n before unmarked
+      | inr after ↦
+          let same : n ≡ c.loop-number.number = omega (arith, less, after) in
+          let now : IsUnmarked c.args.away.now (bodies_of c.args.modules.now) c.loop-number.number = subst (λ (k : ℕ). IsUnmarked c.args.away.now (bodies_of c.args.modules.now) k) same unmarked in
+          elim c.else-not-away-number.branch [
+            | else-not-away-number-via-then-not-away-number+else-body_leaves w ↦
+                false≢true (sym w.if-body_leaves.false ∙ (w.body_leaves.ensures
+                ∙ (ap (λ (ss : List NamedStmt). body_goes (marked_in c.args.away.now) (body_of (statements_of ss))) w.as_slice.ensures.value
+                ∙ (sym (ap (λ (b : Body). body_goes (marked_in c.args.away.now) b)
+                (body_is c.args.modules.now c.loop-number.number w.index-modules-number.result c.loop-number-test.true)) ∙ now.goes))))
+            | else-not-away-number-via-else-not-away-number w ↦ false≢true (sym now.unmarked ∙ w.if-not-away-number.false)
+          ]
     ]

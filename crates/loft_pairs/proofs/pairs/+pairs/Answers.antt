@@ -42,13 +42,13 @@ fault_in-loop-statement-preserved t c =
       left = after;
       before = λ w. c.loop-statement.invariant.before (c.fault_at-fault.ensures.before w);
       fault = λ w. go_on c.fault_at-fault.result _ _ _ (sym c.is_some.ensures ∙ c.if-is_some.false)
-    (subst (λ (ls : List NamedStmt). first_some (lock_seen c.fault_at-fault.result) (pair_fault outer (names_seen c.fault_at-fault.new.own.items) (outline ms (λ i. false) (statements_of ls)))
-    ≡ pair_fault outer own (part ms (λ i. false) (statement_of s) (outline ms (λ i. false) (statements_of ls)))) after (c.fault_at-fault.ensures.fault w))
-    (ap (λ (ss : List NamedStmt). pair_fault outer own (outline ms (λ i. false) (statements_of ss))) (sym split) ∙ c.loop-statement.invariant.fault (c.fault_at-fault.ensures.before w));
+          (subst (λ (ls : List NamedStmt). first_some (lock_seen c.fault_at-fault.result) (pair_fault outer (names_seen c.fault_at-fault.new.own.items) (outline ms (λ i. false) (statements_of ls)))
+          ≡ pair_fault outer own (part ms (λ i. false) (statement_of s) (outline ms (λ i. false) (statements_of ls)))) after (c.fault_at-fault.ensures.fault w))
+          (ap (λ (ss : List NamedStmt). pair_fault outer own (outline ms (λ i. false) (statements_of ss))) (sym split) ∙ c.loop-statement.invariant.fault (c.fault_at-fault.ensures.before w));
     }
 
 pub fault_in-returns-clause-fault : goal.fault_in-returns-clause-fault
 fault_in-returns-clause-fault t c w =
     subst (λ (ss : List NamedStmt). pair_fault (names_seen c.args.outer.now) (names_seen c.loop-statement.own.items) (outline (marks_seen c.args.marks.now) (λ i. false) (statements_of ss))
-        ≡ pair_fault (names_seen c.args.outer.now) [] (outline (marks_seen c.args.marks.now) (λ i. false) (statements_of c.args.body.now)))
+    ≡ pair_fault (names_seen c.args.outer.now) [] (outline (marks_seen c.args.marks.now) (λ i. false) (statements_of c.args.body.now)))
     (drop_all c.loop-statement.statement-index c.args.body.now c.loop-statement-test.false) (c.loop-statement.invariant.fault w)
