@@ -51,7 +51,7 @@ run_bottomed (b ∷ bs) s m h e = go (λ n k f. run_bottomed bs n m k f) (step (
     go ih None f g = absurd cc
     go ih (Some n) f g = ih n (step_bottomed s n b h _ refl _ refl f) (after (run (script grammar) (takes grammar) bs n) g)
 
-read_bottomed : (text : List ℕ) (m : Machine_state) → run_all text ≡ Ok m → IsBottomed m.at.parts
+pub read_bottomed : (text : List ℕ) (m : Machine_state) → run_all text ≡ Ok m → IsBottomed m.at.parts
 unfolding bottomed
 read_bottomed text m e = run_bottomed text (opening (script grammar) (takes grammar) beginning) m refl e
 

@@ -1,3 +1,6 @@
+pub mod Begun
+pub mod Spelling
+pub mod Spelled
 pub mod Bottom
 pub mod Ending
 pub mod Pieces

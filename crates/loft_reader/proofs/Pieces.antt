@@ -1,16 +1,18 @@
 -- What is read in pieces.
-use Rattle.std.proofs.Common.{Option, ◌≡◌, ℕ, suc, ◌+◌, ◌<◌, ◌≤◌, Bool, true, false, ◌==◌, List, [], ◌∷◌, ◌++◌, length, length-append, append_assoc, get_or, take, drop, drop-cons, Some, None, Ok, ◌⊎◌, inl, inr, refl, sym, ap, subst, ◌∙◌, arith, if◌then◌else◌}
-use Rattle.std.proofs.lemmas.List.{take-append-le, take_all, take-append-drop, length-take}
+use Rattle.std.proofs.Common.{Option, ◌≡◌, ℕ, suc, ◌+◌, ◌<◌, ◌≤◌, Bool, true, false, ◌==◌, List, [], ◌∷◌, ◌++◌, length, length-append, length-take, get_or, take, OnOk, Some, None, Result, Ok, Err, ◌⊎◌, inl, inr, refl, sym, ap, subst, ◌∙◌, arith, if◌then◌else◌}
+use Rattle.std.proofs.lemmas.List.{take-append-le}
+use Rattle.std.proofs.Math.Seq.{take-append-add, take-suc}
 use Rattle.std.proofs.Math.Dec.{leb}
-use Rattle.std.proofs.lemmas.Bool.Decides.{leb_tells}
-use Rattle.loft_spelling.specs.Reading.{State, step, run, opening}
+use Rattle.std.proofs.lemmas.Bool.Decides.{leb_tells, nat_tests}
+use Rattle.loft_spelling.specs.Reading.{State, opening, run}
 use Rattle.loft_spelling.specs.Parts.{script, takes}
-use Rattle.loft_spelling.proofs.Bytewise.{run_taken, run_refused, run_stopped}
+use Rattle.loft_spelling.proofs.Bytewise.{run_pieces, run_stopped, then_more}
 use Rattle.loft_shape.proofs.Verdicts.{run_all, stops_there, there_stops}
 use Rattle.loft_shape.specs.Report.{grammar, beginning, StopsAt, GoesOn, IsLine, feeds, longest}
-use Rattle.loft_reader.specs.Machine.{machine_of, Stepped}
+use Rattle.loft_reader.specs.Machine.{Machine_state, machine_of, read_from, IsBegun, IsRead}
+use Rattle.loft_reader.proofs.Begun.{reads_begun}
 use Rattle.loft_reader.specs.Log.{Cause, Reading, ReadUpTo}
-use Rattle.loft_reader.specs.Answer.{HasRead}
+use Rattle.loft_reader.specs.Answer.{HasRead, Keeps}
 use Rattle.loft_reader.specs.declared.machine.Machine.{Machine}
 use Rattle.loft_reader.specs.declared.log.LogReader.{LogReader}
 use Rattle.loft_reader.specs.declared.error.LogError.{LogError}
@@ -34,7 +36,7 @@ cause_more (Ends k) text more h = h
 cause_more TooLong text more h = omega (arith, h, length-append text more)
 cause_more NoMemory text more h = h
 
--- ---- one byte more
+-- ---- one piece more
 
 pub feeds_more : (text : List ℕ) (b : ℕ) → feeds (text ++ b ∷ []) ≡ (if b == 10 then feeds text + 1 else feeds text)
 unfolding feeds
@@ -48,6 +50,15 @@ feeds_more (c ∷ text) b = go (c == 10) (b == 10) (feeds_more text b)
     go false true ih = ih
     go false false ih = ih
 
+pub feeds_both : (text more : List ℕ) → feeds (text ++ more) ≡ feeds text + feeds more
+unfolding feeds
+feeds_both [] more = omega arith
+feeds_both (c ∷ text) more = go (c == 10) (feeds_both text more)
+  where
+    go : (x : Bool) → feeds (text ++ more) ≡ feeds text + feeds more → (if x then feeds (text ++ more) + 1 else feeds (text ++ more)) ≡ (if x then feeds text + 1 else feeds text) + feeds more
+    go true ih = omega (arith, ih)
+    go false ih = ih
+
 pub feeds_least : (text : List ℕ) → feeds text ≤ length text
 unfolding feeds
 feeds_least [] = omega arith
@@ -57,51 +68,58 @@ feeds_least (c ∷ text) = go (feeds_least text) (c == 10)
     go ih true = omega (arith, ih)
     go ih false = omega (arith, ih)
 
--- the machine has taken a byte
-pub reading_taken : (m n : Machine) (size lines size' lines' : ℕ) (text : List ℕ) (b : ℕ) → length text < longest → Reading m size lines text → Stepped true (step (script grammar) (takes grammar) (machine_of m) b) (machine_of n)
-    → size' ≡ size + 1 → lines' ≡ (if b == 10 then lines + 1 else lines) → Reading n size' lines' (text ++ b ∷ [])
-reading_taken m n size lines size' lines' text b less h e grown fed = record {
-  within = omega (arith, length-append text (b ∷ []));
-  size_is = omega (arith, length-append text (b ∷ []), grown, h.size_is);
-  lines_are = fed ∙ ap (λ (k : ℕ). if b == 10 then k + 1 else k) h.lines_are ∙ sym (feeds_more text b);
-  state = run_taken (script grammar) (takes grammar) text b (opening (script grammar) (takes grammar) beginning) (machine_of m) (machine_of n) h.state e;
-}
+module _ (m n : Machine) (size lines : ℕ) (text piece : List ℕ) (h : Reading m size lines text) where
+  begun : IsBegun (machine_of m)
+  begun = reads_begun text (machine_of m) h.state
 
--- the text stops at a byte
-pub reading_refused : (m : Machine) (size lines : ℕ) (text : List ℕ) (b n : ℕ) → Reading m size lines text → step (script grammar) (takes grammar) (machine_of m) b ≡ None
-    → n ≡ lines + 1 → IsLine (text ++ b ∷ []) n size
-reading_refused m size lines text b n h e line =
-    let at = stops_there (text ++ b ∷ []) (length text) (run_refused (script grammar) (takes grammar) text b (opening (script grammar) (takes grammar) beginning) (machine_of m) h.state e) in
-    subst (λ k. IsLine (text ++ b ∷ []) n k) (sym h.size_is)
-    (at.0, at.1, line ∙ ap (λ (k : ℕ). k + 1) (h.lines_are ∙ ap feeds (sym (take_front text (b ∷ [])))))
-  where
-    take_front : (xs ys : List ℕ) → take (length xs) (xs ++ ys) ≡ xs
-    take_front [] ys = refl
-    take_front (x ∷ xs) ys = ap (λ (t : List ℕ). x ∷ t) (take_front xs ys)
+  -- what is read of the piece is read of the text with it
+  of_both : run_all (text ++ piece) ≡ then_more (script grammar) (takes grammar) (length text) (Ok (machine_of m)) piece
+  of_both = run_pieces (script grammar) (takes grammar) text piece (opening (script grammar) (takes grammar) beginning) ∙ ap (λ r. then_more (script grammar) (takes grammar) (length text) r piece) h.state
 
--- no error so far, and one byte more
-pub read_more : (o : Option LogError) (m n : Machine) (size lines l f : ℕ) (text : List ℕ) (b : ℕ) (t : Bool) → o ≡ None → length text < longest → ReadUpTo o m size lines text
-    → Stepped t (step (script grammar) (takes grammar) (machine_of m) b) (machine_of n) → t ≡ true
-    → (size ≤ longest → l ≡ size + 1) → (lines ≤ longest → f ≡ (if b == 10 then lines + 1 else lines))
-    → ReadUpTo o n l f (text ++ b ∷ [])
-read_more o m n size lines l f text b t none less h e taken grown fed =
+  -- the machine has read the piece
+  pub reading_taken : size + length piece ≤ longest → (IsBegun (machine_of m) → read_from (machine_of m) piece ≡ Ok (machine_of n)) → (size' lines' : ℕ) → size' ≡ size + length piece → lines' ≡ lines + feeds piece
+      → Reading n size' lines' (text ++ piece)
+  reading_taken room e size' lines' grown fed = record {
+    within = omega (arith, length-append text piece, h.size_is, room);
+    size_is = omega (arith, length-append text piece, grown, h.size_is);
+    lines_are = omega (arith, fed, h.lines_are, feeds_both text piece);
+    state = of_both ∙ later_ok (length text) (read_from (machine_of m) piece) (e begun);
+  }
+    where
+      later_ok : (k : ℕ) (r : Result Machine_state ℕ) → read_from (machine_of m) piece ≡ Ok (machine_of n) → then_more (script grammar) (takes grammar) k (Ok (machine_of m)) piece ≡ Ok (machine_of n)
+      later_ok k r f = rw f refl
+
+  -- the text stops inside the piece
+  pub reading_stops : (k : ℕ) → (IsBegun (machine_of m) → read_from (machine_of m) piece ≡ Err k) → (line byte : ℕ) → line ≡ lines + feeds (take k piece) + 1 → byte ≡ size + k → IsLine (text ++ piece) line byte
+  reading_stops k e line byte line_is byte_is =
+      let f : run_all (text ++ piece) ≡ Err (length text + k) = of_both ∙ later_err (e begun) in
+      let at = stops_there (text ++ piece) (length text + k) f in
+      let same : byte ≡ length text + k = omega (arith, byte_is, h.size_is) in
+      let front : feeds (take (length text + k) (text ++ piece)) ≡ feeds text + feeds (take k piece) = ap feeds (take-append-add text piece k) ∙ feeds_both text (take k piece) in
+      subst (λ j. IsLine (text ++ piece) line j) (sym same) (at.0, at.1, omega (arith, front, line_is, h.lines_are))
+    where
+      later_err : read_from (machine_of m) piece ≡ Err k → then_more (script grammar) (takes grammar) (length text) (Ok (machine_of m)) piece ≡ Err (length text + k)
+      later_err f = rw f refl
+
+-- no error so far, and a piece more
+pub read_more : (o : Option LogError) (m n : Machine) (size lines l f : ℕ) (text piece : List ℕ) (stop : Option ℕ) → o ≡ None → stop ≡ None → size + length piece ≤ longest → ReadUpTo o m size lines text
+    → (IsBegun (machine_of m) → IsRead stop piece (machine_of m) (machine_of n))
+    → l ≡ size + length piece → (lines ≤ longest → f ≡ lines + feeds piece)
+    → ReadUpTo o n l f (text ++ piece)
+read_more o m n size lines l f text piece stop none all room h e grown fed =
     let k : Reading m size lines text = subst (λ p. ReadUpTo p m size lines text) none h in
-    let few : lines ≤ longest = omega (arith, k.lines_are, feeds_least text, less) in
-    subst (λ p. ReadUpTo p n l f (text ++ b ∷ [])) (sym none)
-    (reading_taken m n size lines l f text b less k (subst (λ u. Stepped u (step (script grammar) (takes grammar) (machine_of m) b) (machine_of n)) taken e) (grown (omega (arith, k.size_is, less))) (fed few))
+    let few : lines ≤ longest = omega (arith, k.lines_are, feeds_least text, k.within) in
+    subst (λ p. ReadUpTo p n l f (text ++ piece)) (sym none)
+    (reading_taken m n size lines text piece k room (subst (λ s. IsBegun (machine_of m) → IsRead s piece (machine_of m) (machine_of n)) all e) l f grown (fed few))
 
--- no error so far, and the text stops
-pub read_line : (o : Option LogError) (m : Machine) (new : State (script grammar)) (size lines n : ℕ) (text : List ℕ) (b : ℕ) (t : Bool) → o ≡ None → length text < longest → ReadUpTo o m size lines text
-    → Stepped t (step (script grammar) (takes grammar) (machine_of m) b) new → t ≡ false
-    → (lines ≤ longest → n ≡ lines + 1) → IsLine (text ++ b ∷ []) n size
-read_line o m new size lines n text b t none less h e refused line =
+-- no error so far, and the text stops in the piece
+pub read_line : (o : Option LogError) (m n : Machine) (size lines line byte j : ℕ) (text piece : List ℕ) (stop : Option ℕ) → o ≡ None → stop ≡ Some j → ReadUpTo o m size lines text
+    → (IsBegun (machine_of m) → IsRead stop piece (machine_of m) (machine_of n))
+    → (lines ≤ longest → line ≡ lines + feeds (take j piece) + 1) → (size ≤ longest → byte ≡ size + j) → IsLine (text ++ piece) line byte
+read_line o m n size lines line byte j text piece stop none some h e line_is byte_is =
     let k : Reading m size lines text = subst (λ p. ReadUpTo p m size lines text) none h in
-    let few : lines ≤ longest = omega (arith, k.lines_are, feeds_least text, less) in
-    reading_refused m size lines text b n k (go t e refused) (line few)
-  where
-    go : (u : Bool) → Stepped u (step (script grammar) (takes grammar) (machine_of m) b) new → u ≡ false → step (script grammar) (takes grammar) (machine_of m) b ≡ None
-    go true p q = absurd cc
-    go false p q = p
+    let few : lines ≤ longest = omega (arith, k.lines_are, feeds_least text, k.within) in
+    reading_stops m n size lines text piece k j (subst (λ s. IsBegun (machine_of m) → IsRead s piece (machine_of m) (machine_of n)) some e) line byte (line_is few) (byte_is (omega (arith, k.size_is, k.within)))
 
 -- how long the text is, where there was no error
 pub read_size : (o : Option LogError) (m : Machine) (size lines : ℕ) (text : List ℕ) → o ≡ None → ReadUpTo o m size lines text → size ≡ length text
@@ -125,22 +143,27 @@ read_nothing m e = record { within = omega arith; size_is = refl; lines_are = no
     none : 0 ≡ feeds []
     none = refl
 
--- ---- a piece, byte by byte
-
-rest_of_piece : (text piece : List ℕ) (i : ℕ) → i < length piece → ((text ++ take i piece) ++ get_or piece i 0 ∷ []) ++ drop (suc i) piece ≡ text ++ piece
-rest_of_piece text piece i h =
-    append_assoc (text ++ take i piece) (get_or piece i 0 ∷ []) (drop (suc i) piece) ∙ append_assoc text (take i piece) (get_or piece i 0 ∷ drop (suc i) piece)
-    ∙ ap (λ (t : List ℕ). text ++ (take i piece ++ t)) (sym (drop-cons piece i 0 h)) ∙ ap (λ (t : List ℕ). text ++ t) (take-append-drop i piece)
-
--- an error inside a piece
-pub feed_error : (r : LogReader) (e : LogError) (text piece : List ℕ) (i : ℕ) → i < length piece → r.error ≡ Some e → HasRead r ((text ++ take i piece) ++ get_or piece i 0 ∷ []) → HasRead r (text ++ piece)
-feed_error r e text piece i h kept read = subst (HasRead r) (rest_of_piece text piece i h) (has_read_error r e ((text ++ take i piece) ++ get_or piece i 0 ∷ []) (drop (suc i) piece) kept read)
-
-pub short_front : (text piece : List ℕ) (i : ℕ) → i < length piece → length text + length piece ≤ longest → length (text ++ take i piece) < longest
-short_front text piece i h room = omega (arith, length-append text (take i piece), length-take i piece)
-
 -- no error in a piece
-pub feed_goes_on : (r : LogReader) (text piece : List ℕ) (i : ℕ) → length piece ≤ i → r.error ≡ None → HasRead r (text ++ take i piece) → (length (text ++ piece) ≤ longest) × GoesOn (text ++ piece)
-feed_goes_on r text piece i past none read =
-    let h : Reading r.machine r.length r.feeds (text ++ piece) = subst (λ t. Reading r.machine r.length r.feeds (text ++ t)) (take_all i piece past) (subst (λ o. ReadUpTo o r.machine r.length r.feeds (text ++ take i piece)) none read) in
-    (h.within, never_stops (text ++ piece) (machine_of r.machine) h.state)
+pub feed_goes_on : (r : LogReader) (text : List ℕ) → r.error ≡ None → HasRead r text → (length text ≤ longest) × GoesOn text
+feed_goes_on r text none read =
+    let h : Reading r.machine r.length r.feeds text = subst (λ o. ReadUpTo o r.machine r.length r.feeds text) none read in
+    (h.within, never_stops text (machine_of r.machine) h.state)
+
+-- one byte more is counted
+pub feeds_next : (bytes : List ℕ) (i : ℕ) → i < length bytes → feeds (take (i + 1) bytes) ≡ (if get_or bytes i 0 == 10 then feeds (take i bytes) + 1 else feeds (take i bytes))
+feeds_next bytes i h = let e : i + 1 ≡ suc i = omega arith in ap (λ k. feeds (take k bytes)) e ∙ ap feeds (take-suc bytes i 0 h) ∙ feeds_more (take i bytes) (get_or bytes i 0)
+
+pub feeds_few : (bytes : List ℕ) (i n : ℕ) → n ≡ feeds (take i bytes) → n ≤ i
+feeds_few bytes i n e = omega (arith, e, feeds_least (take i bytes), length-take i bytes)
+
+pub feed_counted : (bytes : List ℕ) (i n m : ℕ) → i < length bytes → n ≡ feeds (take i bytes) → get_or bytes i 0 ≡ 10 → m ≡ n + 1 → m ≡ feeds (take (i + 1) bytes)
+feed_counted bytes i n m h e is more = let t : (get_or bytes i 0 == 10) ≡ true = grind (arith, nat_tests, is) in more ∙ ap (λ k. k + 1) e ∙ sym (feeds_next bytes i h ∙ (rw t refl))
+
+pub other_counted : (bytes : List ℕ) (i n m : ℕ) → i < length bytes → n ≡ feeds (take i bytes) → (get_or bytes i 0 ≡ 10 → ⊥) → m ≡ n → m ≡ feeds (take (i + 1) bytes)
+other_counted bytes i n m h e other same = let t : (get_or bytes i 0 == 10) ≡ false = grind (arith, nat_tests, other) in same ∙ e ∙ sym (feeds_next bytes i h ∙ (rw t refl))
+
+-- what a reader answers to a piece
+pub fed_ok : (result : Result (Unit {0}) LogError) (old new : LogReader) (piece : List ℕ) → Keeps result new → ((text : List ℕ) → HasRead old text → HasRead new (text ++ piece))
+    → OnOk result ((text : List ℕ) → HasRead old text → (length (text ++ piece) ≤ longest) × GoesOn (text ++ piece))
+fed_ok (Ok x) old new piece keeps read = λ text h. feed_goes_on new (text ++ piece) keeps (read text h)
+fed_ok (Err e) old new piece keeps read = tt

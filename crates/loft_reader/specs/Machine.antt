@@ -1,7 +1,7 @@
 -- The state of the code, as the definitions see it.
-use Rattle.std.specs.Prelude.{◌≡◌, ℕ, Bool, true, false, Option, Some, None, List, [], ◌∷◌}
-use Rattle.loft_spelling.specs.Parts.{Left, script}
-use Rattle.loft_spelling.specs.Reading.{State}
+use Rattle.std.specs.Prelude.{◌≡◌, ℕ, ◌+◌, ◌<◌, ◌≤◌, Bool, true, false, Option, Some, None, Result, Ok, Err, List, [], ◌∷◌, length, drop, ◌⊎◌}
+use Rattle.loft_spelling.specs.Parts.{Left, script, takes, parts_begun}
+use Rattle.loft_spelling.specs.Reading.{State, run}
 use Rattle.loft_shape.specs.Sets.{set_of}
 use Rattle.loft_shape.specs.Report.{grammar}
 use Rattle.loft_shape.specs.declared.part.Part.{Part}
@@ -10,14 +10,53 @@ use Rattle.loft_shape.specs.declared.part.NumberKind.TheVariants as number
 use Rattle.loft_told.specs.declared.draft.Draft.{Draft}
 use Rattle.loft_told.specs.Drafts.{told_of, report_of}
 use Rattle.loft_reader.specs.declared.machine.Machine.{Machine}
+use Rattle.loft_reader.specs.declared.machine.Spelled.{Spelled}
+use Rattle.loft_reader.specs.declared.machine.Spelled.TheVariants.{Whole, Open, Stops}
 
 abbrev pub machine_of : Machine → State (script grammar)
 machine_of m = record { at = record { parts = m.parts; told = told_of m.draft }; word = m.word }
 
--- the byte was taken and led to this state, or the text stops there
-abbrev pub Stepped : Bool → Option (State (script grammar)) → State (script grammar) → Type 0
-Stepped true step new = step ≡ Some new
-Stepped false step new = step ≡ None
+abbrev pub Machine_state : Type 0
+Machine_state = State (script grammar)
+
+-- what is read of the bytes from a state on
+abbrev pub read_from : Machine_state → List ℕ → Result Machine_state ℕ
+read_from m bytes = run (script grammar) (takes grammar) bytes m
+
+-- the same, where so many bytes come before
+abbrev pub later_by : {A : Type 0} → ℕ → Result A ℕ → Result A ℕ
+later_by n (Ok x) = Ok x
+later_by n (Err k) = Err (n + k)
+
+-- the bytes that were taken of a spelling are a prefix of one
+abbrev pub IsBegun : Machine_state → Type 0
+IsBegun m = (m.word ≡ []) ⊎ (parts_begun grammar m.at.parts m.at.told m.word ≡ true)
+
+-- what is read of the bytes from the one state is read of the rest of them from the other
+abbrev pub Spells : Spelled → List ℕ → Machine_state → Machine_state → Type 0
+Spells (Whole n) bytes old new = read_from old bytes ≡ later_by n (read_from new (drop n bytes))
+Spells Open bytes old new = read_from old bytes ≡ Ok new
+Spells (Stops n) bytes old new = read_from old bytes ≡ Err n
+
+abbrev pub Within : Spelled → List ℕ → Type 0
+Within (Whole n) bytes = n ≤ length bytes
+Within Open bytes = Unit {0}
+Within (Stops n) bytes = n ≤ length bytes
+
+-- after a whole spelling nothing was taken of the next one
+abbrev pub Leaves : Spelled → Machine → Type 0
+Leaves (Whole n) m = m.word ≡ []
+Leaves s m = Unit {0}
+
+-- a whole spelling has bytes
+abbrev pub IsOn : Spelled → Type 0
+IsOn (Whole n) = 0 < n
+IsOn s = Unit {0}
+
+-- the bytes were read from the one state to the other, or the text stops after so many of them
+abbrev pub IsRead : Option ℕ → List ℕ → Machine_state → Machine_state → Type 0
+IsRead None bytes old new = read_from old bytes ≡ Ok new
+IsRead (Some n) bytes old new = read_from old bytes ≡ Err n
 
 -- the parts that may come last
 abbrev pub is_bottom : Part → Bool

@@ -1,6 +1,7 @@
 //! Reading a report in pieces.
 
-ghost use Rattle.std.specs.Prelude.{ℕ, List};
+ghost use Rattle.std.specs.Prelude.{◌≡◌, ℕ, List};
+ghost use Rattle.loft_shape.specs.Report.{feeds};
 ghost use Rattle.loft_reader.specs.Log.{ReadUpTo};
 
 use crate::error::LogError;
@@ -11,6 +12,19 @@ use std::alloc::Global;
 
 /// The longest report, 1 GiB.
 pub const MAX_REPORT_LEN: u64 = 1073741824;
+
+/// How many line feeds there are.
+fn feeds(bytes: &[u8]) -> u64
+    ensures { result ≡ feeds bytes.now }
+{
+    let mut n = 0_u64;
+    for b in bytes {
+        if *b == b'\n' {
+            n += 1;
+        }
+    }
+    n
+}
 
 /// A reader of a report that comes in pieces. It keeps what the report tells, and not its text.
 #[derive(Drop)]
@@ -26,7 +40,7 @@ pub struct LogReader {
 }
 
 impl LogReader {
-    ghost use Rattle.std.specs.Prelude.{◌≡◌, ◌+◌, ◌<◌, ◌≤◌, [], ◌∷◌, ◌++◌, length, None, Some, Ok, Err, OnOk, IfOk, IfErr};
+    ghost use Rattle.std.specs.Prelude.{◌+◌, ◌<◌, ◌≤◌, [], ◌++◌, length, None, Some, Ok, Err, OnOk, IfOk, IfErr};
     ghost use Rattle.loft_shape.specs.Told.{Report};
     ghost use Rattle.loft_shape.specs.Report.{Shape, StopsAt, GoesOn, longest};
     ghost use Rattle.loft_reader.specs.declared.error.LogError.{LogError};
@@ -61,32 +75,29 @@ impl LogReader {
         Err(e)
     }
 
-    /// Reads a byte.
-    fn take(&mut self, alloc: Global, b: u8) -> Result<(), LogError>
+    /// Reads a piece with which the text has at most 1 GiB.
+    fn take(&mut self, alloc: Global, piece: &[u8]) -> Result<(), LogError>
         requires open_still { self.old.error ≡ None }
-        requires room { self.old.length < longest }
-        ensures read { (text : List ℕ) → length text < longest → HasRead self.old text → HasRead self.new (text ++ b ∷ []) }
+        requires room { self.old.length + length piece.now ≤ longest }
+        ensures read { (text : List ℕ) → HasRead self.old text → HasRead self.new (text ++ piece.now) }
         ensures answer { Keeps result self.new }
-        ensures grown { OnOk result (self.new.length ≡ self.old.length + 1) }
     {
-        match self.machine.push(alloc, b) {
+        match self.machine.read(alloc, piece) {
             Err(_) => {
                 self.error = Some(LogError::NoMemory);
                 Err(LogError::NoMemory)
             }
-            Ok(false) => {
-                let e = LogError::Line {
-                    n: self.feeds.saturating_add(1),
-                    byte: self.length,
-                };
+            Ok(Some(n)) => {
+                let feeds_before = self.feeds.saturating_add(feeds(&piece[..n]));
+                let line = feeds_before.saturating_add(1);
+                let byte = self.length.saturating_add(n as u64);
+                let e = LogError::Line { n: line, byte };
                 self.error = Some(e);
                 Err(e)
             }
-            Ok(true) => {
-                self.length = self.length.saturating_add(1);
-                if b == b'\n' {
-                    self.feeds = self.feeds.saturating_add(1);
-                }
+            Ok(None) => {
+                self.length = self.length.saturating_add(piece.len() as u64);
+                self.feeds = self.feeds.saturating_add(feeds(piece));
                 Ok(())
             }
         }
@@ -112,13 +123,7 @@ impl LogReader {
         if piece.len() as u64 > MAX_REPORT_LEN.saturating_sub(self.length) {
             return self.fail(LogError::TooLong);
         }
-        for b in piece {
-            match self.take(alloc, *b) {
-                Ok(()) => {}
-                Err(e) => return Err(e),
-            }
-        }
-        Ok(())
+        self.take(alloc, piece)
     }
 
     /// The report that was read. It takes no memory.

@@ -1,18 +1,16 @@
-//! Reading a report byte by byte.
+//! Reading a report spelling by spelling.
 
-ghost use Rattle.std.specs.Prelude.{◌≡◌, [], ◌∷◌, ◌++◌, reverse, true, false, IfOk};
-ghost use Rattle.loft_spelling.specs.Reading.{step, enter, ended};
-ghost use Rattle.loft_spelling.specs.Parts.{parts_begun, parts_next, script, takes};
-ghost use Rattle.loft_shape.specs.Sets.{set_of};
+ghost use Rattle.std.specs.Prelude.{◌≡◌, ◌+◌, ◌<◌, ◌≤◌, [], ◌++◌, length, reverse, true, IfOk, IfSome};
+ghost use Rattle.loft_spelling.specs.Reading.{ended};
+ghost use Rattle.loft_spelling.specs.Parts.{script, takes};
 ghost use Rattle.loft_shape.specs.Grammar.{start};
-ghost use Rattle.loft_shape.specs.Told.{Told, nothing_told};
+ghost use Rattle.loft_shape.specs.Told.{nothing_told};
 ghost use Rattle.loft_shape.specs.Report.{grammar};
-ghost use Rattle.loft_told.specs.Drafts.{told_of};
-ghost use Rattle.loft_reader.specs.Machine.{machine_of, Stepped, IsBottomed, Closes, may_end};
+ghost use Rattle.loft_reader.specs.Machine.{machine_of, IsBegun, Spells, Within, Leaves, IsOn, IsRead, IsBottomed, Closes, may_end};
 
 use loft_after::PartStack;
 use loft_base::{NoMemory, Room, Sequence};
-use loft_sets::{begins_spelling, is_spelling};
+use loft_sets::{is_spelling, taken};
 use loft_shape::Part;
 use loft_told::Draft;
 use std::alloc::Global;
@@ -28,29 +26,25 @@ pub struct Machine {
     draft: Draft,
 }
 
-/// Takes the byte if a spelling of the part goes on with it.
-fn goes_on(room: &mut Room, p: Part, word: &mut Sequence<u8>, b: u8) -> bool
-    ensures before { room.new.is_whole ≡ true → room.old.is_whole ≡ true }
-    ensures test { room.new.is_whole ≡ true → result ≡ (set_of p).begun (word.old ++ b ∷ []) }
-    ensures taken { room.new.is_whole ≡ true → result ≡ true → word.new ≡ word.old ++ b ∷ [] }
-    ensures refused { room.new.is_whole ≡ true → result ≡ false → word.new ≡ word.old }
-{
-    let n = word.len();
-    room.push(word, b);
-    if begins_spelling(p, word.as_slice()) {
-        return true;
-    }
-    word.truncate(n);
-    false
+/// What came of reading a spelling.
+#[derive(Clone, Copy)]
+pub enum Spelled {
+    /// It is whole, and further ones come after so many bytes.
+    Whole(usize),
+    /// All bytes were taken, and it may go on.
+    Open,
+    /// The text stops after so many bytes.
+    Stops(usize),
 }
 
-/// The bytes begin a spelling of the next part, which is the last of these.
-fn begins(parts: &[Part], word: &[u8]) -> bool
-    ensures { (told : Told) → result ≡ parts_begun grammar (reverse parts.now) told word.now }
+fn extend(room: &mut Room, word: &mut Sequence<u8>, bytes: &[u8])
+    ensures before { room.new.is_whole ≡ true → room.old.is_whole ≡ true }
+    ensures text { room.new.is_whole ≡ true → word.new ≡ word.old ++ bytes.now }
+    ensures few { length word.new ≤ length word.old + length bytes.now }
 {
-    match parts {
-        [] => false,
-        [.., p] => begins_spelling(*p, word),
+    match word.extend_from_slice(bytes) {
+        Ok(()) => {}
+        Err(_) => room.is_whole = false,
     }
 }
 
@@ -79,46 +73,93 @@ impl Machine {
         })
     }
 
-    /// Goes on behind a spelling of the part `p` with the byte that comes after it; false if nothing that
-    /// may come there begins with it.
-    fn turn(&mut self, room: &mut Room, p: Part, b: u8) -> bool
-        requires { (set_of p).whole self.old.word ≡ true }
+    /// Reads a spelling of which nothing was taken yet.
+    fn spell_new(&mut self, room: &mut Room, bytes: &[u8]) -> Spelled
+        requires some { 0 < length bytes.now }
+        requires between { self.old.word ≡ [] }
         ensures before { room.new.is_whole ≡ true → room.old.is_whole ≡ true }
-        ensures entered { room.new.is_whole ≡ true → Stepped result (enter (script grammar) (takes grammar) (parts_next grammar (p ∷ self.old.parts) (told_of self.old.draft) self.old.word) b) (machine_of self.new) }
+        ensures spelled { room.new.is_whole ≡ true → Spells result bytes.now (machine_of self.old) (machine_of self.new) }
+        ensures within { Within result bytes.now }
+        ensures left { Leaves result self.new }
+        ensures on { IsOn result }
     {
+        let Some(p) = self.parts.pop() else {
+            return Spelled::Stops(0);
+        };
+        let n = taken(p, bytes);
+        if n == bytes.len() {
+            self.parts.put(room, &[p]);
+            extend(room, &mut self.word, bytes);
+            return Spelled::Open;
+        }
+        let word = &bytes[..n];
+        if !is_spelling(p, word) {
+            return Spelled::Stops(n);
+        }
+        self.parts.put_after(room, p, word);
+        self.draft.note(room, p, word);
+        Spelled::Whole(n)
+    }
+
+    /// Goes on reading a spelling of which some bytes were taken.
+    fn spell_on(&mut self, room: &mut Room, bytes: &[u8]) -> Spelled
+        requires some { 0 < length bytes.now }
+        ensures before { room.new.is_whole ≡ true → room.old.is_whole ≡ true }
+        ensures spelled { room.new.is_whole ≡ true → IsBegun (machine_of self.old) → Spells result bytes.now (machine_of self.old) (machine_of self.new) }
+        ensures within { Within result bytes.now }
+        ensures left { Leaves result self.new }
+    {
+        let Some(p) = self.parts.pop() else {
+            return Spelled::Stops(0);
+        };
+        let before = self.word.len();
+        extend(room, &mut self.word, bytes);
+        let n = taken(p, self.word.as_slice());
+        if n == self.word.len() {
+            self.parts.put(room, &[p]);
+            return Spelled::Open;
+        }
+        self.word.truncate(n);
+        let more = n.saturating_sub(before);
+        if !is_spelling(p, self.word.as_slice()) {
+            return Spelled::Stops(more);
+        }
         self.parts.put_after(room, p, self.word.as_slice());
         self.draft.note(room, p, self.word.as_slice());
         self.word.clear();
-        room.push(&mut self.word, b);
-        begins(self.parts.as_slice(), self.word.as_slice())
+        Spelled::Whole(more)
     }
 
-    fn step(&mut self, room: &mut Room, b: u8) -> bool
+    /// Reads a piece; answers after how many of its bytes the text stops, if it does.
+    fn read_all(&mut self, room: &mut Room, piece: &[u8]) -> Option<usize>
         ensures before { room.new.is_whole ≡ true → room.old.is_whole ≡ true }
-        ensures stepped { room.new.is_whole ≡ true → Stepped result (step (script grammar) (takes grammar) (machine_of self.old) b) (machine_of self.new) }
+        ensures read { room.new.is_whole ≡ true → IsBegun (machine_of self.old) → IsRead result piece.now (machine_of self.old) (machine_of self.new) }
+        ensures within { IfSome result (λ n. n ≤ length piece.now) }
     {
-        match self.parts.pop() {
-            None => false,
-            Some(p) => {
-                if goes_on(room, p, &mut self.word, b) {
-                    self.parts.put(room, &[p]);
-                    return true;
-                }
-                if !is_spelling(p, self.word.as_slice()) {
-                    return false;
-                }
-                self.turn(room, p, b)
+        let mut at = 0;
+        while at < piece.len() {
+            let spelled = if self.word.is_empty() {
+                self.spell_new(room, &piece[at..])
+            } else {
+                self.spell_on(room, &piece[at..])
+            };
+            match spelled {
+                Spelled::Whole(n) => at += n,
+                Spelled::Open => return None,
+                Spelled::Stops(n) => return Some(at + n),
             }
         }
+        None
     }
 
-    /// Takes a byte; false if the text stops before it.
-    pub fn push(&mut self, alloc: Global, b: u8) -> Result<bool, NoMemory>
-        ensures { IfOk result (λ taken. Stepped taken (step (script grammar) (takes grammar) (machine_of self.old) b) (machine_of self.new)) }
+    /// Reads a piece; answers after how many of its bytes the text stops, if it does.
+    pub fn read(&mut self, alloc: Global, piece: &[u8]) -> Result<Option<usize>, NoMemory>
+        ensures read { IfOk result (λ stop. IsBegun (machine_of self.old) → IsRead stop piece.now (machine_of self.old) (machine_of self.new)) }
+        ensures within { IfOk result (λ stop. IfSome stop (λ n. n ≤ length piece.now)) }
     {
         let mut room = Room::new(alloc);
-        let taken = self.step(&mut room, b);
-        room.done(taken)
+        let stop = self.read_all(&mut room, piece);
+        room.done(stop)
     }
 
     /// The report, if the text may end here.

@@ -7,8 +7,10 @@ mod menu;
 mod name;
 mod number;
 mod set;
+mod taking;
 mod word;
 
 pub use number::value_of;
 pub use set::{begins_spelling, is_spelling};
+pub use taking::taken;
 pub use word::{spelling_of, word_of};

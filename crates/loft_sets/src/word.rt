@@ -1,63 +1,50 @@
 //! The words of reports and their spellings.
 
-ghost use Rattle.std.specs.Prelude.{◌≡◌};
-ghost use Rattle.std.specs.List.{find};
+ghost use Rattle.std.specs.Prelude.{◌≡◌, ◌==◌};
+ghost use Rattle.std.specs.List.{find, filter};
 ghost use Rattle.std.specs.Str.{bytes_eq};
-ghost use Rattle.loft_shape.specs.Word.{spelling, word_of};
+ghost use Rattle.loft_lex.specs.Bytes.{begins};
+ghost use Rattle.loft_shape.specs.Word.{spelling, all_words, word_of};
 
 use loft_shape::Word;
 
-/// Every word.
-const ALL: [Word; 48] = [
-    Word::Report,
-    Word::Instants,
-    Word::Budget,
-    Word::Block,
-    Word::Workers,
-    Word::History,
-    Word::Take,
-    Word::Give,
-    Word::Pick,
-    Word::Post,
-    Word::Client,
-    Word::Scheduler,
-    Word::Instant,
-    Word::In,
-    Word::Void,
-    Word::Full,
-    Word::Print,
-    Word::Gen,
-    Word::Out,
-    Word::End,
-    Word::Leave,
-    Word::At,
-    Word::Shared,
-    Word::State,
-    Word::Linked,
-    Word::Suspended,
-    Word::Left,
-    Word::Create,
-    Word::Arrive,
-    Word::Stop,
-    Word::Suspend,
-    Word::Resume,
-    Word::Broadcast,
-    Word::Ended,
-    Word::New,
-    Word::Coop,
-    Word::Await,
-    Word::Select,
-    Word::Next,
-    Word::Join,
-    Word::Halt,
-    Word::Done,
-    Word::Stopped,
-    Word::Div,
-    Word::Deep,
-    Word::Over,
-    Word::Flood,
-    Word::Unlinked,
-];
+/// The words that begin with this byte.
+fn beginning_with(first: u8) -> &'static [Word]
+    ensures { result.now ≡ filter (λ one. begins (λ b. b == first) (spelling one)) all_words }
+{
+    match first {
+        b'a' => &[Word::At, Word::Arrive, Word::Await],
+        b'b' => &[Word::Budget, Word::Block, Word::Broadcast],
+        b'c' => &[Word::Client, Word::Create, Word::Coop],
+        b'd' => &[Word::Done, Word::Div, Word::Deep],
+        b'e' => &[Word::End, Word::Ended],
+        b'f' => &[Word::Full, Word::Flood],
+        b'g' => &[Word::Give, Word::Gen],
+        b'h' => &[Word::History, Word::Halt],
+        b'i' => &[Word::Instants, Word::Instant, Word::In],
+        b'j' => &[Word::Join],
+        b'l' => &[Word::Report, Word::Leave, Word::Linked, Word::Left],
+        b'n' => &[Word::New, Word::Next],
+        b'o' => &[Word::Out, Word::Over],
+        b'p' => &[Word::Pick, Word::Post, Word::Print],
+        b'r' => &[Word::Resume],
+        b's' => &[
+            Word::Scheduler,
+            Word::Shared,
+            Word::State,
+            Word::Suspended,
+            Word::Stop,
+            Word::Suspend,
+            Word::Select,
+            Word::Stopped,
+        ],
+        b't' => &[Word::Take],
+        b'u' => &[Word::Unlinked],
+        b'v' => &[Word::Void],
+        b'w' => &[Word::Workers],
+        _ => &[],
+    }
+}
 
 /// The first of the words that the bytes spell.
 fn find_spelled(words: &[Word], bytes: &[u8]) -> Option<Word>
@@ -67,11 +54,13 @@ fn find_spelled(words: &[Word], bytes: &[u8]) -> Option<Word>
 }
 
 /// The word that the bytes spell, if they spell one.
-#[tactic(auto, unfolding(loft_shape::specs::Word::word_of))]
 pub fn word_of(bytes: &[u8]) -> Option<Word>
     ensures { result ≡ word_of bytes.now }
 {
-    find_spelled(&ALL, bytes)
+    match bytes {
+        [] => None,
+        [first, ..] => find_spelled(beginning_with(*first), bytes),
+    }
 }
 
 /// The bytes that spell the word.

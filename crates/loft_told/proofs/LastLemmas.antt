@@ -1,5 +1,6 @@
 -- The last element of a list that was taken, or wasn't there.
-use Rattle.std.proofs.Common.{◌≡◌, List, [], ◌∷◌, ◌++◌, refl, sym, ap, ◌∙◌}
+use Rattle.std.proofs.Common.{◌≡◌, ℕ, suc, ◌-◌, ◌<◌, List, [], ◌∷◌, ◌++◌, length, slice_get, slice_set, Some, refl, sym, ap, ◌∙◌, arith}
+use Rattle.std.proofs.lemmas.List.{nil_from_length}
 use Rattle.loft_shape.specs.Last.{on_last}
 use Rattle.loft_shape.specs.Told.{Report, in_last_block}
 use Rattle.loft_shape.specs.declared.raw.RawBlock.{RawBlock}
@@ -11,6 +12,32 @@ none_on_last f = refl
 
 pub on_last_end : {A : Type 0} (f : A → A) (xs : List A) (x : A) → on_last f (xs ++ x ∷ []) ≡ xs ++ f x ∷ []
 on_last_end = on_last_push
+
+-- the last element is set
+pub set_last : {A : Type 0} (f : A → A) (xs : List A) (x : A) → slice_get xs (length xs - 1) ≡ Some x → slice_set xs (length xs - 1) (f x) ≡ on_last f xs
+unfolding on_last
+set_last f [] x e = absurd cc
+set_last f (y ∷ []) x e = let same : y ≡ x = cc in rw same refl
+set_last f (y ∷ z ∷ ys) x e =
+    let i : length (y ∷ z ∷ ys) - 1 ≡ suc (length (z ∷ ys) - 1) = omega arith in
+    let there : slice_get (z ∷ ys) (length (z ∷ ys) - 1) ≡ Some x = rw i at e in
+    rw i (ap (λ l. y ∷ l) (set_last f (z ∷ ys) x there))
+
+pub last_set : {A : Type 0} (f : A → A) (xs : List A) (count : ℕ) (x y : A) → count ≡ length xs → slice_get xs (count - 1) ≡ Some x → y ≡ f x → slice_set xs (count - 1) y ≡ on_last f xs
+last_set f xs count x y all there is =
+    let e : slice_get xs (length xs - 1) ≡ Some x = rw all at there in
+    rw (all, is) (set_last f xs x e)
+
+-- there is none
+pub none_set : {A : Type 0} (f : A → A) (xs : List A) (count : ℕ) → count ≡ length xs → (0 < count → ⊥) → xs ≡ on_last f xs
+none_set f xs count all none = let e : xs ≡ [] = nil_from_length xs (omega (arith, all, none)) in rw e (sym (none_on_last f))
+
+-- the same of the blocks of a report
+pub block_set : (f : RawBlock → RawBlock) (r : Report) (count : ℕ) (x y : RawBlock) → count ≡ length r.blocks → slice_get r.blocks (count - 1) ≡ Some x → y ≡ f x → record r { blocks = slice_set r.blocks (count - 1) y } ≡ in_last_block f r
+block_set f r count x y all there is = ap (λ (blocks : List RawBlock). record r { blocks = blocks }) (last_set f r.blocks count x y all there is)
+
+pub no_block_set : (f : RawBlock → RawBlock) (r : Report) (count : ℕ) → count ≡ length r.blocks → (0 < count → ⊥) → r ≡ in_last_block f r
+no_block_set f r count all none = ap (λ (blocks : List RawBlock). record r { blocks = blocks }) (none_set f r.blocks count all none)
 
 -- what is left of a list from which nothing could be taken
 pub nothing_taken : {A : Type 0} (f : A → A) (old new : List A) → old ≡ new ++ [] → old ≡ [] → new ≡ on_last f old

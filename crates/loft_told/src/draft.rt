@@ -2,6 +2,7 @@
 
 ghost use Rattle.std.specs.Prelude.{◌≡◌, [], ◌∷◌, ◌++◌, true};
 ghost use Rattle.loft_spelling.specs.Sets.{value_of};
+ghost use Rattle.loft_shape.specs.Last.{on_last};
 ghost use Rattle.loft_shape.specs.Sets.{set_of, number_set};
 ghost use Rattle.loft_shape.specs.Told.{nothing_told, in_last_block, chosen, kept, keeps, enters, number_told, name_told, tells, note};
 ghost use Rattle.loft_shape.specs.declared.part.Section.TheVariants.{Instant, Final};
@@ -29,6 +30,22 @@ pub struct Draft {
     pub section: Section,
 }
 
+/// Appends bytes to the last instant of the block, if it has one.
+fn append_to_instant(room: &mut Room, block: &mut RawBlock, bytes: &[u8])
+    ensures before { room.new.is_whole ≡ true → room.old.is_whole ≡ true }
+    ensures block { room.new.is_whole ≡ true → block.new ≡ record block.old { instants = on_last (λ lines. lines ++ bytes.now) block.old.instants } }
+{
+    append_to_last(room, &mut block.instants, bytes);
+}
+
+/// Appends bytes to the final state of the block.
+fn append_to_final(room: &mut Room, block: &mut RawBlock, bytes: &[u8])
+    ensures before { room.new.is_whole ≡ true → room.old.is_whole ≡ true }
+    ensures block { room.new.is_whole ≡ true → block.new ≡ record block.old { last = block.old.last ++ bytes.now } }
+{
+    append(room, &mut block.last, bytes);
+}
+
 impl Draft {
     /// Nothing was told yet.
     pub fn new(alloc: Global) -> Draft
@@ -51,34 +68,26 @@ impl Draft {
     }
 
     /// Keeps bytes in the last instant of the last block.
-    #[tactic(auto, using(crate::proofs::LastLemmas::none_on_last, crate::proofs::LastLemmas::on_last_end))]
     fn keep_in_instant(&mut self, room: &mut Room, word: &[u8])
         ensures before { room.new.is_whole ≡ true → room.old.is_whole ≡ true }
         ensures report { room.new.is_whole ≡ true → report_of self.new ≡ kept Instant word.now (report_of self.old) }
         ensures section { self.new.section ≡ self.old.section }
     {
-        match self.blocks.pop() {
-            None => {}
-            Some(mut block) => {
-                append_to_last(room, &mut block.instants, word);
-                room.push(&mut self.blocks, block);
-            }
+        let count = self.blocks.len();
+        if count > 0 {
+            append_to_instant(room, &mut self.blocks[count - 1], word);
         }
     }
 
     /// Keeps bytes in the final state of the last block.
-    #[tactic(auto, using(crate::proofs::LastLemmas::none_on_last, crate::proofs::LastLemmas::on_last_end))]
     fn keep_in_final(&mut self, room: &mut Room, word: &[u8])
         ensures before { room.new.is_whole ≡ true → room.old.is_whole ≡ true }
         ensures report { room.new.is_whole ≡ true → report_of self.new ≡ kept Final word.now (report_of self.old) }
         ensures section { self.new.section ≡ self.old.section }
     {
-        match self.blocks.pop() {
-            None => {}
-            Some(mut block) => {
-                append(room, &mut block.last, word);
-                room.push(&mut self.blocks, block);
-            }
+        let count = self.blocks.len();
+        if count > 0 {
+            append_to_final(room, &mut self.blocks[count - 1], word);
         }
     }
 

@@ -17,16 +17,12 @@ pub fn append(room: &mut Room, text: &mut Sequence<u8>, bytes: &[u8])
 }
 
 /// Appends bytes to the last of several texts, if there is one.
-#[tactic(auto, using(crate::proofs::LastLemmas::none_on_last, crate::proofs::LastLemmas::on_last_end))]
 pub fn append_to_last(room: &mut Room, texts: &mut Sequence<Sequence<u8>>, bytes: &[u8])
     ensures before { room.new.is_whole ≡ true → room.old.is_whole ≡ true }
     ensures texts { room.new.is_whole ≡ true → texts.new ≡ on_last (λ text. text ++ bytes.now) texts.old }
 {
-    match texts.pop() {
-        None => {}
-        Some(mut text) => {
-            append(room, &mut text, bytes);
-            room.push(texts, text);
-        }
+    let count = texts.len();
+    if count > 0 {
+        append(room, &mut texts[count - 1], bytes);
     }
 }

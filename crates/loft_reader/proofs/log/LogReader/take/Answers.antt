@@ -1,62 +1,50 @@
-use Rattle.std.proofs.Common.{◌++◌, [], ◌∷◌, arith}
+use Rattle.std.proofs.Common.{rules, ◌≤◌, ◌++◌, length, take, length-take, arith}
 use Rattle.std.proofs.Math.Logic.{∥∥₁_map}
-use Rattle.loft_reader.specs.Machine.{machine_of}
-use Rattle.loft_reader.proofs.Pieces.{read_more, read_line, read_size}
+use Rattle.loft_reader.proofs.Pieces.{feeds_least, read_more, read_line}
 use Rattle.loft_reader.proofs.log.LogReader.take.Goals as goal
 
-pub invariant_of-self : goal.invariant_of-self
-invariant_of-self c = record { read = ∣ ([], tt) ∣₁ }
-
-pub invariant_of-self-then-b-eq10 : goal.invariant_of-self-then-b-eq10
-invariant_of-self-then-b-eq10 c =
+pub invariant_of-self-in-Ok-Some : goal.invariant_of-self-in-Ok-Some
+invariant_of-self-in-Ok-Some c =
     let s = c.args.self.now in
+    let piece = c.args.piece.now in
+    let n = c.in-Ok-Some.n in
+    let within : n ≤ length piece = search rules in
     record {
-      read = ∥∥₁_map s.read (λ p.
-          let size = read_size s.error s.machine s.length s.feeds p.0 c.requires.open_still p.1 in (
-            p.0 ++ c.args.b ∷ [],
-            read_more s.error s.machine c.push.new.self s.length s.feeds c.saturating_add-self.result c.saturating_add-self-then-b-eq10.result p.0 c.args.b c.in-Ok-true.field-0 c.requires.open_still (omega (arith, size, c.requires.room)) p.1 c.in-Ok-true.ensures c.in-Ok-true.field-0-test
-                (λ small. omega (arith, small, c.saturating_add-self.ensures)) (λ small. grind (arith, small, c.if-b-eq10.true, c.saturating_add-self-then-b-eq10.ensures)),
-          ));
+      read = ∥∥₁_map s.read (λ p. (
+        p.0 ++ piece,
+        read_line s.error s.machine c.read.new.self s.length s.feeds c.saturating_add-line.result c.saturating_add-byte.result n p.0 piece c.in-Ok-Some.field-0 c.requires.open_still c.in-Ok-Some.field-0-is p.1 c.in-Ok-Some.ensures.read
+            (λ few. omega (arith, few, c.saturating_add-line.ensures, c.saturating_add-feeds_before.ensures, c.feeds.ensures, feeds_least (take n piece), length-take n piece, c.requires.room))
+            (λ few. omega (arith, few, c.saturating_add-byte.ensures, within, c.requires.room)),
+      ));
     }
 
-pub returns-then-b-eq10-clause-read : goal.returns-then-b-eq10-clause-read
-returns-then-b-eq10-clause-read c = λ text less h.
+pub returns-in-Ok-Some-clause-read : goal.returns-in-Ok-Some-clause-read
+returns-in-Ok-Some-clause-read c = λ text h.
     let s = c.args.self.now in
-    read_more s.error s.machine c.push.new.self s.length s.feeds c.saturating_add-self.result c.saturating_add-self-then-b-eq10.result text c.args.b c.in-Ok-true.field-0 c.requires.open_still less h c.in-Ok-true.ensures c.in-Ok-true.field-0-test
-    (λ small. omega (arith, small, c.saturating_add-self.ensures)) (λ small. grind (arith, small, c.if-b-eq10.true, c.saturating_add-self-then-b-eq10.ensures))
+    let piece = c.args.piece.now in
+    let n = c.in-Ok-Some.n in
+    let within : n ≤ length piece = search rules in
+    read_line s.error s.machine c.read.new.self s.length s.feeds c.saturating_add-line.result c.saturating_add-byte.result n text piece c.in-Ok-Some.field-0 c.requires.open_still c.in-Ok-Some.field-0-is h c.in-Ok-Some.ensures.read
+    (λ few. omega (arith, few, c.saturating_add-line.ensures, c.saturating_add-feeds_before.ensures, c.feeds.ensures, feeds_least (take n piece), length-take n piece, c.requires.room))
+    (λ few. omega (arith, few, c.saturating_add-byte.ensures, within, c.requires.room))
 
-pub invariant_of-self-else-b-eq10 : goal.invariant_of-self-else-b-eq10
-invariant_of-self-else-b-eq10 c =
+pub invariant_of-self-in-Ok-None : goal.invariant_of-self-in-Ok-None
+invariant_of-self-in-Ok-None c =
     let s = c.args.self.now in
+    let piece = c.args.piece.now in
     record {
-      read = ∥∥₁_map s.read (λ p.
-          let size = read_size s.error s.machine s.length s.feeds p.0 c.requires.open_still p.1 in (
-            p.0 ++ c.args.b ∷ [],
-            read_more s.error s.machine c.push.new.self s.length s.feeds c.saturating_add-self.result s.feeds p.0 c.args.b c.in-Ok-true.field-0 c.requires.open_still (omega (arith, size, c.requires.room)) p.1 c.in-Ok-true.ensures c.in-Ok-true.field-0-test
-                (λ small. omega (arith, small, c.saturating_add-self.ensures)) (λ small. grind (arith, small, c.if-b-eq10.false)),
-          ));
+      read = ∥∥₁_map s.read (λ p. (
+        p.0 ++ piece,
+        read_more s.error s.machine c.read.new.self s.length s.feeds c.saturating_add-self.result c.saturating_add-self-in-Ok-None.result p.0 piece c.in-Ok-None.field-0 c.requires.open_still c.in-Ok-None.field-0-is c.requires.room p.1 c.in-Ok-None.ensures.read
+            (omega (arith, c.saturating_add-self.ensures, c.requires.room))
+            (λ few. omega (arith, few, c.saturating_add-self-in-Ok-None.ensures, c.feeds-in-Ok-None.ensures, feeds_least piece, c.requires.room)),
+      ));
     }
 
-pub returns-else-b-eq10-clause-read : goal.returns-else-b-eq10-clause-read
-returns-else-b-eq10-clause-read c = λ text less h.
+pub returns-in-Ok-None-clause-read : goal.returns-in-Ok-None-clause-read
+returns-in-Ok-None-clause-read c = λ text h.
     let s = c.args.self.now in
-    read_more s.error s.machine c.push.new.self s.length s.feeds c.saturating_add-self.result s.feeds text c.args.b c.in-Ok-true.field-0 c.requires.open_still less h c.in-Ok-true.ensures c.in-Ok-true.field-0-test
-    (λ small. omega (arith, small, c.saturating_add-self.ensures)) (λ small. grind (arith, small, c.if-b-eq10.false))
-
-pub invariant_of-self-in-Ok-false : goal.invariant_of-self-in-Ok-false
-invariant_of-self-in-Ok-false c =
-    let s = c.args.self.now in
-    record {
-      read = ∥∥₁_map s.read (λ p.
-          let size = read_size s.error s.machine s.length s.feeds p.0 c.requires.open_still p.1 in (
-            p.0 ++ c.args.b ∷ [],
-            read_line s.error s.machine (machine_of c.push.new.self) s.length s.feeds c.saturating_add.result p.0 c.args.b c.in-Ok-false.field-0 c.requires.open_still (omega (arith, size, c.requires.room)) p.1 c.in-Ok-false.ensures c.in-Ok-false.field-0-test
-                (λ small. omega (arith, small, c.saturating_add.ensures)),
-          ));
-    }
-
-pub returns-in-Ok-false-clause-read : goal.returns-in-Ok-false-clause-read
-returns-in-Ok-false-clause-read c = λ text less h.
-    let s = c.args.self.now in
-    read_line s.error s.machine (machine_of c.push.new.self) s.length s.feeds c.saturating_add.result text c.args.b c.in-Ok-false.field-0 c.requires.open_still less h c.in-Ok-false.ensures c.in-Ok-false.field-0-test
-    (λ small. omega (arith, small, c.saturating_add.ensures))
+    let piece = c.args.piece.now in
+    read_more s.error s.machine c.read.new.self s.length s.feeds c.saturating_add-self.result c.saturating_add-self-in-Ok-None.result text piece c.in-Ok-None.field-0 c.requires.open_still c.in-Ok-None.field-0-is c.requires.room h c.in-Ok-None.ensures.read
+    (omega (arith, c.saturating_add-self.ensures, c.requires.room))
+    (λ few. omega (arith, few, c.saturating_add-self-in-Ok-None.ensures, c.feeds-in-Ok-None.ensures, feeds_least piece, c.requires.room))
