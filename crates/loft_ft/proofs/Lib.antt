@@ -1,0 +1,3 @@
+pub mod CallLemmas
+pub mod GiveLemmas
+pub mod KeptLemmas
