@@ -1,0 +1,4 @@
+pub mod MarksRise
+pub mod WritingLemmas
+pub mod CheckLemmas
+pub mod ExpandLemmas
