@@ -1,0 +1,9 @@
+pub mod Lists
+pub mod Bytes
+pub mod Cuts
+pub mod NameLemmas
+pub mod Numbers
+pub mod Texts
+pub mod ListLemmas
+pub mod WordLemmas
+pub mod PartLemmas
