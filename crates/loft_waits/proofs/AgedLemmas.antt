@@ -1,8 +1,8 @@
 -- What entries are as waits.
-use Rattle.std.proofs.Common.{take, ◌≡◌, ℕ, zero, suc, ◌+◌, ◌-◌, ◌≤◌, ◌==◌, Bool, true, false, List, [], ◌∷◌, map, set, refl, sym, ◌∙◌, ap, arith, Option, Some, None, option_map, ne_eqb}
+use Rattle.std.proofs.Common.{take, length, get_or, ◌≡◌, ℕ, zero, suc, ◌+◌, ◌-◌, ◌<◌, ◌≤◌, ◌==◌, Bool, true, false, List, [], ◌∷◌, map, set, refl, sym, ◌∙◌, ap, subst, arith, Option, Some, None, option_map, ne_eqb}
 use Rattle.std.specs.Prelude.{if◌then◌else◌, ℤ, pos, negsuc}
 use Rattle.std.specs.List.{AllByRecursion, take-map}
-use Rattle.std.proofs.lemmas.List.{map-set}
+use Rattle.std.proofs.lemmas.List.{map-set, length-map}
 use Rattle.std.proofs.lemmas.List.Elements.{recursion_from_All}
 use Rattle.loft_base.specs.declared.ids.EventId.{EventId}
 use Rattle.loft_orders.specs.declared.thread.Wait.{Wait}
@@ -87,3 +87,24 @@ waits_leave clock slots p = waits_set clock slots p None
 
 pub waits_take : (clock n : ℕ) (slots : List (Option Entry)) → waits_of clock (take n slots) ≡ take n (waits_of clock slots)
 waits_take clock n slots = sym (take-map (option_map (wait_now clock)) n slots)
+
+pub length_waits : (clock : ℕ) (slots : List (Option Entry)) → length (waits_of clock slots) ≡ length slots
+length_waits clock slots = length-map slots (option_map (wait_now clock))
+
+-- the wait of the entry at a position
+there_is : (clock : ℕ) (slots : List (Option Entry)) (p : ℕ) (e d : Option Entry) → p < length slots → e ≡ get_or slots p d → option_map (wait_now clock) e ≡ get_or (waits_of clock slots) p None
+there_is clock [] p e d h is = absurd (omega arith)
+there_is clock (x ∷ slots) zero e d h is = ap (option_map (wait_now clock)) is
+there_is clock (x ∷ slots) (suc p) e d h is = there_is clock slots p e d (omega arith) is
+
+pub wait_there : (clock : ℕ) (slots : List (Option Entry)) (p : ℕ) (e was : Option Entry) → p < length slots → e ≡ was → was ≡ get_or slots p was → option_map (wait_now clock) e ≡ get_or (waits_of clock slots) p None
+wait_there clock slots p e was h same is = there_is clock slots p e was h (same ∙ is)
+
+before_at : (clock : ℕ) (slots : List (Option Entry)) (p : ℕ) (d : Option Entry) → AllByRecursion (IsEntryBefore clock) slots → p < length slots → IsEntryBefore clock (get_or slots p d)
+before_at clock [] p d all h = absurd (omega arith)
+before_at clock (x ∷ slots) zero d all h = all.0
+before_at clock (x ∷ slots) (suc p) d all h = before_at clock slots p d all.1 (omega arith)
+
+pub before_there : (clock : ℕ) (slots : List (Option Entry)) (p : ℕ) (e was : Option Entry) → IsBefore clock slots → p < length slots → e ≡ was → was ≡ get_or slots p was → IsEntryBefore clock e
+before_there clock slots p e was all h same is =
+    subst (IsEntryBefore clock) (sym (same ∙ is)) (before_at clock slots p was (recursion_from_All (IsEntryBefore clock) slots all) h)

@@ -6,7 +6,7 @@ use Rattle.std.specs.List.{list_any}
 use Rattle.std.proofs.lemmas.Bool.{ltb-true, ltb-false}
 use mathlib.Core.Logic.{dite}
 use native.Mathlib.Decide.{ℕ_discrete}
-use Rattle.std.specs.BTreeSet.{BTreeSet}
+use Rattle.loft_waits.specs.declared.places.Places.{Places}
 use Rattle.loft_base.specs.declared.ids.EventId.{EventId}
 use Rattle.loft_base.specs.declared.ids.ThreadId.{ThreadId}
 use Rattle.loft_orders.specs.declared.thread.Wait.{Wait}
@@ -15,7 +15,7 @@ use Rattle.loft_sense.specs.CanGo.{is_any_counted, ran_out, is_index, is_known, 
 use Rattle.loft_sense.specs.Instant.{lowered, closed_wait}
 use Rattle.loft_waits.specs.declared.key.Key.TheVariants.{Close}
 use Rattle.loft_waits.specs.Told.{Counts, count_in, no_counts, is_ready}
-use Rattle.loft_waits.specs.Places.{Place, names_event, names_value, names_thread, number_of, ends_in, is_listed, IsListed}
+use Rattle.loft_waits.specs.Places.{names_event, names_value, names_thread, number_of, ends_in, is_listed, IsListed}
 use Rattle.loft_waits.proofs.KeyLemmas.{known_more}
 
 -- ---- an event
@@ -225,7 +225,7 @@ closed_later n (Some (Join thread left)) h = one_later left n h
 closed_later n (Some Halt) h = absurd cc
 
 -- who is listed is listed after the close
-pub closed_listed : (places : BTreeSet Place) (clock i : ℕ) (w : Option Wait) → IsListed places clock i w → IsListed places (clock + 1) i (option_map closed_wait w)
+pub closed_listed : (places : Places) (clock i : ℕ) (w : Option Wait) → IsListed places clock i w → IsListed places (clock + 1) i (option_map closed_wait w)
 closed_listed places clock i w s = record {
   events = λ e h. s.events e (sym (closed_events e w) ∙ h);
   values = λ e n h. absurd (refuse (names_value e n (option_map closed_wait w)) h (closed_values e n w));

@@ -6,3 +6,4 @@ pub mod ChangeLemmas
 pub mod RangeLemmas
 pub mod WaitsLemmas
 pub mod LawLemmas
+pub mod AloneLemmas

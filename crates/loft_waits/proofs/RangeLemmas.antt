@@ -1,5 +1,5 @@
 -- Ranges of places, and the flags that a walk over one sets.
-use Rattle.std.proofs.Common.{◌≡◌, ℕ, zero, suc, ◌≤◌, Bool, true, false, List, [], ◌∷◌, ◌++◌, set, refl, sym, ◌∙◌, ap, arith, length, get_or, get_or-set_same, get_or-set_other, ◌⊎◌, inl, inr}
+use Rattle.std.proofs.Common.{◌≡◌, ℕ, zero, suc, ◌+◌, ◌<◌, ◌≤◌, ◌==◌, ne_eqb, add-one, take, Bool, true, false, List, [], ◌∷◌, ◌++◌, set, refl, sym, ◌∙◌, ap, arith, length, get_or, get_or-set_same, get_or-set_other, ◌⊎◌, inl, inr}
 use Rattle.std.specs.Prelude.{◌≢◌, ◌||◌, ◌&&◌, not, nat_lt}
 use Rattle.std.specs.List.{list_any}
 use Rattle.std.specs.declared.cmp.Ordering.{Ordering}
@@ -24,7 +24,8 @@ use Rattle.loft_waits.specs.declared.key.ThreadKey.{ThreadKey}
 use Rattle.loft_waits.specs.contracts.key.MakerKeyOrd.TheImpl as maker_ord
 use Rattle.loft_waits.specs.Ended.{thread_cmp}
 use Rattle.loft_waits.specs.Told.{Told, ready_at}
-use Rattle.loft_waits.specs.Places.{Place, key_cmp, place_cmp, is_listed, flag, SetsSome}
+use Rattle.loft_waits.specs.declared.places.Places.{Places}
+use Rattle.loft_waits.specs.Places.{Place, key_cmp, place_cmp, is_placed, flag, SetsSome, SetsPlaced, SetsListed}
 use Rattle.loft_waits.proofs.KeptLemmas.{ready_beyond}
 use Rattle.loft_waits.proofs.PlaceLemmas.{place_apart}
 
@@ -144,7 +145,7 @@ equal_from Equal h = refl
 equal_from Greater h = absurd cc
 
 -- a place that is listed is in the range
-pub found : (places : BTreeSet Place) (first last k : Key) (top i : ℕ) → is_gt (key_cmp first k) ≡ false → is_lt (key_cmp last k) ≡ false → i ≤ top → is_listed places k i ≡ true
+pub found : (places : BTreeSet Place) (first last k : Key) (top i : ℕ) → is_gt (key_cmp first k) ≡ false → is_lt (key_cmp last k) ≡ false → i ≤ top → is_placed places k i ≡ true
     → list_any (is_at (place_cmp (k, i))) (keys_between place_cmp (Included (first, 0)) (Included (last, top)) places) ≡ true
 found places first last k top i from to small h =
     any-filter_same (is_at (place_cmp (k, i))) (range_contains place_cmp (Included (first, 0)) (Included (last, top))) true
@@ -207,3 +208,75 @@ woken_done t done q now new so is many k i h =
     dite (ℕ_discrete i q.1)
     (λ same. ap (λ (l : List ℕ). get_or l i 0) is ∙ flag_at t now q.1 i same many)
     (λ apart. ap (λ (l : List ℕ). get_or l i 0) is ∙ get_or-set_other now q.1 i (flag (ready_at t q.1)) 0 apart ∙ so k i (in_front k i done q apart h))
+
+-- the flags of those are set anew whose positions were walked over
+abbrev pub SetsThese : Told → List ℕ → List ℕ → Type 0
+SetsThese t done now = (i : ℕ) → list_any (λ j. j == i) done ≡ true → get_or now i 0 ≡ flag (ready_at t i)
+
+in_front_of : (i : ℕ) (done : List ℕ) (p : ℕ) → i ≢ p → list_any (λ j. j == i) (done ++ p ∷ []) ≡ true → list_any (λ j. j == i) done ≡ true
+in_front_of i done p apart h =
+    sym (or_false (list_any (λ j. j == i) done))
+    ∙ sym (ap (λ (b : Bool). list_any (λ j. j == i) done || (b || false)) (ne_eqb p i (λ e. apart (sym e))))
+    ∙ sym (list_any-append (λ j. j == i) done (p ∷ []))
+    ∙ h
+
+pub woken_these : (t : Told) (done more : List ℕ) (p : ℕ) (now new : List ℕ) → SetsThese t done now → new ≡ set now p (flag (ready_at t p)) → length t.waits ≤ length now → more ≡ done ++ p ∷ [] → SetsThese t more new
+woken_these t done more p now new so is many next i h =
+    dite (ℕ_discrete i p)
+    (λ same. ap (λ (l : List ℕ). get_or l i 0) is ∙ flag_at t now p i same many)
+    (λ apart. ap (λ (l : List ℕ). get_or l i 0) is ∙ get_or-set_other now p i (flag (ready_at t p)) 0 apart ∙ so i (in_front_of i done p apart (ap (list_any (λ j. j == i)) (sym next) ∙ h)))
+
+-- those who were set anew stay so
+pub still_these : (t : Told) (now new : List ℕ) (i : ℕ) → SetsSome t now new → get_or now i 0 ≡ flag (ready_at t i) → get_or new i 0 ≡ flag (ready_at t i)
+still_these t now new i some h = one (some i)
+  where
+    one : (get_or new i 0 ≡ flag (ready_at t i)) ⊎ (get_or new i 0 ≡ get_or now i 0) → get_or new i 0 ≡ flag (ready_at t i)
+    one (inl e) = e
+    one (inr e) = e ∙ h
+
+pub some_twice : (t : Told) (start now new : List ℕ) → SetsSome t start now → SetsSome t now new → SetsSome t start new
+some_twice t start now new first second i = one (first i) (second i)
+  where
+    one : (get_or now i 0 ≡ flag (ready_at t i)) ⊎ (get_or now i 0 ≡ get_or start i 0) → (get_or new i 0 ≡ flag (ready_at t i)) ⊎ (get_or new i 0 ≡ get_or now i 0) → (get_or new i 0 ≡ flag (ready_at t i)) ⊎ (get_or new i 0 ≡ get_or start i 0)
+    one a (inl e) = inl e
+    one (inl h) (inr e) = inl (e ∙ h)
+    one (inr h) (inr e) = inr (e ∙ h)
+
+or_cases : (a b : Bool) → (a || b) ≡ true → (a ≡ true) ⊎ (b ≡ true)
+or_cases true b h = inl refl
+or_cases false b h = inr h
+
+and_right : (a b : Bool) → (a && b) ≡ true → b ≡ true
+and_right true b h = h
+and_right false b h = absurd cc
+
+and_left : (a b : Bool) → (a && b) ≡ true → a ≡ true
+and_left true b h = refl
+and_left false b h = absurd cc
+
+-- the set, and then the list where it is for this close
+pub close_listed : (t : Told) (places : Places) (close : ℕ) (now new : List ℕ) → SetsPlaced t places.set (Close close) now → SetsSome t now new → SetsThese t places.soon.items new → SetsListed t places (Close close) new
+close_listed t places close now new placed some these i lt h = one (or_cases (places.due == close && list_any (λ j. j == i) places.soon.items) (is_placed places.set (Close close) i) h)
+  where
+    one : ((places.due == close && list_any (λ j. j == i) places.soon.items) ≡ true) ⊎ (is_placed places.set (Close close) i ≡ true) → get_or new i 0 ≡ flag (ready_at t i)
+    one (inl e) = these i (and_right (places.due == close) (list_any (λ j. j == i) places.soon.items) e)
+    one (inr e) = still_these t now new i some (placed i lt e)
+
+pub close_placed : (t : Told) (places : Places) (close : ℕ) (new : List ℕ) → (places.due == close) ≡ false → SetsPlaced t places.set (Close close) new → SetsListed t places (Close close) new
+close_placed t places close new apart placed i lt h = one (or_cases (places.due == close && list_any (λ j. j == i) places.soon.items) (is_placed places.set (Close close) i) h)
+  where
+    refuse : (b : Bool) → b ≡ false → b ≡ true → ⊥
+    refuse true f t = cc
+    refuse false f t = cc
+
+    one : ((places.due == close && list_any (λ j. j == i) places.soon.items) ≡ true) ⊎ (is_placed places.set (Close close) i ≡ true) → get_or new i 0 ≡ flag (ready_at t i)
+    one (inl e) = absurd (refuse (places.due == close) apart (and_left (places.due == close) (list_any (λ j. j == i) places.soon.items) e))
+    one (inr e) = placed i lt e
+
+pub take_next : (xs : List ℕ) (i : ℕ) → i < length xs → take (i + 1) xs ≡ take i xs ++ get_or xs i 0 ∷ []
+take_next xs i h = ap (λ (n : ℕ). take n xs) (add-one i) ∙ one xs i h
+  where
+    one : (xs : List ℕ) (i : ℕ) → i < length xs → take (suc i) xs ≡ take i xs ++ get_or xs i 0 ∷ []
+    one [] i h = absurd (omega arith)
+    one (x ∷ xs) zero h = refl
+    one (x ∷ xs) (suc i) h = ap (λ (l : List ℕ). x ∷ l) (one xs i (omega arith))

@@ -1,9 +1,10 @@
 -- Waits as they are some closes after they were entered.
-use Rattle.std.specs.Prelude.{ℕ, ◌-◌, ◌≤◌, ◌==◌, ℤ, pos, negsuc, List, map, Option, Some, None, option_map, if◌then◌else◌}
+use Rattle.std.specs.Prelude.{◌≡◌, ℕ, ◌+◌, ◌-◌, ◌≤◌, ◌==◌, Bool, true, false, ℤ, pos, negsuc, List, [], ◌∷◌, map, Option, Some, None, option_map, if◌then◌else◌}
 use Rattle.std.specs.List.{All}
 use Rattle.loft_orders.specs.declared.thread.Wait.{Wait}
 use Rattle.loft_orders.specs.declared.thread.Wait.TheVariants.{Coop, Events, Index, Next, Join}
 use Rattle.loft_waits.specs.declared.entry.Entry.{Entry}
+use Rattle.loft_waits.specs.Told.{is_alone}
 
 -- a number left, so many closes later
 abbrev pub lowered_by : ℕ → ℤ → ℤ
@@ -32,3 +33,17 @@ IsEntryBefore clock (Some e) = e.since ≤ clock
 -- no entry is from later
 abbrev pub IsBefore : ℕ → List (Option Entry) → Type 0
 IsBefore clock slots = All (IsEntryBefore clock) slots
+
+abbrev pub one_if : Bool → ℕ
+one_if true = 1
+one_if false = 0
+
+-- how many waits end by themselves
+abbrev pub count_alone : List (Option Wait) → ℕ
+count_alone [] = 0
+count_alone (w ∷ ws) = one_if (is_alone w) + count_alone ws
+
+-- no entry is from later, and so many of the waits end by themselves
+pub record IsPlain (clock : ℕ) (slots : List (Option Entry)) (alone : ℕ) : Type 0 where
+  pub before : IsBefore clock slots
+  pub alone_is : alone ≡ count_alone (waits_of clock slots)

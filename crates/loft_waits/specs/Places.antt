@@ -1,5 +1,5 @@
 -- The lists in which waiting threads stand, and what they and the flags of those who can go have to do with the waits.
-use Rattle.std.specs.Prelude.{◌≡◌, ◌≢◌, ℕ, suc, ◌+◌, ◌<◌, ◌≤◌, ◌==◌, ◌&&◌, ◌⊎◌, ℤ, pos, Bool, true, false, List, length, slice_index_or, Option, Some, None}
+use Rattle.std.specs.Prelude.{◌≡◌, ◌≢◌, ℕ, suc, ◌+◌, ◌<◌, ◌≤◌, ◌==◌, ◌&&◌, ◌||◌, ◌⊎◌, ℤ, pos, Bool, true, false, List, length, slice_index_or, Option, Some, None}
 use Rattle.std.specs.declared.cmp.Ordering.{Ordering}
 use Rattle.std.specs.Ordering.{nat_cmp, ordering_then}
 use Rattle.std.specs.List.{list_any}
@@ -15,6 +15,7 @@ use Rattle.loft_waits.specs.declared.key.Key.TheVariants.{Event, Value, End, Clo
 use Rattle.loft_waits.specs.declared.key.MakerKey.{MakerKey}
 use Rattle.loft_waits.specs.declared.key.MakerKey.TheVariants.{Source, Sched, Client}
 use Rattle.loft_waits.specs.declared.key.ThreadKey.{ThreadKey}
+use Rattle.loft_waits.specs.declared.places.Places.{Places}
 use Rattle.loft_waits.specs.contracts.key.KeyOrd.TheImpl as key_ord
 use Rattle.loft_waits.specs.Told.{Told, wait_at, ready_at}
 
@@ -28,9 +29,18 @@ Place = Key × ℕ
 abbrev pub place_cmp : Place → Place → Ordering
 place_cmp x y = ordering_then (key_cmp x.0 y.0) (nat_cmp x.1 y.1)
 
+-- whether a position is in a set under a key
+abbrev pub is_placed : BTreeSet Place → Key → ℕ → Bool
+is_placed set key i = contains place_cmp set (key, i)
+
+-- the key is the close with this number
+abbrev pub is_close : ℕ → Key → Bool
+is_close n (Close m) = n == m
+is_close n key = false
+
 -- whether a position is listed under a key
-abbrev pub is_listed : BTreeSet Place → Key → ℕ → Bool
-is_listed places key i = contains place_cmp places (key, i)
+abbrev pub is_listed : Places → Key → ℕ → Bool
+is_listed places key i = (is_close places.due key && list_any (λ j. j == i) places.soon.items) || is_placed places.set key i
 
 -- the name of a thread, as a key
 abbrev pub maker_key : Maker → MakerKey
@@ -70,7 +80,7 @@ ends_in (Some (wait.Join thread left)) = number_of left
 ends_in w = None
 
 -- a position whose thread waits so is listed under each key that can make it go
-pub record IsListed (places : BTreeSet Place) (clock i : ℕ) (w : Option Wait) : Type 0 where
+pub record IsListed (places : Places) (clock i : ℕ) (w : Option Wait) : Type 0 where
   pub events : (e : ℕ) → names_event e w ≡ true → is_listed places (Event e) i ≡ true
   pub values : (e n : ℕ) → names_value e n w ≡ true → is_listed places (Value e n) i ≡ true
   pub ends : (t : ThreadId) → names_thread t w ≡ true → is_listed places (End (thread_key t)) i ≡ true
@@ -82,24 +92,32 @@ flag false = 0
 flag true = 1
 
 -- Each flag says whether the thread at its position can go, and whoever waits is listed. Others may be listed too.
-pub record IsKept (t : Told) (ready : List ℕ) (places : BTreeSet Place) : Type 0 where
+pub record IsKept (t : Told) (ready : List ℕ) (places : Places) : Type 0 where
   pub few : t.closes < 9223372036854775808
   pub many : length t.waits ≤ length ready
   pub flags : (i : ℕ) → slice_index_or ready i 0 ≡ flag (ready_at t i)
   pub listed : (i : ℕ) → IsListed places t.closes i (wait_at t i)
 
 -- the other positions are listed wherever they were
-abbrev pub KeepsOthers : ℕ → BTreeSet Place → BTreeSet Place → Type 0
+abbrev pub KeepsOthers : ℕ → Places → Places → Type 0
 KeepsOthers p old new = (k : Key) (i : ℕ) → i ≢ p → is_listed old k i ≡ true → is_listed new k i ≡ true
 
 -- all positions are listed wherever they were
-abbrev pub KeepsAll : BTreeSet Place → BTreeSet Place → Type 0
+abbrev pub KeepsAll : Places → Places → Type 0
 KeepsAll old new = (k : Key) (i : ℕ) → is_listed old k i ≡ true → is_listed new k i ≡ true
+
+-- all positions are listed wherever they were, but for this key
+abbrev pub KeepsBut : Key → Places → Places → Type 0
+KeepsBut but old new = (k : Key) (i : ℕ) → k ≢ but → is_listed old k i ≡ true → is_listed new k i ≡ true
 
 -- each flag is set anew or stays
 abbrev pub SetsSome : Told → List ℕ → List ℕ → Type 0
 SetsSome t old new = (i : ℕ) → (slice_index_or new i 0 ≡ flag (ready_at t i)) ⊎ (slice_index_or new i 0 ≡ slice_index_or old i 0)
 
+-- the flag of each position that is in a set under a key is set anew
+abbrev pub SetsPlaced : Told → BTreeSet Place → Key → List ℕ → Type 0
+SetsPlaced t set k new = (i : ℕ) → i < length t.waits → is_placed set k i ≡ true → slice_index_or new i 0 ≡ flag (ready_at t i)
+
 -- the flag of each position that is listed under a key is set anew
-abbrev pub SetsListed : Told → BTreeSet Place → Key → List ℕ → Type 0
+abbrev pub SetsListed : Told → Places → Key → List ℕ → Type 0
 SetsListed t places k new = (i : ℕ) → i < length t.waits → is_listed places k i ≡ true → slice_index_or new i 0 ≡ flag (ready_at t i)

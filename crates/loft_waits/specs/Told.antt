@@ -1,5 +1,5 @@
 -- What a scheduler's waiting threads are to a contract (docs/SEMANTICS.md, "Waiting lists").
-use Rattle.std.specs.Prelude.{◌≡◌, ℕ, ◌+◌, ◌<◌, ◌≤◌, Bool, true, false, List, map, length, replicate, slice_index_or, Option, Some, None, option_map, ◌⊎◌}
+use Rattle.std.specs.Prelude.{◌≡◌, ℕ, ◌+◌, ◌<◌, ◌≤◌, Bool, true, false, List, map, length, replicate, slice_index_or, Option, Some, None, option_map, is_some, ◌⊎◌}
 use Rattle.loft_base.specs.declared.ids.EventId.{EventId}
 use Rattle.loft_base.specs.declared.ids.ThreadId.{ThreadId}
 use Rattle.loft_board.specs.Board.{Board}
@@ -61,6 +61,21 @@ is_next w = false
 abbrev pub is_late : Option Wait → Bool
 is_late None = false
 is_late (Some w) = is_next w
+
+-- the wait ends by itself: at once, by its number, or as its value doesn't come
+abbrev pub ends_alone : Wait → Bool
+ends_alone wait.New = true
+ends_alone (wait.Coop left) = true
+ends_alone (wait.Events events left) = is_some left
+ends_alone (wait.Index event at) = true
+ends_alone wait.Next = true
+ends_alone (wait.Join thread left) = is_some left
+ends_alone wait.Halt = false
+
+-- somebody waits, and the wait ends by itself
+abbrev pub is_alone : Option Wait → Bool
+is_alone None = false
+is_alone (Some w) = ends_alone w
 
 -- the instant closes: each number is lowered, a value has not come, and no event is present
 abbrev pub closed : Told → Told

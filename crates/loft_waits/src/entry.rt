@@ -1,14 +1,15 @@
 //! A wait, and when it was entered.
 
-ghost use Rattle.std.specs.Prelude.{◌≡◌, ◌-◌, ◌≤◌, option_map, is_some, unwrap_or};
+ghost use Rattle.std.specs.Prelude.{◌≡◌, ◌-◌, ◌≤◌, option_map, is_some, unwrap_or, IfOk};
 ghost use Rattle.loft_sense.specs.CanGo.{is_over as is_over_with, is_any_counted, is_index as is_index_of, ran_out as ran_out_at, is_zero};
 ghost use Rattle.loft_sense.specs.WaitCodes.{number_left};
-ghost use Rattle.loft_waits.specs.Told.{count_in, is_next};
+ghost use Rattle.loft_waits.specs.Told.{count_in, is_next, ends_alone as ends_alone_of};
 ghost use Rattle.loft_waits.specs.Aged.{aged, lowered_by, wait_now};
 
 use crate::ended::Ended;
-use loft_base::EventId;
+use loft_base::{EventId, NoMemory, TryClone};
 use loft_orders::Wait;
+use std::alloc::Global;
 
 /// A wait, and how many instants had closed as it was entered.
 #[derive(Drop)]
@@ -100,7 +101,61 @@ fn is_over(wait: &Wait, age: u64, counts: &[Option<usize>], ended: &Ended) -> bo
     }
 }
 
+/// A wait as it is so many closes later.
+fn age_wait(wait: &mut Wait, age: u64)
+    ensures { wait.new ≡ aged age wait.old }
+{
+    match wait {
+        Wait::New => {}
+        Wait::Coop(left) => *left = lowered(*left, age),
+        Wait::Events { events: _, left } => *left = lowered_if(*left, age),
+        Wait::Index { event: _, at: _ } => {
+            if age != 0 {
+                *wait = Wait::Next;
+            }
+        }
+        Wait::Next => {}
+        Wait::Join { thread: _, left } => *left = lowered_if(*left, age),
+        Wait::Halt => {}
+    }
+}
+
+/// Whether a wait ends by itself.
+pub(crate) fn ends_alone(wait: &Wait) -> bool
+    ensures { result ≡ ends_alone_of wait.now }
+{
+    match wait {
+        Wait::New => true,
+        Wait::Coop(_) => true,
+        Wait::Events { events: _, left } => left.is_some(),
+        Wait::Index { event: _, at: _ } => true,
+        Wait::Next => true,
+        Wait::Join { thread: _, left } => left.is_some(),
+        Wait::Halt => false,
+    }
+}
+
 impl Entry {
+    /// The wait as it is, as so many instants have closed.
+    pub(crate) fn into_wait(self, clock: u64) -> Wait
+        requires { self.since ≤ clock }
+        ensures { result ≡ wait_now clock self }
+    {
+        let Entry { mut wait, since } = self;
+        age_wait(&mut wait, clock - since);
+        wait
+    }
+
+    /// A copy of the wait as it is, as so many instants have closed.
+    pub(crate) fn wait(&self, alloc: Global, clock: u64) -> Result<Wait, NoMemory>
+        requires { self.now.since ≤ clock }
+        ensures { IfOk result (λ w. w ≡ wait_now clock self.now) }
+    {
+        let mut wait = self.wait.try_clone(alloc)?;
+        age_wait(&mut wait, clock - self.since);
+        Ok(wait)
+    }
+
     /// Whether what it waits for is there, as so many instants have closed.
     pub(crate) fn is_over(&self, clock: u64, counts: &[Option<usize>], ended: &Ended) -> bool
         requires { self.now.since ≤ clock }

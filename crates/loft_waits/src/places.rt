@@ -1,26 +1,46 @@
-//! The lists of those whom the same can make go, in one ordered set.
+//! The lists of those whom the same can make go: one ordered set, and a list for the next close.
 
 ghost use Rattle.std.specs.Prelude.{◌≡◌, ◌<◌, ◌==◌, ◌+◌, ℕ, Some, true, OnOk, IfSome};
 ghost use Rattle.std.specs.List.{list_any};
 ghost use Rattle.loft_orders.specs.declared.thread.Wait.TheVariants.{Index};
 ghost use Rattle.loft_waits.specs.declared.key.Key.TheVariants.{Event, Value, End, Close};
-ghost use Rattle.loft_waits.specs.Places.{is_listed, names_value, number_of, IsListed, KeepsOthers, KeepsAll};
+ghost use Rattle.loft_waits.specs.Places.{is_listed, names_value, number_of, IsListed, KeepsOthers, KeepsAll, KeepsBut};
 
 use crate::entry::Entry;
 use crate::key::{Key, ThreadKey};
 use loft_base::{EventId, NoMemory};
 use loft_orders::Wait;
+use std::alloc::Global;
 use std::collections::BTreeSet;
 
+/// Keys, each with a position.
+pub(crate) type Set = BTreeSet<(Key, usize)>;
+
 /// Keys, each with a position whose thread the key can make go.
-pub(crate) type Places = BTreeSet<(Key, usize)>;
+#[derive(Drop)]
+pub(crate) struct Places {
+    pub(crate) set: Set,
+    /// Those that are listed under one close, in place of the set.
+    pub(crate) soon: Vec<usize>,
+    /// The number of that close.
+    pub(crate) due: u64,
+}
+
+/// No position is listed.
+pub(crate) fn no_places(alloc: Global) -> Places {
+    Places {
+        set: BTreeSet::new(alloc),
+        soon: Vec::new(alloc),
+        due: 1,
+    }
+}
 
 /// A position is listed under a key.
 fn list(places: &mut Places, key: Key, pos: usize) -> Result<(), NoMemory>
     ensures keeps { KeepsAll places.old places.new }
     ensures ok { OnOk result (is_listed places.new key pos ≡ true) }
 {
-    places.insert((key, pos))?;
+    places.set.insert((key, pos))?;
     Ok(())
 }
 
@@ -28,7 +48,29 @@ fn list(places: &mut Places, key: Key, pos: usize) -> Result<(), NoMemory>
 fn unlist(places: &mut Places, key: Key, pos: usize)
     ensures { KeepsOthers pos places.old places.new }
 {
-    places.remove(&(key, pos));
+    places.set.remove(&(key, pos));
+}
+
+/// A position is listed under a close.
+fn list_due(places: &mut Places, close: u64, pos: usize) -> Result<(), NoMemory>
+    ensures keeps { KeepsAll places.old places.new }
+    ensures ok { OnOk result (is_listed places.new (Close close) pos ≡ true) }
+{
+    if close == places.due {
+        places.soon.push(pos)?;
+        return Ok(());
+    }
+    list(places, Key::Close(close), pos)
+}
+
+/// A close has come: nobody needs to be listed under it any more.
+pub(crate) fn forget(places: &mut Places, close: u64)
+    ensures { KeepsBut (Close close) places.old places.new }
+{
+    if close == places.due {
+        places.soon.clear();
+        places.due = close.saturating_add(1);
+    }
 }
 
 /// A number, where it isn't negative.
@@ -55,7 +97,7 @@ fn list_close(
         → is_listed places.new (Close (clock + n)) pos ≡ true) }
 {
     match number(left) {
-        Some(left) => list(places, Key::Close(clock + left), pos),
+        Some(left) => list_due(places, clock + left, pos),
         None => Ok(()),
     }
 }
@@ -118,7 +160,9 @@ fn unlist_close(places: &mut Places, left: Option<i64>, clock: u64, pos: usize)
     ensures { KeepsOthers pos places.old places.new }
 {
     if let Some(left) = number(left) {
-        unlist(places, Key::Close(clock.saturating_add(left)), pos);
+        if left > 1 {
+            unlist(places, Key::Close(clock.saturating_add(left)), pos);
+        }
     }
 }
 

@@ -1,11 +1,13 @@
 //! The waits by themselves: who can go is found by asking each.
 
-ghost use Rattle.std.specs.Prelude.{◌≡◌, ◌+◌, ◌<◌, ◌^◌, ◌++◌, ◌∷◌, [], IfOk, OnOk, OnErr, Some, None, length, set, take, option_and_then};
+ghost use Rattle.std.specs.Prelude.{◌≡◌, ◌+◌, ◌-◌, ◌<◌, ◌≤◌, ◌^◌, ◌++◌, ◌∷◌, [], IfOk, OnOk, OnErr, Some, None, length, set, take, option_and_then, option_map};
+ghost use Rattle.std.specs.List.{list_any};
 ghost use Rattle.loft_sense.specs.WaitCodes.{number_left};
-ghost use Rattle.loft_waits.specs.Told.{wait_at, nobody, closed, ready_at, no_counts, is_late, count_in};
+ghost use Rattle.loft_waits.specs.Told.{wait_at, nobody, closed, ready_at, no_counts, is_late, count_in, is_alone as is_alone_of, IsFreeFrom};
+ghost use Rattle.loft_waits.specs.Aged.{wait_now, one_if, IsEntryBefore};
 
 use crate::ended::Ended;
-use crate::entry::{Entry, count};
+use crate::entry::{Entry, count, ends_alone};
 use loft_base::{EventId, NoMemory, ThreadId};
 use loft_orders::Wait;
 use std::alloc::Global;
@@ -19,6 +21,8 @@ pub(crate) struct Plain {
     counts: Vec<Option<usize>>,
     ended: Ended,
     clock: u64,
+    /// How many of the waits end by themselves.
+    alone: usize,
 }
 
 impl Model for Plain {
@@ -26,7 +30,7 @@ impl Model for Plain {
 
     ghost Value = { Told };
 
-    ghost use Rattle.loft_waits.specs.Aged.{waits_of, IsBefore};
+    ghost use Rattle.loft_waits.specs.Aged.{waits_of, IsPlain};
 
     ghost view = { λ w. record {
       waits = waits_of w.clock w.slots.items;
@@ -35,7 +39,7 @@ impl Model for Plain {
       closes = w.clock;
     } };
 
-    ghost invariant = { λ w. IsBefore w.clock w.slots.items };
+    ghost invariant = { λ w. IsPlain w.clock w.slots.items w.alone };
 }
 
 /// No event is present.
@@ -56,6 +60,32 @@ fn absent(alloc: Global, events: u32) -> Result<Vec<Option<usize>>, NoMemory>
     Ok(counts)
 }
 
+/// One more, where there is one.
+fn one_more(count: usize, more: bool) -> usize
+    requires { count + one_if more < 2 ^ 64 }
+    ensures { result ≡ count + one_if more }
+{
+    if more { count + 1 } else { count }
+}
+
+/// One less, where there was one.
+fn one_less(count: usize, less: bool) -> usize
+    requires { one_if less ≤ count }
+    ensures { result ≡ count - one_if less }
+{
+    if less { count - 1 } else { count }
+}
+
+/// Whether a wait that ends by itself was entered.
+fn is_alone(entry: &Option<Entry>) -> bool
+    ensures { result ≡ is_alone_of (option_map (λ e. e.wait) entry.now) }
+{
+    match entry {
+        Some(entry) => ends_alone(&entry.wait),
+        None => false,
+    }
+}
+
 impl Plain {
     pub(crate) fn new(alloc: Global, events: u32) -> Result<Plain, NoMemory>
         ensures { IfOk result (λ w. w
@@ -67,6 +97,7 @@ impl Plain {
             counts,
             ended: Ended::new(alloc),
             clock: 0,
+            alone: 0,
         })
     }
 
@@ -93,8 +124,9 @@ impl Plain {
         Ok(())
     }
 
-    /// So many positions are left.
+    /// So many positions are left, where nobody waits after them.
     pub(crate) fn truncate(&mut self, len: usize)
+        requires free { IsFreeFrom self.old len }
         ensures { self.new ≡ record self.old { waits = take len self.old.waits } }
     {
         self.slots.truncate(len);
@@ -103,8 +135,10 @@ impl Plain {
     /// The thread at a position waits so from now on.
     pub(crate) fn put(&mut self, pos: usize, wait: Wait)
         requires within { pos < length self.old.waits }
+        requires free { wait_at self.old pos ≡ None }
         ensures { self.new ≡ record self.old { waits = set self.old.waits pos (Some wait) } }
     {
+        self.alone = one_more(self.alone, ends_alone(&wait));
         let since = self.clock;
         mem::replace(&mut self.slots[pos], Some(Entry { wait, since }));
     }
@@ -112,9 +146,31 @@ impl Plain {
     /// Nobody waits at a position any more. The answer is the entry that was there.
     pub(crate) fn take(&mut self, pos: usize) -> Option<Entry>
         requires within { pos < length self.old.waits }
-        ensures { self.new ≡ record self.old { waits = set self.old.waits pos None } }
+        ensures told { self.new ≡ record self.old { waits = set self.old.waits pos None } }
+        ensures wait { option_map (wait_now self.old.closes) result ≡ wait_at self.old pos }
+        ensures before { IsEntryBefore self.old.closes result }
     {
-        mem::replace(&mut self.slots[pos], None)
+        let entry = mem::replace(&mut self.slots[pos], None);
+        self.alone = one_less(self.alone, is_alone(&entry));
+        entry
+    }
+
+    /// Whether one of the waits ends by itself.
+    pub(crate) fn any_alone(&self) -> bool
+        ensures { result ≡ list_any is_alone_of self.now.waits }
+    {
+        self.alone != 0
+    }
+
+    /// A copy of the wait at a position.
+    pub(crate) fn wait(&self, alloc: Global, pos: usize) -> Result<Option<Wait>, NoMemory>
+        requires within { pos < length self.now.waits }
+        ensures { IfOk result (λ w. w ≡ wait_at self.now pos) }
+    {
+        match &self.slots[pos] {
+            Some(entry) => Ok(Some(entry.wait(alloc, self.clock)?)),
+            None => Ok(None),
+        }
     }
 
     pub(crate) fn count(&self, event: EventId) -> Option<usize>

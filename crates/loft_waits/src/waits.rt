@@ -1,18 +1,18 @@
 //! The waits of one scheduler's linked threads, by position.
 
 ghost use Rattle.std.specs.Prelude.{◌≡◌, ◌+◌, ◌<◌, ◌≤◌, ◌^◌, ◌++◌, ◌∷◌, [], IfOk, OnOk, OnErr, Some, None, drop, take, length, slice_set as set, option_and_then, MatchOption, true};
+ghost use Rattle.std.specs.List.{list_any};
 ghost use Rattle.loft_sense.specs.WaitCodes.{number_left};
-ghost use Rattle.loft_waits.specs.Told.{wait_at, nobody, closed, no_counts, is_late, ready_at, IsNext, IsFreeFrom, NobodyIn, NobodyFrom};
+ghost use Rattle.loft_waits.specs.Told.{wait_at, nobody, closed, no_counts, is_late, ready_at, is_alone, IsNext, IsFreeFrom, NobodyIn, NobodyFrom};
 
 use crate::key::{Key, ThreadKey};
-use crate::places::{Places, enter, leave_entry};
+use crate::places::{Places, enter, forget, leave_entry, no_places};
 use crate::plain::Plain;
-use crate::wake::{byte, wake_event, wake_one};
+use crate::wake::{byte, wake_close, wake_event, wake_one};
 use loft_base::{EventId, NoMemory, ThreadId, TryClone};
 use loft_orders::Wait;
 use memchr::memchr;
 use std::alloc::Global;
-use std::collections::BTreeSet;
 use std::marker::Model;
 
 /// Who waits for what, and who can go (docs/SEMANTICS.md, "Waiting lists"). Contracts see the wait
@@ -59,7 +59,7 @@ impl Waits {
         Ok(Waits {
             plain: Plain::new(alloc, events)?,
             ready: Vec::new(alloc),
-            places: BTreeSet::new(alloc),
+            places: no_places(alloc),
         })
     }
 
@@ -99,10 +99,41 @@ impl Waits {
         ensures err { OnErr result (self.new ≡ self.old) }
     {
         let copy = wait.try_clone(alloc)?;
-        enter(&mut self.places, wait, self.plain.closes(), pos)?;
-        self.plain.put(pos, copy);
+        self.put(pos, copy)
+    }
+
+    /// The same with a wait that is handed over.
+    ///
+    /// # Errors
+    ///
+    /// Out of memory; the waits are as before.
+    pub fn put(&mut self, pos: usize, wait: Wait) -> Result<(), NoMemory>
+        requires within { pos < length self.old.waits }
+        requires free { wait_at self.old pos ≡ None }
+        ensures ok { OnOk result (self.new
+            ≡ record self.old { waits = set self.old.waits pos (Some wait) }) }
+        ensures err { OnErr result (self.new ≡ self.old) }
+    {
+        enter(&mut self.places, &wait, self.plain.closes(), pos)?;
+        self.plain.put(pos, wait);
         self.ready[pos] = byte(self.plain.can_go(pos));
         Ok(())
+    }
+
+    /// Nobody waits at a position any more. It looks at nobody else, and takes no memory. The answer is
+    /// the wait that was there, as the closes have lowered it.
+    pub fn take(&mut self, pos: usize) -> Option<Wait>
+        requires within { pos < length self.old.waits }
+        ensures told { self.new ≡ record self.old { waits = set self.old.waits pos None } }
+        ensures wait { result ≡ wait_at self.old pos }
+    {
+        let entry = self.plain.take(pos);
+        leave_entry(&mut self.places, &entry, pos);
+        self.ready[pos] = 0;
+        match entry {
+            Some(entry) => Some(entry.into_wait(self.plain.closes())),
+            None => None,
+        }
     }
 
     /// Nobody waits at a position any more. It looks at nobody else, and takes no memory.
@@ -110,9 +141,26 @@ impl Waits {
         requires within { pos < length self.old.waits }
         ensures { self.new ≡ record self.old { waits = set self.old.waits pos None } }
     {
-        let entry = self.plain.take(pos);
-        leave_entry(&mut self.places, &entry, pos);
-        self.ready[pos] = 0;
+        self.take(pos);
+    }
+
+    /// A copy of the wait at a position, as the closes have lowered it.
+    ///
+    /// # Errors
+    ///
+    /// Out of memory.
+    pub fn wait(&self, alloc: Global, pos: usize) -> Result<Option<Wait>, NoMemory>
+        requires within { pos < length self.now.waits }
+        ensures { IfOk result (λ w. w ≡ wait_at self.now pos) }
+    {
+        self.plain.wait(alloc, pos)
+    }
+
+    /// Whether one of the waits ends by itself: at once, by its number, or as its value doesn't come.
+    pub fn any_alone(&self) -> bool
+        ensures { result ≡ list_any is_alone self.now.waits }
+    {
+        self.plain.any_alone()
     }
 
     /// An event is present, with so many values so far. Looked at are those who wait for it as it
@@ -124,7 +172,7 @@ impl Waits {
         let was = self.plain.count(event);
         self.plain.on_event(event, count);
         wake_event(
-            &self.places,
+            &self.places.set,
             event.0,
             was,
             count,
@@ -146,7 +194,7 @@ impl Waits {
     {
         self.plain.on_ended(thread)?;
         let key = Key::End(ThreadKey::of(thread));
-        wake_one(&self.places, key, &self.plain, &mut self.ready);
+        wake_one(&self.places.set, key, &self.plain, &mut self.ready);
         Ok(())
     }
 
@@ -158,8 +206,9 @@ impl Waits {
         ensures { self.new ≡ closed self.old }
     {
         self.plain.close();
-        let key = Key::Close(self.plain.closes());
-        wake_one(&self.places, key, &self.plain, &mut self.ready);
+        let closes = self.plain.closes();
+        wake_close(&self.places, closes, &self.plain, &mut self.ready);
+        forget(&mut self.places, closes);
     }
 
     /// The number left in the wait at a position, as the closes have lowered it; None where it has

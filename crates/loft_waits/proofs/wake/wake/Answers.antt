@@ -33,4 +33,4 @@ returns-clause-listed c =
     λ k from to i lt h.
     c.loop-place.invariant.4 k i
     (ap (λ (l : List Place). list_any (is_at (place_cmp (k, i))) l) all.0
-    ∙ found c.args.places.now c.args.first c.args.last k c.len.result i from to (let e = c.len.ensures in omega (arith, e, lt)) h)
+    ∙ found c.args.set.now c.args.first c.args.last k c.len.result i from to (let e = c.len.ensures in omega (arith, e, lt)) h)

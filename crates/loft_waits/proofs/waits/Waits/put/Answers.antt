@@ -1,17 +1,15 @@
-use Rattle.std.proofs.Common.{◌<◌, ◌∙◌, ℕ, length, set, Some, ap, sym, subst}
-use Rattle.loft_orders.specs.declared.thread.Wait.{Wait}
+use Rattle.std.proofs.Common.{◌<◌, ◌∙◌, ℕ, length, Some, ap, sym, subst}
 use Rattle.loft_waits.specs.Told.{Told}
 use Rattle.loft_waits.specs.Places.{IsListed, flag}
 use Rattle.loft_waits.proofs.WaitsLemmas.{kept_put}
-use Rattle.loft_waits.proofs.waits.Waits.add.Goals as goal
+use Rattle.loft_waits.proofs.waits.Waits.put.Goals as goal
 
 pub invariant_of-self-2 : goal.invariant_of-self-2
 invariant_of-self-2 c =
     let w = c.self.inside in
     let p = c.args.pos in
-    let v = c.args.wait.now in
+    let v = c.args.wait in
     let lt : p < length w.plain.waits = subst (λ (t : Told). p < length t.waits) (sym c.self.view_is) c.requires.within in
-    let waiting : Wait → Told = λ x. record w.plain { waits = set w.plain.waits p (Some x) } in
     let listed : IsListed c.enter.new.places w.plain.closes p (Some v) = subst (λ (n : ℕ). IsListed c.enter.new.places n p (Some v)) c.closes.ensures c.in_ok-enter.ensures.ok in
     kept_put w.plain c.put.new.self w.ready.items w.places c.enter.new.places p (Some v) c.byte.result c.self.invariant lt c.enter.ensures.keeps listed
-    (c.put.ensures ∙ ap waiting c.in_ok-copy.ensures) (c.byte.ensures ∙ ap flag c.can_go.ensures)
+    c.put.ensures (c.byte.ensures ∙ ap flag c.can_go.ensures)
