@@ -70,12 +70,10 @@ impl PartStack {
         ensures before { room.new.is_whole ≡ true → room.old.is_whole ≡ true }
         ensures parts { room.new.is_whole ≡ true → self.new ≡ more.now ++ self.old }
     {
-        match more {
-            [] => {}
-            [p, rest @ ..] => {
-                self.put(room, rest);
-                self.push(room, *p);
-            }
+        let mut n = more.len();
+        while n > 0 {
+            n -= 1;
+            self.push(room, more[n]);
         }
     }
 

@@ -10,7 +10,7 @@ ghost use Rattle.loft_reader.specs.Machine.{machine_of, IsBegun, Spells, Within,
 
 use loft_after::PartStack;
 use loft_base::{NoMemory, Room, Sequence};
-use loft_sets::{is_spelling, taken};
+use loft_sets::{is_spelling, is_whole, taken};
 use loft_shape::Part;
 use loft_told::Draft;
 use std::alloc::Global;
@@ -93,7 +93,7 @@ impl Machine {
             return Spelled::Open;
         }
         let word = &bytes[..n];
-        if !is_spelling(p, word) {
+        if !is_whole(p, word) {
             return Spelled::Stops(n);
         }
         self.parts.put_after(room, p, word);
@@ -121,7 +121,7 @@ impl Machine {
         }
         self.word.truncate(n);
         let more = n.saturating_sub(before);
-        if !is_spelling(p, self.word.as_slice()) {
+        if !is_whole(p, self.word.as_slice()) {
             return Spelled::Stops(more);
         }
         self.parts.put_after(room, p, self.word.as_slice());

@@ -1,5 +1,5 @@
 -- What is read of a file grows part by part.
-use Rattle.std.proofs.Common.{◌≡◌, ℕ, ◌≤◌, ◌<◌, List, ◌++◌, length, take, Option, Some, None, Result, Ok, Err, IfSome, sym, subst, ap, ◌∙◌, arith}
+use Rattle.std.proofs.Common.{◌≡◌, ℕ, ◌+◌, ◌≤◌, ◌<◌, List, [], ◌++◌, length, length-append, take, Option, Some, None, Result, Ok, Err, IfSome, sym, subst, ap, ◌∙◌, arith}
 use Rattle.std.proofs.lemmas.List.{take_all}
 use Rattle.loft_file_walk.specs.Walk.{count_of, part_of, given, IsWithin, Grows}
 use Rattle.loft_file_walk.specs.declared.walk.FileWalk.{FileWalk}
@@ -9,6 +9,7 @@ use Rattle.loft_reader.specs.Answer.{HasRead, Answers, Verdict}
 use Rattle.loft_reader.specs.declared.log.LogReader.{LogReader}
 use Rattle.loft_reader.specs.declared.raw.RawReport.{RawReport}
 use Rattle.loft_reader.specs.declared.error.LogError.{LogError}
+use Rattle.loft_reader.specs.declared.error.LogError.TheVariants.{TooLong}
 
 -- the reader was given what the walk gave so far of the file
 pub record IsReadOn (walk : FileWalk) (reader : LogReader) (file : List ℕ) : Type 0 where
@@ -40,3 +41,19 @@ ended (Some file) walk r place before all is = omega (arith, before.within, all,
 pub longer : (known : Option (List ℕ)) (old new : FileWalk) (r : LogReader) → IfSome known (IsReadOn old r) → IfSome known (λ file. IsWithin old file → Grows file old new) → longest < count_of new → IfSome known (λ file. longest < length file)
 longer None old new r before grows past = before
 longer (Some file) old new r before grows past = let g = grows before.within in omega (arith, g.within, past)
+
+-- the reader was given so many bytes
+pub record IsFed (reader : LogReader) (n : ℕ) : Type 0 where
+  pub text : List ℕ
+  pub read : HasRead reader text
+  pub size : length text ≡ n
+
+pub fed_nothing : (r : LogReader) (n : ℕ) → HasRead r [] → n ≡ 0 → IsFed r n
+fed_nothing r n read e = record { text = []; read = read; size = sym e }
+
+pub fed_more : (r s : LogReader) (n m : ℕ) (part : List ℕ) → IsFed r n → ((text : List ℕ) → HasRead r text → HasRead s (text ++ part)) → m ≡ n + length part → IsFed s m
+fed_more r s n m part before feed e = record { text = before.text ++ part; read = feed before.text before.read; size = omega (arith, length-append before.text part, before.size, e) }
+
+-- of so few bytes it doesn't answer that they are too many
+pub never_long : (r : LogReader) (n : ℕ) (e : LogError) → IsFed r n → n ≤ longest → ((text : List ℕ) → HasRead r text → Verdict text (Err e)) → e ≡ TooLong → ⊥
+never_long r n e before few verdict is = let h = subst (λ x. Verdict before.text (Err x)) is (verdict before.text before.read) in omega (arith, h, before.size, few)

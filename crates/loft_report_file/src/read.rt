@@ -66,5 +66,8 @@ pub fn read_log<F: Files>(
         // An error is kept, and answered at the end.
         let _answer = reader.feed(alloc, walk.part());
     }
-    Ok(reader.finish()?)
+    match reader.finish() {
+        Ok(report) => Ok(report),
+        Err(e) => Err(ReportFileError::Log(e)),
+    }
 }

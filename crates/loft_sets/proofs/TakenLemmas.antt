@@ -1,12 +1,14 @@
 -- How many bytes each kind of set takes.
-use Rattle.std.proofs.Common.{◌≡◌, ℕ, zero, suc, ◌+◌, ◌-◌, ◌<◌, ◌≤◌, nat_le, Bool, true, false, ◌==◌, ◌&&◌, ◌||◌, List, [], ◌∷◌, ◌++◌, codes, length, get_or, take, arith, refl, sym, ap, subst, ◌∙◌, length-take, append_assoc}
+use Rattle.std.proofs.Common.{◌≡◌, ℕ, zero, suc, ◌+◌, ◌-◌, ◌<◌, ◌≤◌, nat_le, not, Bool, true, false, ◌==◌, ◌&&◌, ◌||◌, List, [], ◌∷◌, ◌++◌, codes, length, get_or, take, arith, refl, sym, ap, subst, ◌∙◌, length-take, append_assoc}
 use Rattle.std.proofs.Math.Seq.{take-suc}
 use Rattle.std.proofs.lemmas.Bool.Decides.{nat_tests}
 use Rattle.std.proofs.lemmas.List.{append-nil}
 use Rattle.std.proofs.lemmas.List.Folds.{list_all-append}
 use Rattle.std.specs.List.{list_all}
 use Rattle.loft_lex.specs.Bytes.{is_letter, is_name_byte}
-use Rattle.loft_spelling.specs.Sets.{Set, is_prefix, is_printed, is_line_part, lines}
+use Rattle.loft_lex.specs.Fits.{is_name}
+use Rattle.loft_lex.specs.Word.{is_word}
+use Rattle.loft_spelling.specs.Sets.{Set, is_empty, is_number, is_prefix, is_printed, is_line, is_line_part, lines}
 use Rattle.loft_spelling.proofs.Sets.{Honest, and_both, prefix_more}
 use Rattle.loft_shape.specs.Sets.{makers, names, sign, is_name_part}
 use Rattle.loft_shape.proofs.Names.{honest_names}
@@ -190,3 +192,82 @@ line_closed bytes n run h is = record {
 
     two : n + 1 < length bytes → take (n + 1 + 1) bytes ≡ take n bytes ++ get_or bytes n 0 ∷ get_or bytes (n + 1) 0 ∷ []
     two k = more bytes (n + 1) k ∙ ap (λ t. t ++ get_or bytes (n + 1) 0 ∷ []) (more bytes n h) ∙ append_assoc (take n bytes) (get_or bytes n 0 ∷ []) (get_or bytes (n + 1) 0 ∷ [])
+
+-- ---- what is begun is whole
+
+line_empty : (n : ℕ) → is_line n [] ≡ false
+unfolding is_line
+line_empty zero = refl
+line_empty (suc n) = refl
+
+no_line : (a b : Bool) → b ≡ false → ((false && true) || (a && b)) ≡ false
+no_line true b e = e
+no_line false b e = refl
+
+not_feed : (a b : Bool) → ((a && false) || b) ≡ true → b ≡ true
+not_feed true b e = e
+not_feed false b e = e
+
+and_true : (a : Bool) → (a && true) ≡ a
+and_true true = refl
+and_true false = refl
+
+skips : (a b : Bool) → ((a && false) || b) ≡ b
+skips true b = refl
+skips false b = refl
+
+pub sign_whole : (b : ℕ) (w : List ℕ) → (sign b).begun w ≡ true → (sign b).whole w ≡ not (is_empty w)
+unfolding is_prefix
+sign_whole b [] e = refl
+sign_whole b (c ∷ []) e = go (c == b) refl e
+  where
+    go : (t : Bool) → (c == b) ≡ t → ((t && true) || false) ≡ true → (sign b).whole (c ∷ []) ≡ true
+    go true f g = let same : b ≡ c = grind (arith, nat_tests, f) in let h : (b == c) ≡ true = grind (arith, nat_tests, same) in rw h refl
+    go false f g = absurd cc
+sign_whole b (c ∷ d ∷ w) e = absurd (go (c == b) e)
+  where
+    go : (t : Bool) → ((t && false) || false) ≡ true → ⊥
+    go true g = cc
+    go false g = cc
+
+pub number_whole : (nought : Bool) (most : ℕ) (w : List ℕ) → (is_empty w || is_number nought most w) ≡ true → is_number nought most w ≡ not (is_empty w)
+number_whole nought most [] e = refl
+number_whole nought most (b ∷ w) e = e
+
+all_but_last : (a b c d e : Bool) → a ≡ true → b ≡ true → c ≡ true → d ≡ true → (a && (b && c) && d && e) ≡ e
+all_but_last a b c d e p q r s = rw (p, q, r, s) refl
+
+pub name_whole : (w : List ℕ) → is_name_part w ≡ true → is_name w ≡ (not (is_empty w) && not (is_word w))
+name_whole [] e = refl
+name_whole (b ∷ w) e =
+    let p = and_both (is_letter b && list_all is_name_byte w) (nat_le (length (b ∷ w)) 64) e in
+    let q = and_both (is_letter b) (list_all is_name_byte w) p.0 in
+    let f = letter_is_name b q.0 in
+    all_but_last (is_letter b) (is_name_byte b) (list_all is_name_byte w) (nat_le (length (b ∷ w)) 64) (not (is_word (b ∷ w))) q.0 f q.1 p.1
+
+pub maker_part : (w : List ℕ) → makers.begun w ≡ true → is_name_part w ≡ true
+maker_part w e = sym (makers_begun w) ∙ e
+
+pub line_whole : (n : ℕ) (w : List ℕ) → is_line_part n w ≡ true → is_line n w ≡ (not (is_empty w) && get_or w (length w - 1) 0 == 10)
+unfolding is_line is_line_part
+line_whole zero [] e = refl
+line_whole (suc n) [] e = refl
+line_whole zero (b ∷ []) e = and_true (b == 10)
+line_whole (suc n) (b ∷ []) e = go (b == 10) refl
+  where
+    go : (t : Bool) → (b == 10) ≡ t → is_line (suc n) (b ∷ []) ≡ (b == 10)
+    go true f = rw f refl
+    go false f = let g = line_empty n in rw f (no_line (is_printed b) (is_line n []) g)
+line_whole zero (b ∷ c ∷ w) e = absurd (go (b == 10) e)
+  where
+    go : (t : Bool) → (t && false) ≡ true → ⊥
+    go true f = cc
+    go false f = cc
+line_whole (suc n) (b ∷ c ∷ w) e = go (λ part. line_whole n (c ∷ w) part) (b == 10) refl
+  where
+    go : (is_line_part n (c ∷ w) ≡ true → is_line n (c ∷ w) ≡ (get_or (c ∷ w) (length (c ∷ w) - 1) 0 == 10)) → (t : Bool) → (b == 10) ≡ t → is_line (suc n) (b ∷ c ∷ w) ≡ (get_or (b ∷ c ∷ w) (length (b ∷ c ∷ w) - 1) 0 == 10)
+    go each t f =
+        let i : length (b ∷ c ∷ w) - 1 ≡ suc (length (c ∷ w) - 1) = omega arith in
+        let rest : (is_printed b && is_line_part n (c ∷ w)) ≡ true = not_feed t (is_printed b && is_line_part n (c ∷ w)) (subst (λ x. ((x && false) || (is_printed b && is_line_part n (c ∷ w))) ≡ true) f e) in
+        let p = and_both (is_printed b) (is_line_part n (c ∷ w)) rest in
+        rw (p.0, i) (skips (b == 10) (is_line n (c ∷ w)) ∙ each p.1)

@@ -11,6 +11,6 @@ mod taking;
 mod word;
 
 pub use number::value_of;
-pub use set::{begins_spelling, is_spelling};
+pub use set::{begins_spelling, is_spelling, is_whole};
 pub use taking::taken;
 pub use word::{spelling_of, word_of};

@@ -1,6 +1,6 @@
 //! What is printed in a line.
 
-ghost use Rattle.std.specs.Prelude.{◌≡◌, ◌==◌, ◌&&◌};
+ghost use Rattle.std.specs.Prelude.{◌≡◌, ◌==◌, ◌&&◌, true};
 ghost use Rattle.loft_spelling.specs.Sets.{is_empty, is_line, is_line_part};
 
 use crate::bytes::{is_empty, is_printed};
@@ -46,5 +46,17 @@ pub fn begins_line(n: usize, bytes: &[u8]) -> bool
             }
             is_printed(*b) && begins_line(n - 1, rest)
         }
+    }
+}
+
+/// The first bytes of such a line are all of it.
+#[tactic(auto, using(crate::proofs::TakenLemmas::line_whole))]
+pub fn is_whole_line(bytes: &[u8]) -> bool
+    requires { is_line_part 256 bytes.now ≡ true }
+    ensures { result ≡ is_line 256 bytes.now }
+{
+    match bytes {
+        [] => false,
+        [.., b] => *b == b'\n',
     }
 }

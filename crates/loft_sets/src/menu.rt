@@ -1,9 +1,9 @@
 //! The words and signs that may come at a place.
 
-ghost use Rattle.std.specs.Prelude.{◌≡◌, ◌==◌, if◌then◌else◌};
+ghost use Rattle.std.specs.Prelude.{◌≡◌, ◌==◌, true, if◌then◌else◌};
 ghost use Rattle.loft_shape.specs.Sets.{menu, sign, signs, block_words, choice_words, final_words, thread_words, line_words, order_words, wait_words, reason_words};
 
-use crate::bytes::{is_prefix, is_same};
+use crate::bytes::{is_empty, is_prefix, is_same};
 use crate::word::spelling_of;
 use loft_shape::{Stage, Word};
 
@@ -38,6 +38,15 @@ pub fn begins_sign(b: u8, bytes: &[u8]) -> bool
     ensures { result ≡ (sign b).begun bytes.now }
 {
     is_prefix(bytes, &[b])
+}
+
+/// The first bytes of a sign are all of it.
+#[tactic(auto, using(crate::proofs::TakenLemmas::sign_whole))]
+pub fn is_whole_sign(b: u8, bytes: &[u8]) -> bool
+    requires { (sign b).begun bytes.now ≡ true }
+    ensures { result ≡ (sign b).whole bytes.now }
+{
+    !is_empty(bytes)
 }
 
 /// The bytes are one of these two.

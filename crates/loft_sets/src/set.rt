@@ -1,17 +1,21 @@
 //! The set of spellings of each part.
 
-ghost use Rattle.std.specs.Prelude.{◌≡◌};
-ghost use Rattle.loft_shape.specs.Sets.{set_of};
+ghost use Rattle.std.specs.Prelude.{◌≡◌, true};
+ghost use Rattle.loft_shape.specs.Sets.{number_set, set_of};
 ghost use Rattle.loft_shape.specs.declared.part.Part.TheVariants.{Left};
 
-use crate::line::{begins_line, is_line};
+use crate::bytes::is_empty;
+use crate::line::{begins_line, is_line, is_whole_line};
 use crate::menu::{
     begins_either, begins_one_of, begins_sign, choice_words, is_either, is_one_of, is_sign,
-    line_words, order_words, reason_words, thread_words, wait_words,
+    is_whole_sign, line_words, order_words, reason_words, thread_words, wait_words,
 };
-use crate::name::{begins_maker, begins_name, begins_value, is_maker, is_name, is_value};
+use crate::name::{
+    begins_maker, begins_name, begins_value, is_maker, is_name, is_value, is_whole_maker,
+    is_whole_name,
+};
 use crate::number::{begins_count, begins_integer, begins_kind, is_count, is_integer, is_of_kind};
-use loft_shape::{Part, Word};
+use loft_shape::{NumberKind, Part, Word};
 
 /// The most bytes that a line prints.
 const MAX_PRINTED: usize = 256;
@@ -66,6 +70,32 @@ pub fn is_spelling(p: Part, bytes: &[u8]) -> bool
         Part::States(left) => is_one_of(thread_words(left), bytes),
         Part::Left(left) => is_left(left, bytes),
         Part::Close => is_sign(b'\n', bytes),
+    }
+}
+
+#[tactic(auto, using(crate::proofs::TakenLemmas::number_whole))]
+fn is_whole_number(kind: NumberKind, bytes: &[u8]) -> bool
+    requires { (number_set kind).begun bytes.now ≡ true }
+    ensures { result ≡ (number_set kind).whole bytes.now }
+{
+    match kind {
+        NumberKind::Any => is_integer(bytes),
+        _ => !is_empty(bytes),
+    }
+}
+
+/// The bytes, which begin a spelling of the part, are a whole one.
+pub fn is_whole(p: Part, bytes: &[u8]) -> bool
+    requires { (set_of p).begun bytes.now ≡ true }
+    ensures { result ≡ (set_of p).whole bytes.now }
+{
+    match p {
+        Part::Sign(b) => is_whole_sign(b, bytes),
+        Part::Number(kind) => is_whole_number(kind, bytes),
+        Part::Name(_) => is_whole_name(bytes),
+        Part::Maker => is_whole_maker(bytes),
+        Part::Text => is_whole_line(bytes),
+        _ => is_spelling(p, bytes),
     }
 }
 

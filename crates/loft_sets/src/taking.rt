@@ -66,7 +66,7 @@ fn line_taken(bytes: &[u8]) -> usize
 }
 
 /// The same, by the test of each prefix.
-fn tested(p: Part, bytes: &[u8]) -> usize
+fn tested_each(p: Part, bytes: &[u8]) -> usize
     ensures { Taken (set_of p) bytes.now result }
 {
     let mut n = 0;
@@ -74,6 +74,21 @@ fn tested(p: Part, bytes: &[u8]) -> usize
         n += 1;
     }
     n
+}
+
+/// The same, where the bytes that may be of a name are most likely those that are taken.
+fn tested(p: Part, bytes: &[u8]) -> usize
+    ensures { Taken (set_of p) bytes.now result }
+{
+    let n = name_bytes(bytes);
+    if n > 0
+        && n < bytes.len()
+        && begins_spelling(p, &bytes[..n])
+        && !begins_spelling(p, &bytes[..n + 1])
+    {
+        return n;
+    }
+    tested_each(p, bytes)
 }
 
 /// How many of the first bytes the part takes: they are a prefix of one of its spellings, and with the next byte they

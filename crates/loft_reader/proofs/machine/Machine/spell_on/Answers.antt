@@ -19,8 +19,8 @@ returns-then-n-len-clause-spelled c = λ whole begun.
     on_open s.parts c.in-Some.p c.pop.new.self c.in-Some.ensures (told_of s.draft) s.word c.args.bytes.now all (c.extend.ensures.text (c.put.ensures.before whole)) n t begun _ refl
     c.put.new.self (c.put.ensures.parts whole) (omega (arith, c.if-n-len.true, c.len.ensures))
 
-pub returns-then-not-is_spelling-clause-spelled : goal.returns-then-not-is_spelling-clause-spelled
-returns-then-not-is_spelling-clause-spelled c = λ whole begun.
+pub returns-then-not-is_whole-clause-spelled : goal.returns-then-not-is_whole-clause-spelled
+returns-then-not-is_whole-clause-spelled c = λ whole begun.
     let s = c.args.self.now in
     let all = c.extend.new.word in
     let n = c.taken-n.result in
@@ -28,7 +28,7 @@ returns-then-not-is_spelling-clause-spelled c = λ whole begun.
     let first : c.as_slice-2.result.now ≡ take n all = c.as_slice-2.ensures ∙ c.truncate.ensures in
     on_stops s.parts c.in-Some.p c.pop.new.self c.in-Some.ensures (told_of s.draft) s.word c.args.bytes.now all (c.extend.ensures.text whole) n t begun
     c.saturating_sub-more.result (omega (arith, c.saturating_sub-more.ensures, c.len-before.ensures))
-    (λ e. omega (arith, c.if-n-len.false, c.len.ensures, e)) (ap (set_of c.in-Some.p).whole (sym first) ∙ sym c.if-not-is_spelling.ensures)
+    (λ e. omega (arith, c.if-n-len.false, c.len.ensures, e)) (ap (set_of c.in-Some.p).whole (sym first) ∙ sym c.if-not-is_whole.ensures)
 
 pub returns-clause-spelled : goal.returns-clause-spelled
 returns-clause-spelled c = λ whole begun.
@@ -46,5 +46,5 @@ returns-clause-spelled c = λ whole begun.
     on_next s.parts p ps c.in-Some.ensures told s.word c.args.bytes.now all (c.extend.ensures.text (c.put_after.ensures.before before)) n t begun
     c.saturating_sub-more.result (omega (arith, c.saturating_sub-more.ensures, c.len-before.ensures))
     c.put_after.new.self (told_of c.note.new.self) c.clear.new.self
-    (λ e. omega (arith, c.if-n-len.false, c.len.ensures, e)) (ap (set_of p).whole (sym first) ∙ sym c.if-not-is_spelling.ensures)
+    (λ e. omega (arith, c.if-n-len.false, c.len.ensures, e)) (ap (set_of p).whole (sym first) ∙ sym c.if-not-is_whole.ensures)
     (c.put_after.ensures.parts before ∙ ap (λ v. after p v ++ ps) second) (c.note.ensures.told whole ∙ ap (λ v. note p v told) third) c.clear.ensures

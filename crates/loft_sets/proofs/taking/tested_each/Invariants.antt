@@ -1,6 +1,6 @@
 use Rattle.std.proofs.Common.{◌≡◌, ◌-◌, ◌≤◌, true, length, take}
 use Rattle.loft_shape.specs.Sets.{set_of}
-use Rattle.loft_sets.proofs.taking.tested.Given as goal
+use Rattle.loft_sets.proofs.taking.tested_each.Given as goal
 
 abbrev pub invariant-loop-n : goal.invariant-loop-n
 invariant-loop-n l = record {
