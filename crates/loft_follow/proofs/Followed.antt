@@ -13,7 +13,7 @@ use Rattle.loft_sense.specs.Machine.{Prog, Tree, heads}
 use Rattle.loft_history.specs.Report.{report}
 use Rattle.loft_world.specs.declared.results.Finished.{Finished}
 use Rattle.loft_world.specs.Replay.{IsReplayOf}
-use Rattle.loft_log.specs.declared.choice.Choice.{Choice}
+use Rattle.loft_shape.specs.declared.raw.Choice.{Choice}
 use Rattle.loft_log.specs.WorldReport.{world_report}
 use Rattle.loft_replay.specs.Named.{IsFollowed}
 use Rattle.loft_follow.specs.Program.{IsProgramOf}

@@ -7,7 +7,7 @@ use Rattle.loft_orders.specs.declared.entry.Entry.{Entry}
 use Rattle.loft_base.specs.declared.options.RunOptions.{RunOptions}
 use Rattle.loft_sense.specs.Machine.{Tree}
 use Rattle.loft_history.specs.Report.{report}
-use Rattle.loft_log.specs.declared.choice.Choice.{Choice}
+use Rattle.loft_shape.specs.declared.raw.Choice.{Choice}
 use Rattle.loft_replay.specs.Named.{follows}
 use Rattle.loft_follow.specs.Program.{IsProgramOf}
 

@@ -4,7 +4,7 @@ ghost use Rattle.std.specs.Prelude.{◌≡◌, IfErr, IsTrue};
 
 use crate::failure::Failure;
 use loft_base::{Files, Sequence, read_whole};
-use loft_log::{Choice, Choices};
+use loft_shape::{Choice, Choices};
 use std::alloc::Global;
 
 /// How many bytes a file of choices has at most.

@@ -14,9 +14,10 @@ use crate::failure::Failure;
 use crate::source::read_source;
 use crate::words::read_request;
 use loft_base::{Files, RunOptions, Sink};
-use loft_log::{Choices, reports_of_worlds_are_of_histories, write_report};
+use loft_log::{reports_of_worlds_are_of_histories, write_report};
 use loft_place::Placed;
 use loft_replay::follow;
+use loft_shape::Choices;
 use std::alloc::Global;
 
 /// Follows choices of a placed program, and writes the report of the history that they make.

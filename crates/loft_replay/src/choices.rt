@@ -7,8 +7,8 @@ ghost use Rattle.loft_replay.specs.Named.{meant, MovesBy};
 
 use crate::names::{client_named, scheduler_named};
 use loft_base::{NoMemory, SchedId};
-use loft_log::Choice;
 use loft_sense::Engine;
+use loft_shape::Choice;
 use loft_tree::Heads;
 use loft_turns::{BlockEngine, Course, Setting};
 use std::alloc::Global;

@@ -2,10 +2,13 @@
 #![tactic(auto)]
 
 mod choices;
+mod ended;
 mod names;
 mod plain;
 mod plain_blocks;
 mod replay;
+mod whole;
 
 pub use plain::run_plainly;
 pub use replay::{FollowError, Replayed, follow};
+pub use whole::follow_whole;

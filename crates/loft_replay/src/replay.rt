@@ -12,9 +12,9 @@ ghost use Rattle.loft_replay.specs.Named.{follows, IsFollowed, IsRefused};
 use crate::choices::choose;
 use crate::plain::{stations, workers};
 use loft_base::{NoMemory, RunOptions};
-use loft_log::Choices;
 use loft_place::Placed;
 use loft_sense::Engine;
+use loft_shape::Choices;
 use loft_tree::Heads;
 use loft_turns::{BlockEngine, Course, Setting, well_formed_programs_can_run};
 use loft_world::Finished;
@@ -46,7 +46,7 @@ impl From<NoMemory> for FollowError {
 }
 
 /// The run goes on by all choices.
-fn choose_all<X: Setting, E: Engine, B: BlockEngine>(
+pub(crate) fn choose_all<X: Setting, E: Engine, B: BlockEngine>(
     alloc: Global,
     heads: &Heads,
     course: &mut Course<X, E, B>,

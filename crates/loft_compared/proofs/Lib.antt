@@ -1,0 +1,3 @@
+pub mod PlaceLemmas
+pub mod Differences
+pub mod Comparing
