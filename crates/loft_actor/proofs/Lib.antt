@@ -1,1 +1,5 @@
-pub mod Crossing
+pub mod ListLemmas
+pub mod BeginLemmas
+pub mod JoinLemmas
+pub mod LookLemmas
+pub mod EndLemmas

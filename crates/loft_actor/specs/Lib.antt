@@ -1,1 +1,3 @@
-pub mod Phases
+pub mod Engines
+pub mod Members
+pub mod Runs

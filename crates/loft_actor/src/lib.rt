@@ -1,6 +1,11 @@
-//! Phases of a run: each actor makes turns on a thread of its own.
+//! Whole runs: every actor makes its turns on a thread of its own, phase after phase.
 #![tactic(auto)]
 
-mod phases;
+mod begin;
+mod end;
+mod look;
+mod run;
 
-pub use phases::{Actors, phase};
+pub use loft_phase::{Actors, phase};
+pub use loft_station::{Outsider, Station, Worker};
+pub use run::{Engines, run_all};

@@ -7,7 +7,7 @@ ghost use Rattle.loft_orders.specs.declared.entry.Actor.TheVariants.{Sched};
 ghost use Rattle.loft_orders.specs.declared.entry.Entry.{Entry};
 ghost use Rattle.loft_orders.specs.declared.entry.Entry.TheVariants as entry;
 ghost use Rattle.loft_sense.specs.Machine.{Code as ByCode, empty};
-ghost use Rattle.loft_history.specs.History.{sent_last};
+ghost use Rattle.loft_history.specs.History.{has_turn, sent_last, waiting};
 ghost use Rattle.loft_seat.specs.Seats.{entries_of, IsNewPass};
 ghost use Rattle.loft_station.specs.Stations.{IsKept, IsReady, HasTaken, IsSame, Turned};
 ghost use Rattle.loft_station.specs.Stations.{AddedTakeAtMost, HasMade, WentOn};
@@ -20,7 +20,7 @@ use loft_orders::{Actor, Orders};
 use loft_seat::{Seat, code_is_well_formed, give, take};
 use loft_sense::Engine;
 use loft_steps::make_instant;
-use loft_world::NoteList;
+use loft_world::{NoteList, World};
 use std::alloc::Global;
 use std::marker::Model;
 use std::sync::Wait;
@@ -222,5 +222,24 @@ impl<E: Engine> Station<E> {
         ensures { result ≡ self.now.refused }
     {
         self.refused
+    }
+
+    /// How many entries the history had when it saw it last: 0 before it has seen any.
+    pub fn saw(&self) -> u64
+        ensures { result ≡ self.now.seat.length }
+    {
+        self.seat.length
+    }
+
+    /// Whether it has a turn to make on what waits for it in this world.
+    pub fn is_due(&self, world: &World) -> bool
+        requires declared { IsScheduler world.now.heads self.now.scheduler }
+        requires works { self.now.failed ≡ false }
+        ensures { (x : CodeProgram) → self.now.seat.pass.knows.code ≡ Some x
+            → result ≡ has_turn (ByCode (automata_of x)) self.now.limits self.now.machine
+            (waiting world.now.heads self.now.scheduler world.now.history) }
+    {
+        let rests = self.engine.resting() && world.left(self.s).is_empty();
+        !self.engine.spent() && !rests
     }
 }

@@ -1,0 +1,8 @@
+//! Phases of a run: each actor makes turns on a thread of its own.
+#![tactic(auto)]
+
+mod alone;
+mod phases;
+
+pub use alone::go_alone;
+pub use phases::{Actors, phase};
