@@ -1,5 +1,5 @@
 -- What a walk gave grows part by part.
-use Rattle.std.proofs.Common.{◌≡◌, ℕ, ◌+◌, ◌≤◌, List, ◌++◌, length, take, drop, Option, Some, None, IfSome, arith, ap, sym, ◌∙◌, length-take, length-drop}
+use Rattle.std.proofs.Common.{◌≡◌, ℕ, ◌+◌, ◌≤◌, List, length, take, drop, Option, Some, None, IfSome, arith, ap, length-take, length-drop}
 use Rattle.std.proofs.Math.Seq.{take-add}
 use Rattle.loft_base.specs.Outside.{IsPart}
 use Rattle.loft_file_walk.specs.Walk.{IsWithin, Grows}

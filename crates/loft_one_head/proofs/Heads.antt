@@ -1,5 +1,6 @@
 -- The lines of choices, as they are written and as they are read.
-use Rattle.std.proofs.Common.{◌≡◌, List, [], ◌∷◌, ◌++◌, map, refl, length-map}
+use Rattle.std.proofs.Common.{◌≡◌, List, [], ◌∷◌, ◌++◌, map, refl}
+use Rattle.std.proofs.lemmas.List.{length-map}
 use Rattle.std.specs.List.{flat_map}
 use Rattle.loft_base.specs.declared.options.RunOptions.{RunOptions}
 use Rattle.loft_tree.specs.declared.heads.Heads.{Heads}
@@ -22,4 +23,4 @@ same_lines h [] = refl
 same_lines h (c ∷ cs) = rw (same_line h c, same_lines h cs) refl
 
 pub one_head : (h : Heads) (o : RunOptions) (cs : List Choice) (r : Report) → r.options ≡ o → r.choices ≡ map (named h) cs → head_text r ≡ text_of (head_lines h o cs)
-one_head h o cs r e f = rw (e, f, length-map (named h) cs, same_lines h cs) refl
+one_head h o cs r e f = rw (e, f, length-map cs (named h), same_lines h cs) refl

@@ -5,7 +5,7 @@ use Rattle.loft_spelling.specs.Sets.{value_after, value_of}
 use Rattle.loft_spelling.specs.Parts.{Left, script}
 use Rattle.loft_shape.specs.Word.{spelling}
 use Rattle.loft_shape.specs.Sets.{set_of, menu, line_words}
-use Rattle.loft_shape.specs.Grammar.{after, thread, after_blocks, after_choice, after_final, after_line, after_order, after_wait, after_reason}
+use Rattle.loft_shape.specs.Grammar.{after, thread, after_line, after_order, after_wait, after_reason}
 use Rattle.loft_shape.specs.Told.{Told, note}
 use Rattle.loft_shape.specs.Report.{grammar}
 use Rattle.loft_shape.specs.declared.word.Word.TheVariants as word

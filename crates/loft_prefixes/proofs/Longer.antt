@@ -5,7 +5,7 @@ use Rattle.std.proofs.lemmas.Bool.Decides.{leb_tells}
 use Rattle.std.specs.Str.{bytes_eq}
 use Rattle.loft_spelling.specs.Sets.{is_prefix}
 use Rattle.loft_spelling.specs.Parts.{Left, script, takes}
-use Rattle.loft_spelling.specs.Reading.{closed, ended, or_end, run, opening}
+use Rattle.loft_spelling.specs.Reading.{closed, ended, or_end, opening}
 use Rattle.loft_spelling.proofs.Sets.{same_bytes, or_cases}
 use Rattle.loft_spelling.proofs.Bytewise.{answer_stops, run_pieces, then_more}
 use Rattle.loft_shape.specs.Sets.{set_of}

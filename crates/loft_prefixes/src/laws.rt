@@ -1,6 +1,6 @@
 //! The laws of prefixes of reports.
 
-ghost use Rattle.std.specs.Prelude.{◌≡◌, ℕ, ◌<◌, ◌≤◌, ◌++◌, List, length};
+ghost use Rattle.std.specs.Prelude.{ℕ, ◌<◌, ◌≤◌, ◌++◌, List, length};
 ghost use Rattle.loft_shape.specs.Told.{Report};
 ghost use Rattle.loft_shape.specs.Report.{Shape, StopsAt, GoesOn};
 

@@ -1,5 +1,5 @@
 -- What was taken of a spelling is a prefix of one.
-use Rattle.std.proofs.Common.{◌≡◌, ℕ, Bool, true, false, List, [], ◌∷◌, ◌++◌, Option, Some, None, Result, Ok, Err, inl, inr, refl, ap, subst}
+use Rattle.std.proofs.Common.{◌≡◌, ℕ, Bool, true, false, List, [], ◌∷◌, ◌++◌, Option, Some, None, Result, Ok, Err, inl, inr, refl, subst}
 use Rattle.loft_spelling.specs.Reading.{later, step, enter, then_run, run, opening}
 use Rattle.loft_spelling.specs.Parts.{Left, parts_begun, parts_whole, parts_next, script, takes}
 use Rattle.loft_shape.specs.Report.{grammar, beginning}

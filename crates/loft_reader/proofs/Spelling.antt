@@ -1,11 +1,11 @@
 -- Reading a whole spelling at once is reading it byte by byte.
-use Rattle.std.proofs.Common.{◌≡◌, ℕ, zero, suc, ◌+◌, ◌-◌, ◌<◌, ◌≤◌, Bool, true, false, List, [], ◌∷◌, ◌++◌, length, get_or, take, drop, drop-cons, Result, Ok, Err, ◌⊎◌, inl, inr, refl, sym, ap, subst, ◌∙◌, append_assoc, length-append, arith}
+use Rattle.std.proofs.Common.{◌≡◌, ℕ, suc, ◌+◌, ◌<◌, ◌≤◌, Bool, true, false, List, [], ◌∷◌, ◌++◌, length, get_or, take, drop, drop-cons, Result, Ok, Err, ◌⊎◌, inl, inr, refl, sym, ap, subst, ◌∙◌, append_assoc, length-append, arith}
 use Rattle.std.proofs.Math.Dec.{leb}
 use Rattle.std.proofs.Math.Seq.{take-suc, take-append-add}
 use Rattle.std.proofs.lemmas.Bool.Decides.{leb_tells}
 use Rattle.std.proofs.lemmas.List.{append-nil, take_all, take-append-le, take-append-drop, length-take}
 use Rattle.loft_spelling.specs.Parts.{parts_begun, script, takes}
-use Rattle.loft_spelling.specs.Reading.{State, later, step, enter, run}
+use Rattle.loft_spelling.specs.Reading.{later, step, enter, run}
 use Rattle.loft_spelling.specs.Sets.{Set}
 use Rattle.loft_spelling.proofs.Sets.{Honest}
 use Rattle.loft_shape.specs.Sets.{set_of}

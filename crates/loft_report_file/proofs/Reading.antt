@@ -1,13 +1,11 @@
 -- What is read of a file grows part by part.
-use Rattle.std.proofs.Common.{◌≡◌, ℕ, ◌+◌, ◌≤◌, ◌<◌, List, [], ◌++◌, length, length-append, take, Option, Some, None, Result, Ok, Err, IfSome, sym, subst, ap, ◌∙◌, arith}
+use Rattle.std.proofs.Common.{◌≡◌, ℕ, ◌+◌, ◌≤◌, ◌<◌, List, [], ◌++◌, length, length-append, Option, Some, None, Err, IfSome, sym, subst, arith}
 use Rattle.std.proofs.lemmas.List.{take_all}
 use Rattle.loft_file_walk.specs.Walk.{count_of, part_of, given, IsWithin, Grows}
 use Rattle.loft_file_walk.specs.declared.walk.FileWalk.{FileWalk}
-use Rattle.loft_shape.specs.Told.{Report}
 use Rattle.loft_shape.specs.Report.{longest}
-use Rattle.loft_reader.specs.Answer.{HasRead, Answers, Verdict}
+use Rattle.loft_reader.specs.Answer.{HasRead, Verdict}
 use Rattle.loft_reader.specs.declared.log.LogReader.{LogReader}
-use Rattle.loft_reader.specs.declared.raw.RawReport.{RawReport}
 use Rattle.loft_reader.specs.declared.error.LogError.{LogError}
 use Rattle.loft_reader.specs.declared.error.LogError.TheVariants.{TooLong}
 

@@ -1,6 +1,5 @@
 //! How many bytes of a text a part takes.
 
-ghost use Rattle.std.specs.Prelude.{◌≡◌};
 ghost use Rattle.loft_lex.specs.Bytes.{is_name_byte};
 ghost use Rattle.loft_spelling.specs.Sets.{is_printed, lines};
 ghost use Rattle.loft_shape.specs.Sets.{makers, names, sign, set_of};

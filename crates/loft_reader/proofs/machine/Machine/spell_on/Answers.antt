@@ -1,4 +1,4 @@
-use Rattle.std.proofs.Common.{◌≡◌, ◌-◌, ◌++◌, take, arith, refl, sym, ap, subst, ◌∙◌}
+use Rattle.std.proofs.Common.{◌≡◌, ◌++◌, take, arith, refl, sym, ap, subst, ◌∙◌}
 use Rattle.loft_shape.specs.Sets.{set_of}
 use Rattle.loft_shape.specs.Grammar.{after}
 use Rattle.loft_shape.specs.Told.{note}
