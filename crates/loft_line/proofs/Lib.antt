@@ -8,3 +8,4 @@ pub mod IdleLemmas
 pub mod EndLemmas
 pub mod ClosingLemmas
 pub mod FirstLemmas
+pub mod RestLemmas

@@ -13,7 +13,8 @@ use Rattle.loft_sense.specs.Instant.{runner_of, closed_wait, stays, has_run, lea
 use Rattle.loft_passes.specs.declared.runner.Runner.{Runner}
 use Rattle.loft_passes.specs.View.{standing_of, linked_of, runners_of, is_held}
 use Rattle.loft_ready.specs.Entered.{wait_of}
-use Rattle.loft_waits.specs.Told.{Told, counts_of, NobodyFrom}
+use Rattle.loft_waits.specs.Told.{counts_of, wait_at, ends_alone}
+use Rattle.loft_sense.specs.Rest.{waits_for_ever}
 use Rattle.loft_line.specs.declared.line.Line.{Line}
 
 -- a thread with the wait that is kept for it, if there is one
@@ -170,3 +171,7 @@ pub record HasClosedAt (p : ℕ) (old new : Line) : Type 0 where
 pub record HasClosed (old new : Line) : Type 0 where
   pub told : new.waits ≡ old.waits
   pub budget : new.budget ≡ old.budget
+
+-- whoever waits for what doesn't end by itself waits for what isn't there
+abbrev pub IsQuiet : Line → Type 0
+IsQuiet l = (i : ℕ) (w : Wait) → wait_at l.waits i ≡ Some w → ends_alone w ≡ false → waits_for_ever w l.waits.ended ≡ true

@@ -4,6 +4,7 @@ ghost use Rattle.std.specs.Prelude.{◌≡◌, ◌<◌, ◌≤◌, ◌+◌, ◌^
 ghost use Rattle.std.specs.List.{flat_map};
 ghost use Rattle.loft_orders.specs.declared.order.Order.TheVariants.{Arrive};
 ghost use Rattle.loft_sense.specs.Instant.{closed as closed_runner, closed_thread, stays, has_run, leavers};
+ghost use Rattle.loft_sense.specs.Rest.{all_rest};
 ghost use Rattle.loft_passes.specs.declared.runner.Runner.{Runner as ARunner};
 ghost use Rattle.loft_passes.specs.View.{runners_of, is_held as is_held_by};
 ghost use Rattle.loft_waits.specs.Told.{closed as closed_told, NobodyFrom};
@@ -42,7 +43,7 @@ fn send(alloc: Global, thread: Thread, to: To, sent: &mut Sents) -> Result<(), N
 }
 
 impl Line {
-    ghost use Rattle.loft_line.specs.Line.{runners_in, standings_in, is_marked, IsLine, IsIdle, HasBegunAt, HasClosedAt, HasClosed};
+    ghost use Rattle.loft_line.specs.Line.{runners_in, standings_in, is_marked, IsLine, IsIdle, HasBegunAt, HasClosedAt, HasClosed, IsQuiet};
 
     /// A copy of the thread at a position, with the wait that is kept for it.
     pub fn thread_at(&self, alloc: Global, pos: usize) -> Result<Thread, NoMemory>
@@ -164,10 +165,20 @@ impl Line {
         ensures sent { OnOk result (sent.new ≡ sent.old ++ leavers (runners_of (runners_in self.old))) }
         ensures told { OnOk result (self.new.waits ≡ closed_told self.old.waits) }
         ensures budget { OnOk result (self.new.budget ≡ self.old.budget) }
+        ensures quiet { OnOk result (IsQuiet self.new) }
     {
         self.waits.close();
         let mut stands = Sequence::new(alloc);
         self.close_marked(alloc, &mut stands, sent)?;
         Ok(stands)
+    }
+
+    /// Whether each linked thread is suspended or waits for ever, where the last call was `close`.
+    pub fn rests(&self) -> bool
+        requires line { IsLine self.now }
+        requires quiet { IsQuiet self.now }
+        ensures { result ≡ all_rest (standings_in (runners_in self.now)) self.now.waits.ended }
+    {
+        !self.waits.any_alone()
     }
 }

@@ -5,6 +5,7 @@ use Rattle.loft_orders.specs.declared.thread.Thread.{Thread}
 use Rattle.loft_waits.specs.Told.{Told}
 use Rattle.loft_line.specs.Line.{with_waits, standings_in, stands_if, leaves_if, IsLine}
 use Rattle.loft_line.proofs.ClosingLemmas.{still_line, closed_standings, closed_stands, closed_leaves}
+use Rattle.loft_line.proofs.RestLemmas.{quiet_closed}
 use Rattle.loft_line.proofs.line.Line.close.Goals as goal
 
 pub close_marked-requires : goal.close_marked-requires
@@ -31,3 +32,6 @@ returns-clause-sent c =
     c.in_ok-close_marked.ensures.sent
     ∙ ap (λ (t : Told). c.args.sent.now ++ flat_map leaves_if (with_waits l.slots.items t.waits)) c.close.ensures
     ∙ ap (λ (s : List Sent). c.args.sent.now ++ s) (closed_leaves l c.requires.line)
+
+pub returns-clause-quiet : goal.returns-clause-quiet
+returns-clause-quiet c = quiet_closed c.args.self.now.waits c.close_marked.new.self.waits c.requires.over (c.in_ok-close_marked.ensures.keeps.told ∙ c.close.ensures)
