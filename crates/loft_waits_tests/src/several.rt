@@ -76,3 +76,23 @@ fn positions_go_and_come(rt: HostRuntime) -> Result<(), Fail> {
     assert_eq!(rt; next(&waits), [Some(0), Some(1), Some(0), Some(0)]);
     Ok(())
 }
+
+/// A wait that is handed over comes back as the closes have lowered it; a copy is like it.
+#[test]
+fn a_wait_comes_back(rt: HostRuntime) -> Result<(), Fail> {
+    let alloc = rt.alloc();
+    let mut waits = free(alloc, 2)?;
+    waits.put(0, Wait::Halt)?;
+    assert!(rt; !waits.any_alone());
+    waits.put(1, Wait::Coop(2))?;
+    assert!(rt; waits.any_alone());
+    if waits.next_after(usize::MAX).is_some() {
+        return Err("somebody can go at the close".into());
+    }
+    waits.close();
+    assert!(rt; matches!(waits.wait(alloc, 1)?, Some(Wait::Coop(1))));
+    assert!(rt; matches!(waits.take(1), Some(Wait::Coop(1))));
+    assert!(rt; !waits.any_alone());
+    assert!(rt; matches!(waits.take(0), Some(Wait::Halt)));
+    Ok(())
+}

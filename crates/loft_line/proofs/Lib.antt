@@ -1,0 +1,11 @@
+pub mod ListLemmas
+pub mod LineLemmas
+pub mod MarkLemmas
+pub mod CloseLemmas
+pub mod BatchLemmas
+pub mod RunLemmas
+pub mod IdleLemmas
+pub mod EndLemmas
+pub mod ClosingLemmas
+pub mod FirstLemmas
+pub mod RestLemmas

@@ -1,0 +1,100 @@
+use Rattle.std.proofs.Common.{◌≡◌, ◌<◌, ◌-◌, ◌++◌, ◌∙◌, ℕ, ap, sym, refl, subst, arith, List, drop, length, length-set, get_or, set, map}
+use Rattle.loft_base.specs.declared.ids.ThreadId.{ThreadId}
+use Rattle.loft_board.specs.Board.{generate_all}
+use Rattle.loft_orders.specs.declared.note.Act.{Act}
+use Rattle.loft_sense.specs.LawWords.{generated_in, ended_in}
+use Rattle.loft_effect.specs.View.{around_of}
+use Rattle.loft_passes.specs.declared.runner.Runner.{Runner}
+use Rattle.loft_waits.specs.Told.{Told}
+use Rattle.loft_ready.proofs.RunLemmas.{told_run, grown, since}
+use Rattle.loft_line.specs.Line.{runners_in, AreMarked, count_present}
+use Rattle.loft_line.proofs.ListLemmas.{length_with, length_line, length_left}
+use Rattle.loft_line.proofs.LineLemmas.{marked_run, present_run}
+use Rattle.loft_line.proofs.RunLemmas.{HasRunSo, taken_there, entered_now, has_run, closes_same, long3, ready_held}
+use Rattle.loft_line.proofs.line.Line.run_at.Given as given
+use Rattle.loft_line.proofs.line.Line.run_at.Goals as goal
+
+pub leave-requires-clause-within : goal.leave-requires-clause-within
+leave-requires-clause-within g c =
+    let l = c.args.self.now in
+    let same = length_with l.slots.items l.waits.waits in
+    let within = c.requires.within in
+    omega (arith, same, within)
+
+pub index_mut-requires : goal.index_mut-requires
+index_mut-requires g c =
+    let l = c.args.self.now in
+    let same = length_with l.slots.items l.waits.waits in
+    let many = c.requires.line.many in
+    let within = c.requires.within in
+    omega (arith, same, many, within)
+
+pub index_mut-runner-requires : goal.index_mut-runner-requires
+index_mut-runner-requires g c =
+    let l = c.args.self.now in
+    let same = length_with l.slots.items l.waits.waits in
+    let within = c.requires.within in
+    let left = length_left l.slots.items c.leave.new.slots.items l.waits.waits c.args.pos (omega (arith, same, within)) c.leave.ensures.slots in
+    omega (arith, same, left, within)
+
+pub enter-requires-clause-within : goal.enter-requires-clause-within
+enter-requires-clause-within g c =
+    let l = c.args.self.now in
+    let same = length_with l.slots.items l.waits.waits in
+    let within = c.requires.within in
+    let left = length_left l.slots.items c.leave.new.slots.items l.waits.waits c.args.pos (omega (arith, same, within)) c.leave.ensures.slots in
+    let long = length-set c.leave.new.slots.items c.args.pos c.run.new.self in
+    omega (arith, same, left, long, within)
+
+did : (g : given.Over) (c : goal.In_ok-enter g)
+    → HasRunSo (g.I.Interpreter.program c.args.interpreter.now) c.args.pos c.args.self.now.slots.items c.enter.new.slots.items c.args.self.now.waits c.enter.new.waits (around_of c.args.around.now) (around_of c.run.new.around)
+did g c =
+    let x = g.I.Interpreter.program c.args.interpreter.now in
+    let l = c.args.self.now in
+    let s0 = l.slots.items in
+    let s1 = c.leave.new.slots.items in
+    let r = c.index_mut-runner.result.now in
+    let n = c.run.new.self in
+    let p = c.args.pos in
+    let a = around_of c.args.around.now in
+    let b = around_of c.run.new.around in
+    let same = length_with s0 l.waits.waits in
+    let has = c.requires.within in
+    let within : p < length s0 = omega (arith, same, has) in
+    let t = told_run x r a b (c.acts_tell_what_was_done.ensures.run x r.thread a (r.bound - r.steps)) c.in_ok-run.ensures.around in
+    let ends = since a.known (ended_in t.more) b.known c.from-2.result.now c.len-known.result c.len-known.ensures t.known (c.from-2.ensures ∙ ap (λ (k : List ThreadId). drop c.len-known.result k) c.as_slice-2.ensures) in
+    let known = t.known ∙ ap (λ (k : List ThreadId). a.known ++ k) (sym ends) in
+    let there = taken_there s0 s1 l.waits.waits p r within c.leave.ensures.slots c.index_mut-runner.ensures.value in
+    record {
+      run = has_run x s0 s1 c.enter.new.slots.items l.waits c.leave.new.waits c.tell_acts.new.waits c.tell_ends.new.waits c.enter.new.waits p r n a b c.from-2.result.now within c.requires.entered c.leave.ensures.slots c.leave.ensures.told c.tell_acts.ensures c.in_ok-tell_ends.ensures c.in_ok-enter.ensures.told c.in_ok-enter.ensures.slots there c.in_ok-run.ensures.linked c.in_ok-run.ensures.around;
+      entered = entered_now x s0 s1 c.enter.new.slots.items l.waits c.leave.new.waits c.tell_acts.new.waits c.tell_ends.new.waits c.enter.new.waits p r n a b c.from-2.result.now within c.requires.entered c.leave.ensures.slots c.leave.ensures.told c.tell_acts.ensures c.in_ok-tell_ends.ensures c.in_ok-enter.ensures.told c.in_ok-enter.ensures.slots known;
+      before = r;
+      there = there;
+      held = ready_held (runners_in l) a l.waits p r c.requires.entered there c.requires.ready;
+      closes = closes_same x s0 s1 c.enter.new.slots.items l.waits c.leave.new.waits c.tell_acts.new.waits c.tell_ends.new.waits c.enter.new.waits p r n a b c.from-2.result.now within c.requires.entered c.leave.ensures.slots c.leave.ensures.told c.tell_acts.ensures c.in_ok-tell_ends.ensures c.in_ok-enter.ensures.told c.in_ok-enter.ensures.slots;
+      long = long3 x s0 s1 c.enter.new.slots.items l.waits c.leave.new.waits c.tell_acts.new.waits c.tell_ends.new.waits c.enter.new.waits p r n a b c.from-2.result.now within c.requires.entered c.leave.ensures.slots c.leave.ensures.told c.tell_acts.ensures c.in_ok-tell_ends.ensures c.in_ok-enter.ensures.told c.in_ok-enter.ensures.slots;
+    }
+
+pub returns-clause-run : goal.returns-clause-run
+returns-clause-run g c = (did g c).run
+
+pub returns-clause-entered : goal.returns-clause-entered
+returns-clause-entered g c = (did g c).entered
+
+pub returns-clause-line : goal.returns-clause-line
+returns-clause-line g c =
+    let l = c.args.self.now in
+    let rs = runners_in l in
+    let p = c.args.pos in
+    let d = did g c in
+    let same = c.requires.line.many ∙ sym (length_with l.slots.items l.waits.waits) in
+    let within : p < length l.ran.items = let has = c.requires.within in omega (arith, same, has) in
+    record {
+      waits = d.entered.waits;
+      many = length-set l.ran.items p 1 ∙ c.requires.line.many ∙ sym d.long;
+      marked = subst (λ (q : List Runner). AreMarked l.budget q (set l.ran.items p 1)) (sym d.run.later_is) (marked_run l.budget rs l.ran.items p d.run.now within c.requires.line.marked);
+      held = c.requires.line.held ∙ sym (ap (λ (q : List Runner). count_present q (set l.ran.items p 1)) d.run.later_is ∙ present_run rs l.ran.items p d.before d.run.now same d.there d.held);
+    }
+
+pub returns-clause-keeps : goal.returns-clause-keeps
+returns-clause-keeps g c = record { budget = refl; closes = (did g c).closes }

@@ -1,0 +1,10 @@
+//! The linked threads of a scheduler, with their waits kept over its instants (docs/SEMANTICS.md, "Waiting lists").
+#![tactic(auto)]
+
+mod close;
+mod line;
+mod marks;
+mod run;
+mod slots;
+
+pub use line::Line;
