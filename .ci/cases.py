@@ -12,6 +12,9 @@ NAME.listing stands for NAME.loft, and in the folder `gen` NAME.words has the wo
 source. Each source in `run` that has a report is compiled, too, and `exec`
 of its listing has to print that report.
 
+In `examples` and `docs/tutorial` NAME.locks is a text with locks, and NAME.loft is what `expand` has to print of it:
+a source like the others, which is run.
+
 In the folder `history` the source is followed by the choices of NAME.choices, one a line, through each of
 FOLLOWERS. A history that hasn't ended has NAME.next in place of an answer, one line: it is followed
 without that choice, and with it.
@@ -29,14 +32,14 @@ import sys
 import tempfile
 
 TOP = pathlib.Path(__file__).resolve().parent.parent
-COMMANDS = ["run", "show", "check", "compile", "bound", "exec", "gen"]
+COMMANDS = ["run", "show", "check", "compile", "bound", "expand", "exec", "gen"]
 ENDINGS = {"exec": ".listing", "gen": ".words"}
 WORDS = TOP / "cases/words"
 TABLE = WORDS / "words.tsv"
 HISTORIES = TOP / "cases/history"
 FOLLOWER = TOP / "crates/loft_follow/out/loft_follow"
 FOLLOWERS = [str(FOLLOWER), f"{FOLLOWER}.by-rattle"]
-STATUSES = {b"source:": 3, b"listing:": 3, b"loft:": 2, b"log:": 4, b"files:": 5}
+STATUSES = {b"source:": 3, b"listing:": 3, b"locks:": 3, b"loft:": 2, b"log:": 4, b"files:": 5}
 SECONDS = 300
 REPEATED = re.compile(rb"([0-9]+) x (.*)")
 NUMBER = re.compile(rb"\{([0-9]*)\}")
@@ -165,6 +168,23 @@ class Listed(Source):
             return ended(program, ["exec", file.name, *self.further()], TOP)
 
 
+class Expanded(Source):
+    """A text with locks beside the source that it stands for."""
+
+    def __init__(self, source):
+        super().__init__(source, "expand")
+
+    def failure(self, program):
+        """Why the case fails, or None."""
+        wanted = self.source.with_suffix(".loft")
+        if not wanted.is_file():
+            return f"there is no {wanted.name}"
+        ran = self.ran(program)
+        if ran.stdout != wanted.read_bytes():
+            return difference(ran.stdout, wanted.read_bytes())
+        return None if ran.returncode == 0 else f"the status is {ran.returncode}, not 0"
+
+
 class Followed(Source):
     """A source of which the history that stands in its report is followed, statement by statement."""
 
@@ -231,6 +251,8 @@ def source_name(file):
     """The name of the source to which a file of a case belongs."""
     if file.parent == HISTORIES and file.suffix in (".choices", ".next"):
         return file.with_suffix(".loft").name
+    if file.suffix == ".locks":
+        return file.with_suffix(".loft").name
     return re.sub(r"\.(args|stdout|stdout\.rule)$", "", file.name)
 
 
@@ -270,6 +292,7 @@ def main(programs):
         return 1
     cases = [(Made if command == "gen" else Source)(it, command) for folder, command in FOLDERS.items() for it in sorted(TOP.glob(f"{folder}/*{ending_of(command)}"))]
     cases += [Listed(it, "run") for it in sorted(TOP.glob("cases/run/*.loft")) if has_report(it)]
+    cases += [Expanded(it) for folder in ("examples", "docs/tutorial") for it in sorted(TOP.glob(f"{folder}/*.locks"))]
     cases += [Row(number, line) for number, line in enumerate(TABLE.read_text().split("\n")[:-1], 1)]
     runs = [(programs, case) for case in cases]
     runs += [(FOLLOWERS, Followed(it, "run")) for it in sorted(TOP.glob("cases/run/*.loft")) if has_report(it)]

@@ -22,7 +22,7 @@ TOP = pathlib.Path(__file__).resolve().parent.parent
 VSCODE = TOP / "editors/vscode"
 VIM = TOP / "editors/vim/syntax/loft.vim"
 LEX = TOP / "crates/loft_lex/src"
-SOURCES = ["cases/*/*.loft", "examples/*.loft", "docs/tutorial/*.loft"]
+SOURCES = ["cases/*/*.loft", "examples/*.loft", "docs/tutorial/*.loft", "examples/*.locks", "docs/tutorial/*.locks"]
 LISTINGS = ["cases/*/*.listing", "cases/compile/*.stdout"]
 SPELLING = re.compile(r'(?:Word|Sign)::\w+ => b"([^"]+)"')
 TOKEN_FAULT = re.compile(rb"source: (bad byte|bad number|long name|long text|open text) at (\d+)\n")

@@ -56,7 +56,7 @@ wants "compile" 0 answer compile "$source"
 mv "$room/answer" "$room/listing"
 input_of() { if [ "$1" = exec ]; then echo "$room/listing"; else echo "$source"; fi; }
 
-for command in run show check compile exec bound; do
+for command in run show check compile exec bound expand; do
     wants "$command, the output is full" 6 full "$command" "$(input_of "$command")"
     wants "$command, a missing file" 5 answer "$command" "$room/missing"
     wrote "$command, a missing file" "$room/fault"
@@ -81,6 +81,7 @@ wrote "a named pipe, compile" "$room/listing"
 wants "a named pipe, exec" 0 answer_of_pipe exec
 wrote "a named pipe, exec" "$report"
 wants "a named pipe, bound" 0 answer_of_pipe bound
+wants "a named pipe, expand" 0 answer_of_pipe expand
 
 # A source of 4 MiB, one that has a byte more, and one of as many bytes that are no tokens.
 { cat "$source"; head -c 4194305 /dev/zero | tr '\0' ' '; } > "$room/blanks"
@@ -105,7 +106,7 @@ modules 'run m0();' > "$room/circle"
 for shape in chain circle; do
     wants "bound, 256 modules in a $shape" 0 answer bound "$room/$shape"
 done
-for command in run show check; do
+for command in run show check expand; do
     for contents in longer zeros; do
         wants "$command, more than 4 MiB: $contents" 3 answer "$command" "$room/$contents"
         wrote "$command, more than 4 MiB: $contents" "$room/too_long"

@@ -7,7 +7,8 @@ A fenced block is one of these:
 - one after a line `<!-- FILE -->`: its lines stand in that file, in this order;
 - one that begins with `$ loft COMMAND SOURCE OPTION ..`: the rest is the stored answer. It lies
   beside the source, or in cases/COMMAND where the source is named without a folder, and its
-  options are those of SOURCE.args. For `gen` it is that of the case in cases/gen with these words.
+  options are those of SOURCE.args. For `gen` it is that of the case in cases/gen with these words,
+  and for a text with locks, NAME.locks, the source NAME.loft that `expand` prints of it.
 
 In the last two a line `..` stands for lines that are left out; all others follow one another.
 
@@ -82,6 +83,9 @@ def ask_answer(command, source, options, quoted):
     """Whether a block is the stored answer of a command."""
     if command == "gen":
         ask_made([source, *options], quoted)
+        return
+    if command == "expand" and source.endswith(".locks"):
+        ask_whole(quoted, lines_of(source[: -len(".locks")] + ".loft"))
         return
     name = source if "/" in source else f"cases/{command}/{source}"
     lines_of(name)

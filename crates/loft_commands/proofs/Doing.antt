@@ -7,8 +7,8 @@ use Rattle.loft_refusal.specs.declared.refusal.Refusal.TheVariants as refusal
 use Rattle.loft_refusal.specs.declared.refusal.Stopped.{Stopped}
 use Rattle.loft_refusal.specs.declared.refusal.Stopped.TheVariants as stopped
 use Rattle.loft_base.specs.declared.options.RunOptions.{RunOptions}
-use Rattle.loft_words.specs.Command.{FileCommand, Run, Exec, Show, Check, Compile, Bound}
-use Rattle.loft_refusal.specs.Input.{Input, ASource, AListing}
+use Rattle.loft_words.specs.Command.{FileCommand, Run, Exec, Show, Check, Compile, Bound, Expand}
+use Rattle.loft_refusal.specs.Input.{Input, ASource, AListing, AnExpansion}
 use Rattle.loft_commands.specs.Written.{Appends, IsPrefix}
 use Rattle.loft_commands.specs.declared.code_run.RunError.{RunError}
 use Rattle.loft_commands.specs.declared.code_run.RunError.TheVariants as run
@@ -17,7 +17,7 @@ use Rattle.loft_commands.specs.RunStops.{stop_of_run}
 use Rattle.loft_refusal.specs.Refusals.{IsTextOf, IsRefusedFor, IsCause}
 use Rattle.loft_commands.specs.Asks.{Asks, Takes}
 use Rattle.loft_commands.specs.Promise.{IsAnswerFor, IsFileAnswer}
-use Rattle.loft_refusal.specs.Found.{IsFault, IsUnlisted}
+use Rattle.loft_refusal.specs.Found.{IsFault, IsUnlisted, IsUnexpanded}
 use Rattle.loft_commands.specs.Doing.{Does, Attempts}
 use Rattle.loft_commands.proofs.Written.{not_begun, part_of, whole_of}
 
@@ -28,11 +28,14 @@ cause_of contents (ASource p) (refusal.Names e) text refused = (ASource p, text,
 cause_of contents (ASource p) (refusal.Links e schedulers) text refused = (ASource p, text, refused)
 cause_of contents (ASource p) (refusal.Listing e) text refused = absurd refused
 cause_of contents (ASource p) (refusal.Code e modules) text refused = absurd refused
+cause_of contents (ASource p) (refusal.Locks e names) text refused = absurd refused
 cause_of contents (AListing c) (refusal.Text e) text refused = absurd refused
 cause_of contents (AListing c) (refusal.Names e) text refused = absurd refused
 cause_of contents (AListing c) (refusal.Links e schedulers) text refused = absurd refused
 cause_of contents (AListing c) (refusal.Listing e) text refused = absurd refused
 cause_of contents (AListing c) (refusal.Code e modules) text refused = (AListing c, text, refused)
+cause_of contents (AListing c) (refusal.Locks e names) text refused = absurd refused
+cause_of contents (AnExpansion p) r text refused = absurd refused
 
 pub does_attempts : {c : FileCommand} {x : Input} {known : Option (List ℕ)} {result : Result (Unit {0}) Stopped} {old new : Option (List ℕ)}
     → ((contents : List ℕ) → known ≡ Some contents → IsTextOf contents x) → Does c x result old new → Attempts c known result old new
@@ -68,6 +71,7 @@ TakesSources (Show file) = Unit {0}
 TakesSources (Check file) = Unit {0}
 TakesSources (Compile file) = Unit {0}
 TakesSources (Bound file) = Unit {0}
+TakesSources (Expand file) = ⊥
 
 asks_text : (c : FileCommand) (contents : List ℕ) (r : Refusal) → TakesSources c → IsFault contents (stopped.Refused r) → Asks c r × IsCause contents r
 asks_text (Run file o) contents (refusal.Text e) is fault = (tt, fault)
@@ -76,10 +80,12 @@ asks_text (Show file) contents (refusal.Text e) is fault = (tt, fault)
 asks_text (Check file) contents (refusal.Text e) is fault = (tt, fault)
 asks_text (Compile file) contents (refusal.Text e) is fault = (tt, fault)
 asks_text (Bound file) contents (refusal.Text e) is fault = (tt, fault)
+asks_text (Expand file) contents (refusal.Text e) is fault = absurd is
 asks_text c contents (refusal.Names e) is fault = absurd fault
 asks_text c contents (refusal.Links e schedulers) is fault = absurd fault
 asks_text c contents (refusal.Listing e) is fault = absurd fault
 asks_text c contents (refusal.Code e modules) is fault = absurd fault
+asks_text c contents (refusal.Locks e names) is fault = absurd fault
 
 -- there is no program in the file, and nothing was written
 pub unread_attempts : (c : FileCommand) (known : Option (List ℕ)) (e : Stopped) (old : Option (List ℕ)) → TakesSources c
@@ -93,12 +99,27 @@ asks_code file o contents (refusal.Names e) fault = absurd fault
 asks_code file o contents (refusal.Links e schedulers) fault = absurd fault
 asks_code file o contents (refusal.Listing e) fault = (tt, fault)
 asks_code file o contents (refusal.Code e modules) (c, text, invalid) = (tt, (AListing c, text, invalid))
+asks_code file o contents (refusal.Locks e names) fault = absurd fault
 
 -- there is no valid listing in it
 pub unlisted_attempts : (file : List ℕ) (o : RunOptions) (known : Option (List ℕ)) (e : Stopped) (old : Option (List ℕ))
     → ((contents : List ℕ) → known ≡ Some contents → IsUnlisted contents e) → Attempts (Exec file o) known (Err e) old old
 unlisted_attempts file o known e old fault = stopped_attempts (Exec file o) known e old
     (λ contents r k same. asks_code file o contents r (subst (IsUnlisted contents) same (fault contents k)))
+
+asks_expansion : (file : List ℕ) (contents : List ℕ) (r : Refusal) → IsUnexpanded contents (stopped.Refused r) → Asks (Expand file) r × IsCause contents r
+asks_expansion file contents (refusal.Text e) fault = absurd fault
+asks_expansion file contents (refusal.Names e) fault = absurd fault
+asks_expansion file contents (refusal.Links e schedulers) fault = absurd fault
+asks_expansion file contents (refusal.Listing e) fault = absurd fault
+asks_expansion file contents (refusal.Code e modules) fault = absurd fault
+asks_expansion file contents (refusal.Locks e names) fault = (tt, fault)
+
+-- it is a text with locks that stands for no program
+pub unexpanded_attempts : (file : List ℕ) (known : Option (List ℕ)) (e : Stopped) (old : Option (List ℕ))
+    → ((contents : List ℕ) → known ≡ Some contents → IsUnexpanded contents e) → Attempts (Expand file) known (Err e) old old
+unexpanded_attempts file known e old fault = stopped_attempts (Expand file) known e old
+    (λ contents r k same. asks_expansion file contents r (subst (IsUnexpanded contents) same (fault contents k)))
 
 ok_is_no_stop : {P : Type 0} (result : Result (Unit {0}) Stopped) → result ≡ Ok tt → result ≡ Err stopped.SinkFault ⊎ result ≡ Err stopped.NoMemory → P
 ok_is_no_stop result is (inl e) = absurd cc

@@ -16,8 +16,8 @@ use Rattle.loft_history.specs.Report.{head_lines, report}
 use Rattle.loft_translation.specs.Compiled.{compiled}
 use Rattle.loft_listing.specs.Listing.{listing_text}
 use Rattle.loft_bound.specs.BoundText.{IsBoundText}
-use Rattle.loft_words.specs.Command.{FileCommand, Run, Exec, Show, Check, Compile, Bound}
-use Rattle.loft_refusal.specs.Input.{Input, ASource, AListing}
+use Rattle.loft_words.specs.Command.{FileCommand, Run, Exec, Show, Check, Compile, Bound, Expand}
+use Rattle.loft_refusal.specs.Input.{Input, ASource, AListing, AnExpansion}
 use Rattle.loft_commands.specs.Written.{IsLine}
 use Rattle.loft_refusal.specs.Refusals.{IsTextOf}
 use Rattle.loft_commands.specs.Asks.{Takes}
@@ -46,6 +46,7 @@ IsSourceAnswer (Show file) p text = text ≡ Canon p
 IsSourceAnswer (Check file) p text = IsLine (codes "ok") text
 IsSourceAnswer (Compile file) p text = text ≡ listing_text (compiled (resolved_of (numbered p)))
 IsSourceAnswer (Bound file) p text = IsBoundText (numbered p) text
+IsSourceAnswer (Expand file) p text = ⊥
 
 -- and of code: the report of a run by its operations
 abbrev pub IsCodeAnswer : FileCommand → Automata → List ℕ → Type 0
@@ -55,10 +56,22 @@ IsCodeAnswer (Show file) c text = ⊥
 IsCodeAnswer (Check file) c text = ⊥
 IsCodeAnswer (Compile file) c text = ⊥
 IsCodeAnswer (Bound file) c text = ⊥
+IsCodeAnswer (Expand file) c text = ⊥
+
+-- and of a text with locks: the canonical text of the program that it stands for
+abbrev pub IsExpansionAnswer : FileCommand → Source → List ℕ → Type 0
+IsExpansionAnswer (Run file o) p text = ⊥
+IsExpansionAnswer (Exec file o) p text = ⊥
+IsExpansionAnswer (Show file) p text = ⊥
+IsExpansionAnswer (Check file) p text = ⊥
+IsExpansionAnswer (Compile file) p text = ⊥
+IsExpansionAnswer (Bound file) p text = ⊥
+IsExpansionAnswer (Expand file) p text = text ≡ Canon p
 
 abbrev pub IsAnswerText : FileCommand → Input → List ℕ → Type 0
 IsAnswerText k (ASource p) text = IsSourceAnswer k p text
 IsAnswerText k (AListing c) text = IsCodeAnswer k c text
+IsAnswerText k (AnExpansion p) text = IsExpansionAnswer k p text
 
 -- the command can be done for what was read, and this is the answer
 abbrev pub IsAnswerFor : FileCommand → Input → List ℕ → Type 0

@@ -9,7 +9,7 @@ ghost use Rattle.loft_commands.specs.Doing.{Attempts};
 
 use crate::command::{check, exec, list_code, run, show_text, tell_bounds};
 use loft_base::{Files, Gate, Sink};
-use loft_refusal::{Stopped, read_code, read_program};
+use loft_refusal::{Stopped, expand_program, read_code, read_program};
 use loft_words::FileCommand;
 use std::alloc::Global;
 use std::sync::Wait;
@@ -60,6 +60,10 @@ pub fn attempt<R: Threads + Wait + Sync, F: Files, S: Sink, G: Gate>(
         FileCommand::Bound(file) => {
             let program = read_program(alloc, files, file)?;
             tell_bounds(alloc, program, sink)
+        }
+        FileCommand::Expand(file) => {
+            let program = expand_program(alloc, files, file)?;
+            show_text(alloc, &program, sink)
         }
     }
 }

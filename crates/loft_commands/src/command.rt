@@ -9,10 +9,10 @@ ghost use Rattle.loft_code.specs.View.{automata_of};
 ghost use Rattle.loft_sense.specs.Machine.{Tree};
 ghost use Rattle.loft_translation.specs.Compiled.{compiled};
 ghost use Rattle.loft_listing.specs.Listing.{listing_text};
-ghost use Rattle.loft_words.specs.Command.{Run, Exec, Show, Check, Compile, Bound};
+ghost use Rattle.loft_words.specs.Command.{Run, Exec, Show, Check, Compile, Bound, Expand};
 ghost use Rattle.loft_base.specs.Options.{AreInRange};
 ghost use Rattle.loft_commands.specs.Written.{Appends, IsPrefix};
-ghost use Rattle.loft_refusal.specs.Input.{ASource, AListing};
+ghost use Rattle.loft_refusal.specs.Input.{ASource, AListing, AnExpansion};
 ghost use Rattle.loft_commands.specs.Promise.{IsReport};
 ghost use Rattle.loft_commands.specs.Doing.{Does};
 
@@ -149,9 +149,11 @@ pub fn tell_bounds<S: Sink>(alloc: Global, program: Program, sink: &mut S) -> Re
     Ok(())
 }
 
-/// `show`: the canonical text.
+/// `show`: the canonical text; and `expand`: that of the program that a text with locks stands for.
 pub fn show_text<S: Sink>(alloc: Global, program: &Program, sink: &mut S) -> Result<(), Stopped>
     ensures does { (file : List ℕ) → Does (Show file) (ASource (source_of program.now)) result
+        (S.written sink.old) (S.written sink.new) }
+    ensures expands { (file : List ℕ) → Does (Expand file) (AnExpansion (source_of program.now)) result
         (S.written sink.old) (S.written sink.new) }
     ensures sink_fault { IsErrOf result Stopped.SinkFault → Rose (S.faults sink.old) (S.faults sink.new) }
     ensures never_falls { S.faults sink.old ≤ S.faults sink.new }

@@ -23,14 +23,19 @@ end
 start A.m();
 ";
 
+/// A text with a lock.
+pub const WITH_LOCK: &[u8] =
+    b"scheduler A; lock l in A; module m() in A lock l; print \"one\"; unlock l; end start A.m();";
+
 /// Each command that reads a file, with the contents of it.
-pub static COMMANDS: [(&str, &[u8]); 6] = [
+pub static COMMANDS: [(&str, &[u8]); 7] = [
     ("run a", TWO_PRINTS),
     ("exec a", LISTING),
     ("show a", TWO_PRINTS),
     ("check a", TWO_PRINTS),
     ("compile a", TWO_PRINTS),
     ("bound a", TWO_PRINTS),
+    ("expand a", WITH_LOCK),
 ];
 
 /// The words of a command, which stand with a blank between them.

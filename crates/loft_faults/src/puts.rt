@@ -61,7 +61,7 @@ fn puts<R: Threads + Wait + Sync + AllocGlobal>(
 }
 
 /// How many lines the answer of each command has.
-static LINES: [u64; 6] = [21, 21, 7, 1, 9, 1];
+static LINES: [u64; 7] = [21, 21, 7, 1, 9, 1, 22];
 
 /// Each line is a put, and nothing is put after the one that fails.
 #[test]

@@ -7,3 +7,5 @@ pub data Input : Type 0 where
   ASource : (p : Source) → Input
   -- a listing, of this code
   AListing : (c : Automata) → Input
+  -- a text with locks, which stands for this program
+  AnExpansion : (p : Source) → Input

@@ -1,13 +1,13 @@
 -- Why contents are refused, and the line that says so (docs/COMMANDS.md, "Fault lines").
-use Rattle.std.specs.Prelude.{◌≡◌, ℕ, ◌<◌, ◌≤◌, ◌⊎◌, List, [], ◌++◌, length, map, codes, slice_get, unwrap_or}
+use Rattle.std.specs.Prelude.{◌≡◌, ℕ, ◌<◌, ◌≤◌, ◌⊎◌, List, [], ◌++◌, length, codes, slice_get, unwrap_or}
 use Rattle.std.specs.Fmt.{decimal}
+use Rattle.loft_base.specs.declared.ids.ModuleId.{ModuleId}
 use Rattle.loft_lex.specs.declared.TheConstants.{MAX_TEXT_LEN}
 use Rattle.loft_lex.specs.declared.token.LexError.{LexError}
 use Rattle.loft_lex.specs.declared.token.LexError.TheVariants as lexical
 use Rattle.loft_tree.specs.declared.heads.Place.{Place}
 use Rattle.loft_tree.specs.declared.heads.Place.TheVariants as place
 use Rattle.loft_tree.specs.Source.{Source}
-use Rattle.loft_tree.specs.declared.heads.Heads.{Heads}
 use Rattle.loft_scopes.specs.declared.error.NameError.{NameError}
 use Rattle.loft_scopes.specs.declared.error.NameError.TheVariants as name
 use Rattle.loft_scopes.specs.Faults.{NameFault, NamesFit}
@@ -28,7 +28,11 @@ use Rattle.loft_draft.specs.declared.draft.TheConstants.{MAX_LISTING_LEN}
 use Rattle.loft_reading.specs.declared.error.ListError.{ListError}
 use Rattle.loft_reading.specs.declared.error.ListError.TheVariants as list
 use Rattle.loft_reading.specs.Lists.{Lists, LineFault}
-use Rattle.loft_refusal.specs.Input.{Input, ASource, AListing}
+use Rattle.loft_expansion.specs.Expansion.{IsExpansion}
+use Rattle.loft_mutex.specs.declared.error.MutexError.{MutexError}
+use Rattle.loft_mutex.specs.declared.error.MutexError.TheVariants as locks
+use Rattle.loft_mutex.specs.Refusing.{IsErrorOf, AreNamesFor, module_names}
+use Rattle.loft_refusal.specs.Input.{Input, ASource, AListing, AnExpansion}
 use Rattle.loft_refusal.specs.declared.refusal.Refusal.{Refusal}
 use Rattle.loft_refusal.specs.declared.refusal.Refusal.TheVariants as refusal
 
@@ -99,6 +103,23 @@ code_line names (code.BadCount at) = operation_line names at
 code_line names (code.KindMismatch at) = operation_line names at
 code_line names code.NoMemory = []
 
+-- a line of a lock and a module, each after its words; the modules have these names
+abbrev pub lock_in_module : List (List ℕ) → List ℕ → List ℕ → List ℕ → ModuleId → List ℕ
+lock_in_module names front lock between m = front ++ (lock ++ (between ++ unwrap_or (slice_get names m.0) []))
+
+-- the line of a text with locks that stands for no program; what it tells by number has these names; out of memory has none
+abbrev pub lock_line : List (List ℕ) → MutexError → List ℕ
+lock_line names locks.TooLong = codes "source: too long"
+lock_line names (locks.Lex e) = lexical_line e
+lock_line names (locks.LongLock at) = codes "locks: long name at " ++ decimal at
+lock_line names (locks.Reserved at) = codes "locks: name at " ++ decimal at
+lock_line names (locks.Parse e) = text_line e
+lock_line names (locks.Names e) = name_line e
+lock_line names (locks.Place e) = link_line names e
+lock_line names (locks.Pair m lock) = lock_in_module names (codes "locks: pair of ") lock (codes " in ") m
+lock_line names (locks.Leaves m lock) = lock_in_module names (codes "locks: ") lock (codes " left in ") m
+lock_line names locks.NoMemory = []
+
 -- the line of a refusal
 abbrev pub line_of : Refusal → List ℕ
 line_of (refusal.Text e) = text_line e
@@ -106,6 +127,7 @@ line_of (refusal.Names e) = name_line e
 line_of (refusal.Links e schedulers) = link_line schedulers e
 line_of (refusal.Listing e) = listing_line e
 line_of (refusal.Code e modules) = code_line modules e
+line_of (refusal.Locks e names) = lock_line names e
 
 -- ---- causes
 
@@ -121,9 +143,7 @@ IsUnwell p (refusal.Names e) = NameFault p e
 IsUnwell p (refusal.Links e schedulers) = NamesFit p × PlaceFault (numbered p) e × (schedulers ≡ (numbered p).heads.schedulers)
 IsUnwell p (refusal.Listing e) = ⊥
 IsUnwell p (refusal.Code e modules) = ⊥
-
-abbrev pub module_names : Heads → List (List ℕ)
-module_names h = map (λ m. m.name) h.modules
+IsUnwell p (refusal.Locks e names) = ⊥
 
 -- why code is refused
 abbrev pub IsInvalid : Automata → Refusal → Type 0
@@ -132,11 +152,13 @@ IsInvalid c (refusal.Names e) = ⊥
 IsInvalid c (refusal.Links e schedulers) = ⊥
 IsInvalid c (refusal.Listing e) = ⊥
 IsInvalid c (refusal.Code e modules) = CodeFault c e × (modules ≡ module_names c.heads)
+IsInvalid c (refusal.Locks e names) = ⊥
 
 -- why a program or code is refused
 abbrev pub IsRefusedFor : Input → Refusal → Type 0
 IsRefusedFor (ASource p) r = IsUnwell p r
 IsRefusedFor (AListing c) r = IsInvalid c r
+IsRefusedFor (AnExpansion p) r = ⊥
 
 -- the fault of the contents: they are too long, or else the fault of their text
 abbrev pub ContentsFault : List ℕ → ParseError → Type 0
@@ -162,6 +184,11 @@ pub record IsListingOf (contents : List ℕ) (c : Automata) : Type 0 where
 abbrev pub IsTextOf : List ℕ → Input → Type 0
 IsTextOf contents (ASource p) = IsSourceOf contents p
 IsTextOf contents (AListing c) = IsListingOf contents c
+IsTextOf contents (AnExpansion p) = IsExpansion contents p
+
+-- why contents that are to be a text with locks stand for no program, and the names of what is told by number
+abbrev pub LocksFault : List ℕ → MutexError → List (List ℕ) → Type 0
+LocksFault contents e names = IsErrorOf contents e × AreNamesFor contents names e
 
 -- what the contents say is refused for this
 abbrev pub InputRefused : List ℕ → Refusal → Type 0
@@ -174,3 +201,4 @@ IsCause contents (refusal.Names e) = InputRefused contents (refusal.Names e)
 IsCause contents (refusal.Links e schedulers) = InputRefused contents (refusal.Links e schedulers)
 IsCause contents (refusal.Listing e) = ListingFault contents e
 IsCause contents (refusal.Code e modules) = InputRefused contents (refusal.Code e modules)
+IsCause contents (refusal.Locks e names) = LocksFault contents e names

@@ -4,6 +4,7 @@ ghost use Rattle.std.specs.Prelude.{◌≡◌, [], ◌∷◌, ◌++◌, true, If
 ghost use Rattle.std.specs.Fmt.{decimal};
 ghost use Rattle.loft_refusal.specs.Refusals.{lexical_line, text_line, name_line, place_text, two_places, link_line, listing_line, operation_line, code_line, line_of};
 
+use crate::lock_line::lock_line;
 use crate::refusal::Refusal;
 use loft_base::{ModuleId, NoMemory, Out};
 use loft_code::{CodeError, OpAt};
@@ -16,7 +17,7 @@ use loft_tree::{Names, Place};
 use std::alloc::Global;
 
 /// The line of a lexical fault, with its line feed. `NoMemory` where it is out of memory, or the fault is that.
-fn lexical_line(alloc: Global, fault: &LexError) -> Result<String, NoMemory>
+pub fn lexical_line(alloc: Global, fault: &LexError) -> Result<String, NoMemory>
     ensures { IfOk result (λ line. string_bytes line ≡ lexical_line fault.now ++ 10 ∷ []) }
 {
     let line = match fault {
@@ -31,7 +32,7 @@ fn lexical_line(alloc: Global, fault: &LexError) -> Result<String, NoMemory>
 }
 
 /// The line of a fault of a text, with its line feed. `NoMemory` where it is out of memory, or the fault is that.
-fn text_line(alloc: Global, fault: &ParseError) -> Result<String, NoMemory>
+pub fn text_line(alloc: Global, fault: &ParseError) -> Result<String, NoMemory>
     ensures { IfOk result (λ line. string_bytes line ≡ text_line fault.now ++ 10 ∷ []) }
 {
     let line = match fault {
@@ -63,7 +64,7 @@ fn two_numbers(
 
 /// The line of a fault of names and kinds, with its line feed. `NoMemory` where it is out of memory, or the
 /// fault is that.
-fn name_line(alloc: Global, fault: &NameError) -> Result<String, NoMemory>
+pub fn name_line(alloc: Global, fault: &NameError) -> Result<String, NoMemory>
     ensures { IfOk result (λ line. string_bytes line ≡ name_line fault.now ++ 10 ∷ []) }
 {
     let line = match fault {
@@ -131,7 +132,7 @@ fn two_places(
 }
 
 /// The line of a fault of links, with its line feed. `NoMemory` where it is out of memory, or the fault is that.
-fn link_line(alloc: Global, schedulers: &Names, fault: &PlaceError) -> Result<Vec<u8>, NoMemory>
+pub fn link_line(alloc: Global, schedulers: &Names, fault: &PlaceError) -> Result<Vec<u8>, NoMemory>
     ensures { IfOk result (λ line. line.items ≡ link_line schedulers.now fault.now ++ 10 ∷ []) }
 {
     match fault {
@@ -183,7 +184,7 @@ fn listing_line(alloc: Global, fault: &ListError) -> Result<String, NoMemory>
 }
 
 /// The name of the module with this number.
-fn module_name(modules: &Names, module: ModuleId) -> &[u8]
+pub fn module_name(modules: &Names, module: ModuleId) -> &[u8]
     ensures { result.now ≡ unwrap_or (slice_get modules.now «module».0) [] }
 {
     match modules.as_slice().get(module.0 as usize) {
@@ -232,6 +233,7 @@ impl Refusal {
             Refusal::Links { fault, schedulers } => link_line(alloc, schedulers, fault),
             Refusal::Listing(fault) => Ok(listing_line(alloc, fault)?.into_bytes()),
             Refusal::Code { fault, modules } => code_line(alloc, modules, fault),
+            Refusal::Locks { fault, names } => lock_line(alloc, names, fault),
         }
     }
 }

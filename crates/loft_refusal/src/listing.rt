@@ -4,28 +4,17 @@ ghost use Rattle.std.specs.Prelude.{◌≡◌, ◌≤◌, ℕ, List, Some, lengt
 ghost use Rattle.loft_base.specs.Outside.{Rose};
 ghost use Rattle.loft_code.specs.View.{automata_of};
 ghost use Rattle.loft_draft.specs.declared.draft.TheConstants.{MAX_LISTING_LEN};
-ghost use Rattle.loft_refusal.specs.Refusals.{IsListingOf, module_names};
+ghost use Rattle.loft_refusal.specs.Refusals.{IsListingOf};
 ghost use Rattle.loft_refusal.specs.Found.{IsUnlisted};
 ghost use Rattle.loft_refusal.specs.Stops.{stop_of_listing_file};
 
 use crate::refusal::{Refusal, Stopped};
-use loft_base::{FileError, Files, NoMemory, Sequence, read_whole};
+use loft_base::{FileError, Files, read_whole};
 use loft_code::{Code, validate};
 use loft_draft::MAX_LISTING_LEN;
+use loft_mutex::module_names;
 use loft_reading::{ListError, read};
-use loft_tree::{Heads, Names};
 use std::alloc::Global;
-
-/// The names of the modules, by their numbers.
-fn module_names(alloc: Global, heads: &Heads) -> Result<Names, NoMemory>
-    ensures { IfOk result (λ names. names ≡ module_names heads.now) }
-{
-    let mut names = Sequence::new(alloc);
-    for module in heads.modules.as_slice() {
-        names.push(Sequence::from_slice(alloc, module.name.as_slice())?)?;
-    }
-    Ok(names)
-}
 
 /// The valid code of a listing; else why there is none.
 fn code_in(alloc: Global, text: &[u8]) -> Result<Code, Stopped>

@@ -1,7 +1,8 @@
-//! Why a source or a listing is refused, and what else stops a command.
+//! Why a source, a listing or a text with locks is refused, and what else stops a command.
 
 use loft_base::{Failed, FileError, NoMemory, WriteError};
 use loft_code::CodeError;
+use loft_mutex::MutexError;
 use loft_parse::ParseError;
 use loft_place::PlaceError;
 use loft_reading::ListError;
@@ -9,7 +10,7 @@ use loft_scopes::NameError;
 use loft_tree::Names;
 use std::alloc::AllocError;
 
-/// Why a source or a listing is refused.
+/// Why a source, a listing or a text with locks is refused.
 #[derive(Drop)]
 pub enum Refusal {
     /// It is the text of no program.
@@ -28,12 +29,18 @@ pub enum Refusal {
         fault: CodeError,
         modules: Names,
     },
+    /// It is a text with locks that stands for no program; the names of what the fault tells by number: of schedulers with
+    /// `Place`, of modules with `Pair` and `Leaves`.
+    Locks {
+        fault: MutexError,
+        names: Names,
+    },
 }
 
 /// What stops a command before its answer is whole.
 #[derive(Drop)]
 pub enum Stopped {
-    /// The source or listing is refused; nothing was written.
+    /// What the file has is refused; nothing was written.
     Refused(Refusal),
     /// A file could not be read; nothing was written.
     FileFault,

@@ -1,5 +1,5 @@
 -- What is taken isn't refused.
-use Rattle.std.proofs.Common.{◌≡◌, ℕ, List, inl, inr, subst, arith}
+use Rattle.std.proofs.Common.{◌≡◌, ℕ, List, inl, inr, subst, arith, Ok, Err}
 use Rattle.loft_tree.specs.Source.{Source}
 use Rattle.loft_tree.specs.NamedTree.{NamedProgram}
 use Rattle.loft_scopes.specs.declared.error.NameError.{NameError}
@@ -15,14 +15,16 @@ use Rattle.loft_code.specs.Operations.{Automata}
 use Rattle.loft_code.specs.Valid.{Valid, CodeFault}
 use Rattle.loft_reading.specs.declared.error.ListError.{ListError}
 use Rattle.loft_reading.specs.Lists.{Lists, LineFault}
+use Rattle.loft_expansion.specs.Expansion.{IsExpansion}
+use Rattle.loft_expansion.specs.Refusals.{IsRefused, Refusal as LocksRefusal}
 use Rattle.loft_refusal.specs.declared.refusal.Refusal.{Refusal}
 use Rattle.loft_refusal.specs.declared.refusal.Refusal.TheVariants as refusal
-use Rattle.loft_words.specs.Command.{FileCommand, Run, Exec, Show, Check, Compile, Bound}
-use Rattle.loft_refusal.specs.Input.{Input, ASource, AListing}
+use Rattle.loft_words.specs.Command.{FileCommand, Run, Exec, Show, Check, Compile, Bound, Expand}
+use Rattle.loft_refusal.specs.Input.{Input, ASource, AListing, AnExpansion}
 use Rattle.loft_refusal.specs.Refusals.{IsTextOf, IsSourceOf, IsListingOf, Well, IsCause}
-use Rattle.loft_commands.specs.Asks.{Asks, Takes, asks_source, asks_well, asks_listing}
+use Rattle.loft_commands.specs.Asks.{Asks, Takes, asks_source, asks_well, asks_listing, asks_locks}
 
--- a text, names, links, a listing and its code have one answer
+-- a text, names, links, a listing and its code, and a text with locks have one answer
 pub record Decided : Type 0 where
   pub one : (text : List ℕ) (p q : Source) → Reads text p → Reads text q → p ≡ q
   pub texts : (text : List ℕ) (p : Source) (e : ParseError) → Reads text p → SourceFault text e → ⊥
@@ -31,6 +33,11 @@ pub record Decided : Type 0 where
   pub codes : (text : List ℕ) (a c : Automata) → Lists text a → Lists text c → a ≡ c
   pub lines : (text : List ℕ) (c : Automata) (n : ℕ) → Lists text c → LineFault text n → ⊥
   pub valid : (c : Automata) (e : CodeError) → Valid c → CodeFault c e → ⊥
+  pub locks : (text : List ℕ) (p : Source) (r : LocksRefusal) → IsExpansion text p → IsRefused text r → ⊥
+
+-- what comes to a program isn't refused
+pub never_both : {A E : Type 0} (a : A) (e : E) → Ok a ≡ Err e → ⊥
+never_both a e same = cc
 
 -- ---- sources
 
@@ -46,11 +53,13 @@ well_named : (d : Decided) (contents : List ℕ) (p : Source) (e : NameError) �
 well_named d contents p e text well (ASource q, other, fault) =
     d.names q e (subst NamesFit (same_program d contents p q text other) well.names) fault
 well_named d contents p e text well (AListing c, other, fault) = absurd fault
+well_named d contents p e text well (AnExpansion q, other, fault) = absurd fault
 
 well_linked : (d : Decided) (contents : List ℕ) (p : Source) (e : PlaceError) (schedulers : List (List ℕ)) → IsSourceOf contents p → Well p → IsCause contents (refusal.Links e schedulers) → ⊥
 well_linked d contents p e schedulers text well (ASource q, other, (fit, fault, names)) =
     d.links (numbered q) e (subst (λ (x : Source). IsPlaced (numbered x)) (same_program d contents p q text other) well.links) fault
 well_linked d contents p e schedulers text well (AListing c, other, fault) = absurd fault
+well_linked d contents p e schedulers text well (AnExpansion q, other, fault) = absurd fault
 
 -- a source whose names and links are correct, and one that is only shown
 pub well_taken : (d : Decided) (contents : List ℕ) (p : Source) (r : Refusal) → IsSourceOf contents p → Well p → asks_well r → IsCause contents r → ⊥
@@ -59,6 +68,7 @@ well_taken d contents p (refusal.Names e) text well asks cause = well_named d co
 well_taken d contents p (refusal.Links e schedulers) text well asks cause = well_linked d contents p e schedulers text well cause
 well_taken d contents p (refusal.Listing e) text well asks cause = absurd asks
 well_taken d contents p (refusal.Code e modules) text well asks cause = absurd asks
+well_taken d contents p (refusal.Locks e names) text well asks cause = absurd asks
 
 pub any_taken : (d : Decided) (contents : List ℕ) (p : Source) (r : Refusal) → IsSourceOf contents p → asks_source r → IsCause contents r → ⊥
 any_taken d contents p (refusal.Text e) text asks cause = read_text d contents p e text cause
@@ -66,6 +76,7 @@ any_taken d contents p (refusal.Names e) text asks cause = absurd asks
 any_taken d contents p (refusal.Links e schedulers) text asks cause = absurd asks
 any_taken d contents p (refusal.Listing e) text asks cause = absurd asks
 any_taken d contents p (refusal.Code e modules) text asks cause = absurd asks
+any_taken d contents p (refusal.Locks e names) text asks cause = absurd asks
 
 -- ---- listings
 
@@ -86,19 +97,41 @@ valid_taken d contents c (refusal.Listing e) text valid asks cause = read_listin
 valid_taken d contents c (refusal.Code e modules) text valid asks (ASource p, other, refused) = absurd refused
 valid_taken d contents c (refusal.Code e modules) text valid asks (AListing a, other, refused) =
     d.valid a e (subst Valid (same_code d contents c a text other) valid) refused.0
+valid_taken d contents c (refusal.Code e modules) text valid asks (AnExpansion p, other, refused) = absurd refused
+valid_taken d contents c (refusal.Locks e names) text valid asks cause = absurd asks
+
+-- ---- texts with locks
+
+-- one that stands for a program isn't refused
+pub expansion_taken : (d : Decided) (contents : List ℕ) (p : Source) (r : Refusal) → IsExpansion contents p → asks_locks r → IsCause contents r → ⊥
+expansion_taken d contents p (refusal.Text e) stands asks cause = absurd asks
+expansion_taken d contents p (refusal.Names e) stands asks cause = absurd asks
+expansion_taken d contents p (refusal.Links e schedulers) stands asks cause = absurd asks
+expansion_taken d contents p (refusal.Listing e) stands asks cause = absurd asks
+expansion_taken d contents p (refusal.Code e modules) stands asks cause = absurd asks
+expansion_taken d contents p (refusal.Locks e names) stands asks ((r, is, refused), named) = d.locks contents p r stands refused
 
 -- ---- commands
 
 pub taken_not_refused : (d : Decided) (c : FileCommand) (contents : List ℕ) (x : Input) (r : Refusal) → IsTextOf contents x → Takes c x → Asks c r → IsCause contents r → ⊥
 taken_not_refused d (Run file o) contents (ASource p) r text takes asks cause = well_taken d contents p r text takes asks cause
 taken_not_refused d (Run file o) contents (AListing a) r text takes asks cause = absurd takes
+taken_not_refused d (Run file o) contents (AnExpansion p) r text takes asks cause = absurd takes
 taken_not_refused d (Exec file o) contents (ASource p) r text takes asks cause = absurd takes
 taken_not_refused d (Exec file o) contents (AListing a) r text takes asks cause = valid_taken d contents a r text takes asks cause
+taken_not_refused d (Exec file o) contents (AnExpansion p) r text takes asks cause = absurd takes
 taken_not_refused d (Show file) contents (ASource p) r text takes asks cause = any_taken d contents p r text asks cause
 taken_not_refused d (Show file) contents (AListing a) r text takes asks cause = absurd takes
+taken_not_refused d (Show file) contents (AnExpansion p) r text takes asks cause = absurd takes
 taken_not_refused d (Check file) contents (ASource p) r text takes asks cause = well_taken d contents p r text takes asks cause
 taken_not_refused d (Check file) contents (AListing a) r text takes asks cause = absurd takes
+taken_not_refused d (Check file) contents (AnExpansion p) r text takes asks cause = absurd takes
 taken_not_refused d (Compile file) contents (ASource p) r text takes asks cause = well_taken d contents p r text takes asks cause
 taken_not_refused d (Compile file) contents (AListing a) r text takes asks cause = absurd takes
+taken_not_refused d (Compile file) contents (AnExpansion p) r text takes asks cause = absurd takes
 taken_not_refused d (Bound file) contents (ASource p) r text takes asks cause = well_taken d contents p r text takes asks cause
 taken_not_refused d (Bound file) contents (AListing a) r text takes asks cause = absurd takes
+taken_not_refused d (Bound file) contents (AnExpansion p) r text takes asks cause = absurd takes
+taken_not_refused d (Expand file) contents (ASource p) r text takes asks cause = absurd takes
+taken_not_refused d (Expand file) contents (AListing a) r text takes asks cause = absurd takes
+taken_not_refused d (Expand file) contents (AnExpansion p) r text takes asks cause = expansion_taken d contents p r text asks cause

@@ -18,6 +18,7 @@ use crate::status::Status;
 use loft_base::{Files, Gate, Sink};
 use loft_code::code_is_decided;
 use loft_commands::attempt;
+use loft_expansion::texts_come_to_one_answer;
 use loft_names::names_are_decided;
 use loft_parse::texts_are_decided;
 use loft_place::links_are_decided;
@@ -89,6 +90,7 @@ fn file_answer<R: Threads + Wait + Sync, F: Files, S: Sink, G: Gate>(
     links_are_decided();
     texts_have_one_answer();
     code_is_decided();
+    texts_come_to_one_answer();
     match attempt(rt, alloc, command, files, sink, gate) {
         Ok(()) => Status::Done,
         Err(Stopped::Refused(refusal)) => refuse(alloc, sink, &refusal),
@@ -141,7 +143,7 @@ pub fn loft_main<R: Threads + Wait + Sync, F: Files, S: Sink, G: Gate>(
         → Contains (files_of c) file → IsTrue (F.may_ask files.old file) }
 
     // The promise of each command: the report of a run of a source or a listing, the canonical text, `ok`, the listing, the
-    // step bounds, the source of a number, or the summary of its run.
+    // step bounds, the canonical text of what a text with locks stands for, the source of a number, or the summary of its run.
     ensures done { (c : PlainCommand) (contents : List (List ℕ)) → command (words_of words.now) ≡ Some c
         → contents_of (F.contents files.old) (files_of c) ≡ Some contents → result ≡ Status.Done
         → Appends (S.written sink.old) (S.written sink.new) (IsAnswer c contents) }

@@ -9,7 +9,7 @@ use Rattle.loft_base.specs.declared.options.TheConstants.{MAX_INSTANTS, MAX_BUDG
 use Rattle.loft_gen.specs.declared.source.TheConstants.{GENERATED_MAX}
 use Rattle.loft_words.specs.declared.defaults.TheConstants.{DEFAULT_INSTANTS, DEFAULT_BUDGET, DEFAULT_BLOCK, DEFAULT_WORKERS}
 use Rattle.loft_words.specs.Arguments.{Argument, Plain, Given, Flag, is_among, plain_words, values, flags_of, has_only}
-use Rattle.loft_words.specs.Command.{FileCommand, Run, Exec, Show, Check, Compile, Bound, OfFile, only_file, only_number, number_of, flag_of, options_from, run_names, run_flag, run_options, taking, with_options, of_file, gen_with, gen, file_command_named, command_named}
+use Rattle.loft_words.specs.Command.{FileCommand, Run, Exec, Show, Check, Compile, Bound, Expand, OfFile, only_file, only_number, number_of, flag_of, options_from, run_names, run_flag, run_options, taking, with_options, of_file, gen_with, gen, file_command_named, command_named}
 use Rattle.loft_words.specs.Parts.{Parts, no_parts, with_arguments, has_no_values, has_no_options}
 use Rattle.loft_words.specs.FromParts.{option_list, run_options_from, run_from, file_from, file_command_from, gen_from, command_from}
 use Rattle.loft_words.proofs.Telling.{Tells, IsRefused, Words, Instants, Budget, Block, Workers, Run as Flags, Other, TellsAll, told}
@@ -200,19 +200,21 @@ gen_told given p t =
 
 file_command_told : (word : List ℕ) (given : List Argument) (o : Option Parts) → TellsAll given o → file_command_named word given ≡ option_and_then (file_command_from word) o
 file_command_told word given (Some p) t =
-    rw (run_told Run given p t, run_told Exec given p t, file_told Show given p t, file_told Check given p t, file_told Compile given p t, file_told Bound given p t) refl
-file_command_told word given None refused = go (bytes_eq word (codes "run")) (bytes_eq word (codes "exec")) (bytes_eq word (codes "show")) (bytes_eq word (codes "check")) (bytes_eq word (codes "compile")) (bytes_eq word (codes "bound"))
+    rw (run_told Run given p t, run_told Exec given p t, file_told Show given p t, file_told Check given p t, file_told Compile given p t, file_told Bound given p t, file_told Expand given p t) refl
+file_command_told word given None refused = go (bytes_eq word (codes "run")) (bytes_eq word (codes "exec")) (bytes_eq word (codes "show")) (bytes_eq word (codes "check")) (bytes_eq word (codes "compile")) (bytes_eq word (codes "bound")) (bytes_eq word (codes "expand"))
   where
-    go : (a e b c d f : Bool) → (if a then taking run_names [] given (with_options Run given) else (if e then taking run_names [] given (with_options Exec given)
+    go : (a e b c d f h : Bool) → (if a then taking run_names [] given (with_options Run given) else (if e then taking run_names [] given (with_options Exec given)
         else (if b then taking [] [] given (of_file Show given) else (if c then taking [] [] given (of_file Check given)
-        else (if d then taking [] [] given (of_file Compile given) else (if f then taking [] [] given (of_file Bound given) else None)))))) ≡ None
-    go true e b c d f = run_refused Run given refused
-    go false true b c d f = run_refused Exec given refused
-    go false false true c d f = file_refused Show given refused
-    go false false false true d f = file_refused Check given refused
-    go false false false false true f = file_refused Compile given refused
-    go false false false false false true = file_refused Bound given refused
-    go false false false false false false = refl
+        else (if d then taking [] [] given (of_file Compile given) else (if f then taking [] [] given (of_file Bound given)
+        else (if h then taking [] [] given (of_file Expand given) else None))))))) ≡ None
+    go true e b c d f h = run_refused Run given refused
+    go false true b c d f h = run_refused Exec given refused
+    go false false true c d f h = file_refused Show given refused
+    go false false false true d f h = file_refused Check given refused
+    go false false false false true f h = file_refused Compile given refused
+    go false false false false false true h = file_refused Bound given refused
+    go false false false false false false true = file_refused Expand given refused
+    go false false false false false false false = refl
 
 command_told : (word : List ℕ) (given : List Argument) (o : Option Parts) → TellsAll given o → command_named word given ≡ option_and_then (command_from word) o
 command_told word given (Some p) t = rw (gen_told given p t, file_command_told word given (Some p) t) refl

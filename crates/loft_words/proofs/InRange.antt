@@ -11,7 +11,7 @@ use Rattle.loft_words.specs.declared.defaults.TheConstants.{DEFAULT_INSTANTS, DE
 use Rattle.loft_words.specs.Words.{is_number, number_in}
 use Rattle.loft_gen.specs.declared.source.TheConstants.{GENERATED_MAX}
 use Rattle.loft_words.specs.Arguments.{Argument, arguments, plain_words, values, flags_of, has_only}
-use Rattle.loft_words.specs.Command.{FileCommand, Run, Exec, Show, Check, Compile, Bound, Command, OfFile, only_file, only_number, number_of, flag_of, options_from, run_names, run_flag, run_options, taking, with_options, of_file, gen_with, gen, file_command_named, command_named, command}
+use Rattle.loft_words.specs.Command.{FileCommand, Run, Exec, Show, Check, Compile, Bound, Expand, Command, OfFile, only_file, only_number, number_of, flag_of, options_from, run_names, run_flag, run_options, taking, with_options, of_file, gen_with, gen, file_command_named, command_named, command}
 use Rattle.loft_base.specs.Options.{AreInRange}
 use Rattle.loft_words.specs.Ranges.{KeepsRanges, IsInRanges}
 
@@ -77,18 +77,20 @@ file_keeps make made given = go (has_only [] [] given) (only_file (plain_words g
     go true (Some f) = made f
 
 file_named_keeps : (word : List ℕ) (given : List Argument) → Keeps (file_command_named word given)
-file_named_keeps word given = go (bytes_eq word (codes "run")) (bytes_eq word (codes "exec")) (bytes_eq word (codes "show")) (bytes_eq word (codes "check")) (bytes_eq word (codes "compile")) (bytes_eq word (codes "bound"))
+file_named_keeps word given = go (bytes_eq word (codes "run")) (bytes_eq word (codes "exec")) (bytes_eq word (codes "show")) (bytes_eq word (codes "check")) (bytes_eq word (codes "compile")) (bytes_eq word (codes "bound")) (bytes_eq word (codes "expand"))
   where
-    go : (a e b c d f : Bool) → Keeps (if a then taking run_names [] given (with_options Run given) else (if e then taking run_names [] given (with_options Exec given)
+    go : (a e b c d f h : Bool) → Keeps (if a then taking run_names [] given (with_options Run given) else (if e then taking run_names [] given (with_options Exec given)
         else (if b then taking [] [] given (of_file Show given) else (if c then taking [] [] given (of_file Check given)
-        else (if d then taking [] [] given (of_file Compile given) else (if f then taking [] [] given (of_file Bound given) else None))))))
-    go true e b c d f = run_keeps Run (λ file o range. range) given
-    go false true b c d f = run_keeps Exec (λ file o range. range) given
-    go false false true c d f = file_keeps Show (λ file. tt) given
-    go false false false true d f = file_keeps Check (λ file. tt) given
-    go false false false false true f = file_keeps Compile (λ file. tt) given
-    go false false false false false true = file_keeps Bound (λ file. tt) given
-    go false false false false false false = tt
+        else (if d then taking [] [] given (of_file Compile given) else (if f then taking [] [] given (of_file Bound given)
+        else (if h then taking [] [] given (of_file Expand given) else None)))))))
+    go true e b c d f h = run_keeps Run (λ file o range. range) given
+    go false true b c d f h = run_keeps Exec (λ file o range. range) given
+    go false false true c d f h = file_keeps Show (λ file. tt) given
+    go false false false true d f h = file_keeps Check (λ file. tt) given
+    go false false false false true f h = file_keeps Compile (λ file. tt) given
+    go false false false false false true h = file_keeps Bound (λ file. tt) given
+    go false false false false false false true = file_keeps Expand (λ file. tt) given
+    go false false false false false false false = tt
 
 -- the same of every command
 abbrev AreKept : Option Command → Type 0

@@ -10,7 +10,7 @@ use Rattle.loft_base.specs.declared.options.TheConstants.{MAX_INSTANTS, MAX_BUDG
 use Rattle.loft_words.specs.declared.defaults.TheConstants.{DEFAULT_INSTANTS, DEFAULT_BUDGET, DEFAULT_BLOCK, DEFAULT_WORKERS}
 use Rattle.loft_gen.specs.declared.source.TheConstants.{GENERATED_MAX}
 use Rattle.loft_words.specs.Arguments.{Argument, plain_word, value_for, flag_for, is_among, has_only}
-use Rattle.loft_words.specs.Command.{FileCommand, Run, Exec, Show, Check, Compile, Bound, Command, OfFile, only_file, only_number, number_of, flag_of, options_from, run_names, run_flag, gen_with, command_named}
+use Rattle.loft_words.specs.Command.{FileCommand, Run, Exec, Show, Check, Compile, Bound, Expand, Command, OfFile, only_file, only_number, number_of, flag_of, options_from, run_names, run_flag, gen_with, command_named}
 use Rattle.loft_words.proofs.Commands.{not_one, not_one_number, no_number, no_flag}
 
 -- the same words, or more than one on both sides
@@ -80,7 +80,8 @@ file_command_with word known alone file instants budget block workers =
     else (if bytes_eq word (codes "show") then (if alone then option_map Show file else None)
     else (if bytes_eq word (codes "check") then (if alone then option_map Check file else None)
     else (if bytes_eq word (codes "compile") then (if alone then option_map Compile file else None)
-    else (if bytes_eq word (codes "bound") then (if alone then option_map Bound file else None) else None)))))
+    else (if bytes_eq word (codes "bound") then (if alone then option_map Bound file else None)
+    else (if bytes_eq word (codes "expand") then (if alone then option_map Expand file else None) else None))))))
 
 abbrev command_with : List ℕ → (numbered : Bool) (number : Option ℕ) (run : Option Bool) (file : Option FileCommand) → Option Command
 command_with word numbered number run file =

@@ -23,6 +23,8 @@ pub data FileCommand : Type 0 where
   Compile : (file : List ℕ) → FileCommand
   -- tell the step bounds of the modules of the source in this file
   Bound : (file : List ℕ) → FileCommand
+  -- show the program that the text with locks in this file stands for
+  Expand : (file : List ℕ) → FileCommand
 
 pub data Command : Type 0 where
   -- read one file
@@ -39,6 +41,7 @@ file_of (Show file) = file
 file_of (Check file) = file
 file_of (Compile file) = file
 file_of (Bound file) = file
+file_of (Expand file) = file
 
 -- the files that a command reads, in this order
 abbrev pub files_of : Command → List (List ℕ)
@@ -117,7 +120,8 @@ file_command_named word given =
     else (if bytes_eq word (codes "show") then taking [] [] given (of_file Show given)
     else (if bytes_eq word (codes "check") then taking [] [] given (of_file Check given)
     else (if bytes_eq word (codes "compile") then taking [] [] given (of_file Compile given)
-    else (if bytes_eq word (codes "bound") then taking [] [] given (of_file Bound given) else None)))))
+    else (if bytes_eq word (codes "bound") then taking [] [] given (of_file Bound given)
+    else (if bytes_eq word (codes "expand") then taking [] [] given (of_file Expand given) else None))))))
 
 -- .. and these others, or none
 abbrev pub command_named : List ℕ → List Argument → Option Command

@@ -5,7 +5,7 @@ use Rattle.loft_words.specs.declared.command.Command.{Command as CommandInMemory
 use Rattle.loft_words.specs.declared.command.Command.TheVariants as command
 use Rattle.loft_words.specs.declared.command.FileCommand.{FileCommand as FileCommandInMemory}
 use Rattle.loft_words.specs.declared.command.FileCommand.TheVariants as file_command
-use Rattle.loft_words.specs.Command.{FileCommand, Run, Exec, Show, Check, Compile, Bound, Command, OfFile, Gen, GenRun}
+use Rattle.loft_words.specs.Command.{FileCommand, Run, Exec, Show, Check, Compile, Bound, Expand, Command, OfFile, Gen, GenRun}
 
 abbrev pub file_command_of : FileCommandInMemory → FileCommand
 file_command_of (file_command.Run file options) = Run file.now options
@@ -14,6 +14,7 @@ file_command_of (file_command.Show file) = Show file.now
 file_command_of (file_command.Check file) = Check file.now
 file_command_of (file_command.Compile file) = Compile file.now
 file_command_of (file_command.Bound file) = Bound file.now
+file_command_of (file_command.Expand file) = Expand file.now
 
 abbrev pub command_of : CommandInMemory → Command
 command_of (command.OfFile c) = OfFile (file_command_of c)

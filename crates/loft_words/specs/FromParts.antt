@@ -6,7 +6,7 @@ use Rattle.loft_base.specs.declared.options.RunOptions.{RunOptions}
 use Rattle.loft_base.specs.declared.options.TheConstants.{MAX_INSTANTS, MAX_BUDGET, MAX_BLOCK, MAX_WORKERS}
 use Rattle.loft_gen.specs.declared.source.TheConstants.{GENERATED_MAX}
 use Rattle.loft_words.specs.declared.defaults.TheConstants.{DEFAULT_INSTANTS, DEFAULT_BUDGET, DEFAULT_BLOCK, DEFAULT_WORKERS}
-use Rattle.loft_words.specs.Command.{FileCommand, Run, Exec, Show, Check, Compile, Bound, Command, OfFile, only_file, only_number, number_of, options_from, gen_with}
+use Rattle.loft_words.specs.Command.{FileCommand, Run, Exec, Show, Check, Compile, Bound, Expand, Command, OfFile, only_file, only_number, number_of, options_from, gen_with}
 use Rattle.loft_words.specs.Parts.{Parts, has_no_values, has_no_options}
 
 abbrev pub option_list : {A : Type 0} → Option A → List A
@@ -37,7 +37,8 @@ file_command_from word p =
     else (if bytes_eq word (codes "show") then option_map Show (file_from p)
     else (if bytes_eq word (codes "check") then option_map Check (file_from p)
     else (if bytes_eq word (codes "compile") then option_map Compile (file_from p)
-    else (if bytes_eq word (codes "bound") then option_map Bound (file_from p) else None)))))
+    else (if bytes_eq word (codes "bound") then option_map Bound (file_from p)
+    else (if bytes_eq word (codes "expand") then option_map Expand (file_from p) else None))))))
 
 -- the number of a source, where no option with a value is given
 abbrev pub number_from : Parts → Option ℕ

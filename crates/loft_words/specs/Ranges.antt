@@ -2,7 +2,7 @@
 use Rattle.std.specs.Prelude.{◌≤◌}
 use Rattle.loft_base.specs.Options.{AreInRange}
 use Rattle.loft_gen.specs.declared.source.TheConstants.{GENERATED_MAX}
-use Rattle.loft_words.specs.Command.{FileCommand, Run, Exec, Show, Check, Compile, Bound, Command, OfFile, Gen, GenRun}
+use Rattle.loft_words.specs.Command.{FileCommand, Run, Exec, Show, Check, Compile, Bound, Expand, Command, OfFile, Gen, GenRun}
 
 -- the numbers of a command have their ranges
 abbrev pub KeepsRanges : FileCommand → Type 0
@@ -12,6 +12,7 @@ KeepsRanges (Show file) = Unit {0}
 KeepsRanges (Check file) = Unit {0}
 KeepsRanges (Compile file) = Unit {0}
 KeepsRanges (Bound file) = Unit {0}
+KeepsRanges (Expand file) = Unit {0}
 
 abbrev pub IsInRanges : Command → Type 0
 IsInRanges (OfFile c) = KeepsRanges c

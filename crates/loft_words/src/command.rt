@@ -5,7 +5,7 @@ ghost use Rattle.std.specs.Option.{option_copied, option_map};
 ghost use Rattle.loft_base.specs.declared.options.RunOptions.{RunOptions};
 ghost use Rattle.loft_words.specs.Words.{words_of, is_file_name};
 ghost use Rattle.loft_words.specs.Ranges.{IsInRanges};
-ghost use Rattle.loft_words.specs.Command.{Command as PlainCommand, Exec, Run, Show, Check, Compile, Bound, command, file_of, only_file, number_of};
+ghost use Rattle.loft_words.specs.Command.{Command as PlainCommand, Exec, Run, Show, Check, Compile, Bound, Expand, command, file_of, only_file, number_of};
 ghost use Rattle.loft_words.specs.CommandView.{meant, file_meant, file_command_of};
 ghost use Rattle.loft_words.specs.Parts.{parts_of};
 ghost use Rattle.loft_words.specs.FromParts.{option_list, run_from, run_options_from, only_options_from, file_from, file_command_from, number_from, gen_from, command_from};
@@ -33,6 +33,8 @@ pub enum FileCommand<'a> {
     Compile(&'a str),
     /// To tell the step bounds of the modules of the source in this file.
     Bound(&'a str),
+    /// To show the program that the text with locks in this file stands for.
+    Expand(&'a str),
 }
 
 /// A command, by what it reads.
@@ -57,7 +59,8 @@ impl<'a> FileCommand<'a> {
             | FileCommand::Show(file)
             | FileCommand::Check(file)
             | FileCommand::Compile(file)
-            | FileCommand::Bound(file) => file,
+            | FileCommand::Bound(file)
+            | FileCommand::Expand(file) => file,
         }
     }
 }
@@ -180,6 +183,13 @@ fn bound<'a>(parts: Parts<'a>) -> Option<FileCommand<'a>>
     Some(FileCommand::Bound(file_alone(parts)?))
 }
 
+/// To show what a text with locks stands for.
+fn expand<'a>(parts: Parts<'a>) -> Option<FileCommand<'a>>
+    ensures { file_meant result ≡ option_map Expand (file_from (parts_of parts.entry)) }
+{
+    Some(FileCommand::Expand(file_alone(parts)?))
+}
+
 /// The number of a source, where no option with a value is given.
 fn number_alone(parts: Parts<'_>) -> Option<u32>
     ensures { result ≡ number_from (parts_of parts.entry) }
@@ -219,6 +229,8 @@ fn file_command_named<'a>(word: &str, parts: Parts<'a>) -> Option<FileCommand<'a
         compile(parts)
     } else if word == "bound" {
         bound(parts)
+    } else if word == "expand" {
+        expand(parts)
     } else {
         None
     }
@@ -235,11 +247,11 @@ fn command_named<'a>(word: &str, parts: Parts<'a>) -> Option<Command<'a>>
 }
 
 /// What the words after the program's name ask for (docs/COMMANDS.md, "Words"). The first is the
-/// command: `run`, `exec`, `show`, `check`, `compile`, `bound` or `gen`. After it stand one file (of
-/// `gen`, a number) and, for `run` and `exec`, options in any order: `--instants N`, `--budget B`,
-/// `--block U` and `--workers W`, each once at most, as two words or as one with `=`; for `gen`,
-/// perhaps the option `--run`. After `--` no word is an option. All other words are no command:
-/// None. It takes no memory.
+/// command: `run`, `exec`, `show`, `check`, `compile`, `bound`, `expand` or `gen`. After it stand
+/// one file (of `gen`, a number) and, for `run` and `exec`, options in any order: `--instants N`,
+/// `--budget B`, `--block U` and `--workers W`, each once at most, as two words or as one with `=`;
+/// for `gen`, perhaps the option `--run`. After `--` no word is an option. All other words are no
+/// command: None. It takes no memory.
 #[tactic(auto, using(crate::proofs::Commands::command_from_parts))]
 pub fn read_words(words: &[String]) -> Option<Command<'_>>
     ensures meant { meant result ≡ command (words_of words.now) }

@@ -1,2 +1,2 @@
-autocmd BufNewFile,BufRead *.loft setfiletype loft
+autocmd BufNewFile,BufRead *.loft,*.locks setfiletype loft
 autocmd BufNewFile,BufRead *.listing setfiletype loftlisting

@@ -1,10 +1,10 @@
 use Rattle.std.proofs.Common.{◌∙◌, sym, ap, subst, [], Result, Err}
 use Rattle.std.proofs.lemmas.Result.{err_from_is_err_and}
-use Rattle.loft_words.specs.Command.{FileCommand, Run, Exec, Show, Check, Compile, Bound, file_of}
+use Rattle.loft_words.specs.Command.{FileCommand, Run, Exec, Show, Check, Compile, Bound, Expand, file_of}
 use Rattle.loft_words.specs.CommandView.{file_command_of}
 use Rattle.loft_refusal.specs.declared.refusal.Stopped.{Stopped}
 use Rattle.loft_commands.specs.Doing.{Attempts}
-use Rattle.loft_commands.proofs.Doing.{does_attempts, unread_attempts, unlisted_attempts}
+use Rattle.loft_commands.proofs.Doing.{does_attempts, unread_attempts, unlisted_attempts, unexpanded_attempts}
 use Rattle.loft_commands.proofs.attempt_command.attempt.Goals as goal
 
 pub returns-in_ok-program-in-Run-clause-attempts : goal.returns-in_ok-program-in-Run-clause-attempts
@@ -109,6 +109,23 @@ returns-in_err-code-in-Exec-clause-attempts g c =
     (subst (λ (r : Result (Unit {0}) Stopped). Attempts (Exec c.in-Exec.file.now c.in-Exec.options) (g.F.Files.contents c.args.files.now c.in-Exec.file.now) r written written) (sym is)
     (unlisted_attempts c.in-Exec.file.now c.in-Exec.options (g.F.Files.contents c.args.files.now c.in-Exec.file.now) c.in_err-code-in-Exec.field-0.0 written (λ contents t. c.in_err-code-in-Exec.ensures.refused contents t)))
 
+pub returns-in_ok-program-in-Expand-clause-attempts : goal.returns-in_ok-program-in-Expand-clause-attempts
+returns-in_ok-program-in-Expand-clause-attempts g c =
+    subst (λ (k : FileCommand). Attempts k (g.F.Files.contents c.args.files.now (file_of k)) c.show_text-in-Expand.result (g.S.Sink.written c.args.sink.now) (g.S.Sink.written c.show_text-in-Expand.new.sink)) (sym (ap file_command_of c.in-Expand.is))
+    (does_attempts {c = Expand c.in-Expand.file.now} (λ contents t. c.in_ok-program-in-Expand.ensures.program contents t) (c.show_text-in-Expand.ensures.expands c.in-Expand.file.now))
+
+pub returns-in_ok-program-in-Expand-clause-file_fault : goal.returns-in_ok-program-in-Expand-clause-file_fault
+returns-in_ok-program-in-Expand-clause-file_fault g c = λ is. absurd ((c.show_text-in-Expand.ensures.expands []).no_file is)
+
+pub returns-in_err-program-in-Expand-clause-attempts : goal.returns-in_err-program-in-Expand-clause-attempts
+returns-in_err-program-in-Expand-clause-attempts g c =
+    let p = err_from_is_err_and c.from_residual-in_err-program-in-Expand.result c.from_residual-in_err-program-in-Expand.ensures.1 in
+    let is = p.1 ∙ ap (λ (s : Stopped). Err s) p.2 in
+    let written = g.S.Sink.written c.args.sink.now in
+    subst (λ (k : FileCommand). Attempts k (g.F.Files.contents c.args.files.now (file_of k)) c.from_residual-in_err-program-in-Expand.result written written) (sym (ap file_command_of c.in-Expand.is))
+    (subst (λ (r : Result (Unit {0}) Stopped). Attempts (Expand c.in-Expand.file.now) (g.F.Files.contents c.args.files.now c.in-Expand.file.now) r written written) (sym is)
+    (unexpanded_attempts c.in-Expand.file.now (g.F.Files.contents c.args.files.now c.in-Expand.file.now) c.in_err-program-in-Expand.field-0.0 written (λ contents t. c.in_err-program-in-Expand.ensures.refused contents t)))
+
 pub returns-in_ok-program-in-Run-clause-sure : goal.returns-in_ok-program-in-Run-clause-sure
 returns-in_ok-program-in-Run-clause-sure g c = λ never is. (c.run.ensures.does []).no_file is
 
@@ -123,6 +140,9 @@ returns-in_ok-program-in-Compile-clause-sure g c = λ never is. (c.list_code.ens
 
 pub returns-in_ok-program-in-Bound-clause-sure : goal.returns-in_ok-program-in-Bound-clause-sure
 returns-in_ok-program-in-Bound-clause-sure g c = λ never is. (c.tell_bounds.ensures.does []).no_file is
+
+pub returns-in_ok-program-in-Expand-clause-sure : goal.returns-in_ok-program-in-Expand-clause-sure
+returns-in_ok-program-in-Expand-clause-sure g c = λ never is. (c.show_text-in-Expand.ensures.expands []).no_file is
 
 pub returns-in_ok-code-in-Exec-clause-sure : goal.returns-in_ok-code-in-Exec-clause-sure
 returns-in_ok-code-in-Exec-clause-sure g c = λ never is. (c.exec.ensures.does []).no_file is

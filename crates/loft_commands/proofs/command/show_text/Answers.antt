@@ -3,8 +3,8 @@ use Rattle.std.proofs.lemmas.Result.{err_from_is_err_and}
 use Rattle.loft_tree.specs.View.{source_of}
 use Rattle.loft_refusal.specs.declared.refusal.Stopped.{Stopped}
 use Rattle.loft_refusal.specs.Stops.{stop_of_write}
-use Rattle.loft_words.specs.Command.{Show}
-use Rattle.loft_refusal.specs.Input.{ASource}
+use Rattle.loft_words.specs.Command.{Show, Expand}
+use Rattle.loft_refusal.specs.Input.{ASource, AnExpansion}
 use Rattle.loft_commands.specs.Promise.{IsAnswerFor}
 use Rattle.loft_commands.proofs.Doing.{failed_does, write_stops}
 use Rattle.loft_commands.proofs.Written.{begun}
@@ -17,3 +17,11 @@ returns-in_err-write_lines-clause-does g c = λ file.
     let is : c.from_residual-in_err-write_lines.result ≡ Err (stop_of_write w) = p.1 ∙ ap (λ (e : Stopped). Err e) p.2 in
     failed_does (write_stops w c.from_residual-in_err-write_lines.result is)
     (begun (IsAnswerFor (Show file) (ASource (source_of c.args.program.now))) c.as_slice.result.now c.in_err-write_lines.ensures.failed (tt, c.as_slice.ensures.value ∙ c.in_ok-text.ensures))
+
+pub returns-in_err-write_lines-clause-expands : goal.returns-in_err-write_lines-clause-expands
+returns-in_err-write_lines-clause-expands g c = λ file.
+    let w = c.in_err-write_lines.field-0.0 in
+    let p = err_from_is_err_and c.from_residual-in_err-write_lines.result c.from_residual-in_err-write_lines.ensures.1 in
+    let is : c.from_residual-in_err-write_lines.result ≡ Err (stop_of_write w) = p.1 ∙ ap (λ (e : Stopped). Err e) p.2 in
+    failed_does (write_stops w c.from_residual-in_err-write_lines.result is)
+    (begun (IsAnswerFor (Expand file) (AnExpansion (source_of c.args.program.now))) c.as_slice.result.now c.in_err-write_lines.ensures.failed (tt, c.as_slice.ensures.value ∙ c.in_ok-text.ensures))

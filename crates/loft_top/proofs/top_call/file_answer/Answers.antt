@@ -1,10 +1,11 @@
-use Rattle.std.proofs.Common.{◌≡◌, ◌∙◌, ap, subst, Err, Result, inl, inr, refl}
+use Rattle.std.proofs.Common.{◌≡◌, ◌∙◌, ap, subst, Ok, Err, Result, inl, inr, refl}
 use Rattle.loft_refusal.specs.declared.refusal.Stopped.{Stopped}
 use Rattle.loft_refusal.specs.declared.refusal.Stopped.TheVariants as stopped
 use Rattle.loft_top.specs.declared.status.Status.TheVariants as status
 use Rattle.loft_words.specs.Command.{OfFile, file_of}
 use Rattle.loft_words.specs.CommandView.{file_command_of}
 use Rattle.loft_commands.specs.Doing.{Attempts}
+use Rattle.loft_top.proofs.Deciding.{never_both}
 use Rattle.loft_top.proofs.AnswerLemmas.{one, done_answers, broken_answers, file_answers, refused_answers}
 use Rattle.loft_top.proofs.top_call.file_answer.Goals as goal
 
@@ -20,6 +21,7 @@ returns-in-Ok-clause-answers g c =
       codes = c.texts_have_one_answer.ensures.one_code;
       lines = c.texts_have_one_answer.ensures.never_both;
       valid = λ a e valid. c.code_is_decided.ensures.valid a valid e;
+      locks = λ text p r stands refused. never_both p r (c.texts_come_to_one_answer.ensures.one text (Ok p) (Err r) stands refused);
     })
     (subst (λ (r : Result (Unit {0}) Stopped). Attempts (file_command_of c.args.command) known r (g.S.Sink.written c.args.sink.now) (g.S.Sink.written c.attempt.new.sink)) c.in-Ok.is c.attempt.ensures.attempts)
 
@@ -36,6 +38,7 @@ returns-in-Err-Refused-clause-answers g c =
       codes = c.texts_have_one_answer.ensures.one_code;
       lines = c.texts_have_one_answer.ensures.never_both;
       valid = λ a e valid. c.code_is_decided.ensures.valid a valid e;
+      locks = λ text p r stands refused. never_both p r (c.texts_come_to_one_answer.ensures.one text (Ok p) (Err r) stands refused);
     })
     (subst (λ (r : Result (Unit {0}) Stopped). Attempts (file_command_of c.args.command) known r (g.S.Sink.written c.args.sink.now) (g.S.Sink.written c.attempt.new.sink)) is c.attempt.ensures.attempts)
     c.refuse.ensures.told c.refuse.ensures.written c.refuse.ensures.cut c.refuse.ensures.no_memory

@@ -1,6 +1,0 @@
-use Rattle.std.proofs.Common.{◌≡◌, take, map}
-use Rattle.loft_refusal.proofs.listing.module_names.Given as goal
-
--- the names so far
-abbrev pub invariant-loop-module : goal.invariant-loop-module
-invariant-loop-module l = l.names ≡ map (λ m. m.name) (take l.module-index l.module-items)
