@@ -1,5 +1,5 @@
 -- How the threads of a line stand.
-use Rattle.std.proofs.Common.{◌≡◌, ℕ, zero, suc, ◌+◌, ◌<◌, ◌≤◌, Bool, true, false, List, [], ◌∷◌, ◌++◌, refl, sym, ◌∙◌, ap, arith, Option, Some, None, length, take, get_or, add-one, append-nil, append_assoc}
+use Rattle.std.proofs.Common.{◌≡◌, ℕ, zero, suc, ◌+◌, ◌<◌, Bool, true, false, List, [], ◌∷◌, ◌++◌, refl, sym, ◌∙◌, ap, Option, Some, length, take, add-one, append-nil, append_assoc}
 use Rattle.std.specs.Prelude.{if◌then◌else◌, slice_get}
 use Rattle.std.proofs.lemmas.List.Concat.{flat_map-cons}
 use Rattle.loft_orders.specs.declared.note.Standing.{Standing}
@@ -7,7 +7,7 @@ use Rattle.loft_orders.specs.declared.thread.Thread.{Thread}
 use Rattle.loft_orders.specs.declared.thread.Wait.{Wait}
 use Rattle.loft_passes.specs.declared.runner.Runner.{Runner}
 use Rattle.loft_passes.specs.View.{standing_of, is_held}
-use Rattle.loft_line.specs.Line.{with_wait, with_waits, standing_if, standings_in}
+use Rattle.loft_line.specs.Line.{with_waits, standing_if, standings_in}
 use Rattle.loft_line.proofs.ListLemmas.{there_is}
 use Rattle.loft_line.proofs.EndLemmas.{logical_stop, logical_flag}
 

@@ -1,6 +1,6 @@
-use Rattle.std.proofs.Common.{◌≡◌, ◌<◌, arith, length}
-use Rattle.loft_line.specs.Line.{runners_in, standings_in}
-use Rattle.std.proofs.Common.{sym, ◌∙◌}
+use Rattle.std.proofs.Common.{◌≡◌, arith, length}
+use Rattle.loft_line.specs.Line.{runners_in}
+use Rattle.std.proofs.Common.{◌∙◌}
 use Rattle.loft_line.proofs.ListLemmas.{length_line, length_with}
 use Rattle.loft_line.proofs.StandingLemmas.{next_standing, all_standings}
 use Rattle.loft_line.proofs.line.Line.standings.Goals as goal
