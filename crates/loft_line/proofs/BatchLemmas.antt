@@ -1,7 +1,7 @@
 -- Threads that are linked, stopped and suspended, in a line in which nobody has run.
-use Rattle.std.proofs.Common.{◌≡◌, ℕ, zero, suc, ◌+◌, ◌-◌, ◌<◌, ◌≤◌, ◌==◌, Bool, true, false, List, [], ◌∷◌, ◌++◌, refl, sym, ◌∙◌, ap, subst, arith, Option, Some, None, length, get_or, set, map}
+use Rattle.std.proofs.Common.{◌≡◌, ℕ, ◌+◌, ◌<◌, ◌≤◌, ◌==◌, Bool, true, false, List, [], ◌∷◌, ◌++◌, refl, sym, ◌∙◌, ap, arith, Option, Some, None, length, get_or, set, map}
 use Rattle.std.specs.Prelude.{not, ◌&&◌, ◌||◌, if◌then◌else◌, slice_get, slice_set}
-use Rattle.std.proofs.lemmas.List.{set-set, map-set, length-set, map-append}
+use Rattle.std.proofs.lemmas.List.{set-set}
 use Rattle.std.proofs.lemmas.List.Concat.{flat_map-cons}
 use Rattle.std.proofs.lemmas.Grind.{flat_map-append}
 use Rattle.loft_base.specs.declared.ids.ThreadId.{ThreadId}
@@ -15,9 +15,8 @@ use Rattle.loft_sense.specs.Passes.{Runner as Linked}
 use Rattle.loft_passes.specs.declared.runner.Runner.{Runner}
 use Rattle.loft_passes.specs.View.{runner_to, linked_after, linked_of, standing_of, is_held}
 use Rattle.loft_ready.specs.Entered.{wait_of}
-use Rattle.loft_waits.specs.Told.{Told}
 use Rattle.loft_line.specs.Line.{with_wait, with_waits, standing_if, standings_in, Rests, is_marked, one_if, count_present, is_named, IsFirstAt, IsEmptied}
-use Rattle.loft_line.proofs.ListLemmas.{there_is, with_set, length_with, there_set}
+use Rattle.loft_line.proofs.ListLemmas.{there_is, with_set}
 use Rattle.loft_line.proofs.LineLemmas.{present_now}
 
 -- ---- a thread that is begun

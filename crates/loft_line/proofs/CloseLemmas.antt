@@ -1,6 +1,6 @@
 -- The threads as an instant closes, by position.
-use Rattle.std.proofs.Common.{◌≡◌, ℕ, zero, suc, ◌+◌, ◌-◌, ◌<◌, ◌≤◌, ◌==◌, Bool, true, false, List, [], ◌∷◌, ◌++◌, refl, sym, ◌∙◌, ap, subst, arith, Option, Some, None, option_map, length, get_or, set, map, append_assoc, append-nil}
-use Rattle.std.specs.Prelude.{not, ◌&&◌, ◌||◌, filter, if◌then◌else◌, slice_get, nat_lt}
+use Rattle.std.proofs.Common.{◌≡◌, ℕ, zero, suc, ◌<◌, Bool, true, false, List, [], ◌∷◌, ◌++◌, refl, sym, ◌∙◌, ap, arith, Some, None, set, map, append_assoc}
+use Rattle.std.specs.Prelude.{not, ◌&&◌, filter, if◌then◌else◌, slice_get, nat_lt}
 use Rattle.std.specs.List.{flat_map}
 use Rattle.std.proofs.lemmas.List.{map-append}
 use Rattle.std.proofs.lemmas.List.Concat.{flat_map-cons}
@@ -9,13 +9,11 @@ use Rattle.loft_orders.specs.declared.order.Sent.{Sent}
 use Rattle.loft_orders.specs.declared.order.Stop.{Stop}
 use Rattle.loft_orders.specs.declared.order.Stop.TheVariants.{Holds, Leaves, Ends}
 use Rattle.loft_orders.specs.declared.thread.Thread.{Thread}
-use Rattle.loft_orders.specs.declared.thread.Wait.{Wait}
-use Rattle.loft_sense.specs.Instant.{runner_of, closed_wait, closed, closed_thread, stays, has_run, leaver, leavers}
+use Rattle.loft_sense.specs.Instant.{closed_wait, closed, closed_thread, stays, has_run, leaver, leavers}
 use Rattle.loft_sense.specs.Passes.{Runner as Linked}
 use Rattle.loft_passes.specs.declared.runner.Runner.{Runner}
 use Rattle.loft_passes.specs.View.{runner_to, linked_after, linked_of, runners_of, standing_of, is_held}
-use Rattle.loft_ready.specs.Entered.{wait_of}
-use Rattle.loft_line.specs.Line.{with_wait, with_waits, standing_if, standings_in, Rests, stands_if, leaves_if, closing, count_present, one_if}
+use Rattle.loft_line.specs.Line.{standing_if, stands_if, leaves_if, closing}
 
 -- ---- what a position leaves, for all positions
 

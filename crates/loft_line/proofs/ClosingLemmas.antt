@@ -1,20 +1,16 @@
 -- A line whose waits have closed.
-use Rattle.std.proofs.Common.{◌≡◌, ℕ, zero, suc, ◌+◌, ◌<◌, Bool, true, false, List, [], ◌∷◌, ◌++◌, refl, sym, ◌∙◌, ap, subst, arith, Option, Some, None, option_map, length, map}
+use Rattle.std.proofs.Common.{◌≡◌, ℕ, zero, suc, ◌+◌, Bool, true, false, List, [], ◌∷◌, ◌++◌, refl, sym, ◌∙◌, ap, subst, Option, Some, None, option_map, map}
 use Rattle.std.specs.Prelude.{not, ◌&&◌, ◌||◌, ◌==◌, filter, if◌then◌else◌, slice_get}
 use Rattle.std.specs.List.{flat_map}
 use Rattle.std.proofs.lemmas.List.Concat.{flat_map-cons}
-use Rattle.loft_orders.specs.declared.note.Standing.{Standing}
-use Rattle.loft_orders.specs.declared.order.Sent.{Sent}
-use Rattle.loft_orders.specs.declared.order.Stop.{Stop}
-use Rattle.loft_orders.specs.declared.thread.Thread.{Thread}
 use Rattle.loft_orders.specs.declared.thread.Wait.{Wait}
 use Rattle.loft_sense.specs.Instant.{closed_wait, closed as closed_runner, closed_thread, stays, has_run, leavers}
 use Rattle.loft_passes.specs.declared.runner.Runner.{Runner}
 use Rattle.loft_passes.specs.View.{runners_of, linked_of, is_held}
 use Rattle.loft_ready.specs.Entered.{wait_of}
-use Rattle.loft_waits.specs.Told.{Told, closed}
+use Rattle.loft_waits.specs.Told.{closed}
 use Rattle.loft_line.specs.declared.line.Line.{Line}
-use Rattle.loft_line.specs.Line.{with_wait, with_waits, runners_in, standing_if, standings_in, Rests, is_marked, one_if, count_present, AreMarked, IsLine, stands_if, leaves_if, closing}
+use Rattle.loft_line.specs.Line.{with_wait, with_waits, runners_in, standing_if, standings_in, Rests, one_if, count_present, AreMarked, IsLine, stands_if, leaves_if, closing}
 use Rattle.loft_line.proofs.CloseLemmas.{with_closed, closes_if, closing_standing, closing_stands, closing_leaves, all_closed, all_stand, all_leave}
 use Rattle.loft_line.proofs.EndLemmas.{wait_rests}
 

@@ -1,9 +1,9 @@
 -- A thread closes at its position, and then all that have run.
-use Rattle.std.proofs.Common.{Vec, Global, ◌≡◌, ◌≢◌, ℕ, zero, suc, ◌+◌, ◌-◌, ◌<◌, ◌≤◌, ◌==◌, Bool, true, false, List, [], ◌∷◌, ◌++◌, refl, sym, ◌∙◌, ap, subst, arith, Option, Some, None, option_map, length, get_or, set, map, append-nil, append_assoc, get_or-set_same, get_or-set_other}
+use Rattle.std.proofs.Common.{Vec, Global, ◌≡◌, ◌≢◌, ℕ, zero, suc, ◌+◌, ◌-◌, ◌<◌, ◌≤◌, ◌==◌, Bool, true, false, List, [], ◌∷◌, ◌++◌, refl, sym, ◌∙◌, ap, subst, arith, Option, Some, None, length, get_or, set, map, append-nil, append_assoc, get_or-set_other}
 use Rattle.std.specs.Prelude.{not, ◌&&◌, ◌||◌, filter, nat_lt, MatchOption, if◌then◌else◌, slice_get, slice_set}
 use Rattle.std.proofs.lemmas.Bool.{ltb-true, ltb-false}
 use Rattle.std.specs.List.{flat_map}
-use Rattle.std.proofs.lemmas.List.{length-set, map-set, set-get_or, length-map}
+use Rattle.std.proofs.lemmas.List.{length-set, map-set}
 use Rattle.std.proofs.lemmas.List.Concat.{flat_map-cons}
 use mathlib.Core.Logic.{dite}
 use native.Mathlib.Decide.{ℕ_discrete}
@@ -16,16 +16,16 @@ use Rattle.loft_orders.specs.declared.order.Stop.TheVariants.{Holds, Leaves, End
 use Rattle.loft_orders.specs.declared.order.To.{To}
 use Rattle.loft_orders.specs.declared.thread.Thread.{Thread}
 use Rattle.loft_orders.specs.declared.thread.Wait.{Wait}
-use Rattle.loft_sense.specs.Instant.{runner_of, closed_wait, stays, has_run, leaver, leavers}
+use Rattle.loft_sense.specs.Instant.{runner_of, stays, has_run, leaver, leavers}
 use Rattle.loft_sense.specs.Passes.{Runner as Linked}
 use Rattle.loft_passes.specs.declared.runner.Runner.{Runner}
 use Rattle.loft_passes.specs.View.{runner_to, linked_after, linked_of, standing_of, is_held}
 use Rattle.loft_ready.specs.Entered.{wait_of}
-use Rattle.loft_waits.specs.Told.{Told, closed, wait_at}
+use Rattle.loft_waits.specs.Told.{Told}
 use Rattle.loft_line.specs.declared.line.Line.{Line}
-use Rattle.loft_line.specs.Line.{with_wait, with_waits, runners_in, standing_if, standings_in, Rests, is_marked, one_if, count_present, AreMarked, IsLine, IsIdle, stands_if, leaves_if, closing, IsBegun, IsEmptied, HasBegunAt, HasClosedAt, HasClosed}
-use Rattle.loft_line.proofs.ListLemmas.{length_with, there_is, with_there}
-use Rattle.loft_line.proofs.LineLemmas.{get_other, get_same, present_now}
+use Rattle.loft_line.specs.Line.{with_wait, with_waits, runners_in, standing_if, standings_in, Rests, is_marked, one_if, count_present, AreMarked, IsLine, stands_if, leaves_if, IsBegun, IsEmptied, HasBegunAt, HasClosedAt}
+use Rattle.loft_line.proofs.ListLemmas.{length_with, with_there}
+use Rattle.loft_line.proofs.LineLemmas.{get_other, get_same}
 use Rattle.loft_line.proofs.BatchLemmas.{begun_held, begun_standing, hole_waits, hole_rests, hole_standing}
 use Rattle.loft_line.proofs.CloseLemmas.{takes_first, keeps_same, nothing_left}
 
@@ -394,3 +394,10 @@ positive n h = one (nat_lt 0 n) refl
     one : (b : Bool) → nat_lt 0 n ≡ b → b ≡ true
     one true is = refl
     one false is = let le : n ≤ 0 = ltb-false 0 n is in absurd (omega (arith, h, le))
+
+with_flag_same : (w : Option Wait) (r : Runner) → (with_wait w r).suspended ≡ r.suspended
+with_flag_same None r = refl
+with_flag_same (Some w) r = refl
+
+pub logical_flag : (rs : List Runner) (ws : List (Option Wait)) (p : ℕ) (x r : Runner) → slice_get rs p ≡ Some x → slice_get (with_waits rs ws) p ≡ Some r → r.suspended ≡ x.suspended
+logical_flag rs ws p x r there h = sym (ap (λ (q : Runner). q.suspended) (logical_is rs ws p x r there h)) ∙ with_flag_same (get_or ws p None) x

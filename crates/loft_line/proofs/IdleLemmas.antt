@@ -1,7 +1,7 @@
 -- Lines in which nobody has run, after a thread was linked, stopped or suspended.
-use Rattle.std.proofs.Common.{◌≡◌, ℕ, suc, ◌+◌, ◌-◌, ◌<◌, ◌≤◌, Bool, true, false, List, [], ◌∷◌, ◌++◌, refl, sym, ◌∙◌, ap, subst, arith, Option, Some, None, length, get_or, set, map}
+use Rattle.std.proofs.Common.{◌≡◌, ℕ, ◌+◌, ◌<◌, Bool, true, false, List, [], ◌∷◌, ◌++◌, refl, sym, ◌∙◌, ap, subst, arith, Option, Some, None, length, get_or, set, map}
 use Rattle.std.specs.Prelude.{slice_get, slice_set}
-use Rattle.std.proofs.lemmas.List.{set-set, map-set, length-set, length-append, map-append}
+use Rattle.std.proofs.lemmas.List.{map-set, length-set, length-append, map-append}
 use Rattle.std.proofs.lemmas.Option.{slice_get_within}
 use Rattle.loft_base.specs.declared.ids.ThreadId.{ThreadId}
 use Rattle.loft_orders.specs.declared.note.Standing.{Standing}
@@ -14,7 +14,7 @@ use Rattle.loft_ready.specs.Entered.{wait_of}
 use Rattle.loft_ready.proofs.EnterLemmas.{set_last}
 use Rattle.loft_waits.specs.Told.{Told}
 use Rattle.loft_line.specs.declared.line.Line.{Line}
-use Rattle.loft_line.specs.Line.{with_wait, without_wait, with_waits, runners_in, standings_in, AreMarked, is_marked, count_present, IsLine, IsIdle, KeepsTold, IsFirstAt, IsEmptied}
+use Rattle.loft_line.specs.Line.{with_wait, without_wait, with_waits, runners_in, standings_in, AreMarked, is_marked, count_present, IsIdle, KeepsTold, IsFirstAt, IsEmptied}
 use Rattle.loft_line.proofs.ListLemmas.{there_is, there_set, left_there, changed_at, length_with, length_line, linked_last}
 use Rattle.loft_line.proofs.LineLemmas.{marked_more, marked_now, present_more, unmarked_more, waits_at}
 use Rattle.loft_line.proofs.FirstLemmas.{first_without, first_suspend}

@@ -9,3 +9,4 @@ pub mod EndLemmas
 pub mod ClosingLemmas
 pub mod FirstLemmas
 pub mod RestLemmas
+pub mod StandingLemmas

@@ -1,6 +1,6 @@
 -- Marks of threads that have run, and how many are held.
-use Rattle.std.proofs.Common.{◌≡◌, ◌≢◌, ℕ, zero, suc, ◌+◌, ◌-◌, ◌<◌, ◌≤◌, ◌==◌, Bool, true, false, List, [], ◌∷◌, ◌++◌, refl, sym, ◌∙◌, ap, subst, arith, Option, Some, None, length, get_or, set, map, get_or-set_same, get_or-set_other}
-use Rattle.std.specs.Prelude.{◌&&◌, ◌||◌, if◌then◌else◌, slice_get, slice_set}
+use Rattle.std.proofs.Common.{◌≡◌, ◌≢◌, ℕ, zero, suc, ◌+◌, ◌<◌, ◌≤◌, ◌==◌, Bool, true, false, List, [], ◌∷◌, ◌++◌, refl, sym, ◌∙◌, ap, subst, arith, Option, Some, None, length, set, map, get_or-set_same, get_or-set_other}
+use Rattle.std.specs.Prelude.{◌||◌, if◌then◌else◌, slice_get, slice_set}
 use Rattle.std.proofs.lemmas.List.{map-append, map-set, set-set, length-append}
 use Rattle.std.proofs.lemmas.List.Concat.{flat_map-cons}
 use mathlib.Core.Logic.{dite}
@@ -12,7 +12,7 @@ use Rattle.loft_sense.specs.Passes.{Runner as Linked}
 use Rattle.loft_passes.specs.declared.runner.Runner.{Runner}
 use Rattle.loft_passes.specs.View.{linked_of, runners_of, standing_of, is_held}
 use Rattle.loft_ready.specs.Entered.{wait_of}
-use Rattle.loft_line.specs.Line.{with_waits, standing_if, standings_in, Rests, is_marked, one_if, count_present, AreMarked}
+use Rattle.loft_line.specs.Line.{standing_if, standings_in, Rests, is_marked, one_if, count_present, AreMarked}
 
 -- ---- nobody has run
 

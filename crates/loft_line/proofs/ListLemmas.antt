@@ -1,12 +1,9 @@
 -- Threads beside their waits, by position.
-use Rattle.std.proofs.Common.{◌≡◌, ℕ, zero, suc, ◌+◌, ◌<◌, ◌≤◌, ◌==◌, Bool, true, false, List, [], ◌∷◌, ◌++◌, refl, sym, ◌∙◌, ap, subst, arith, Option, Some, None, length, get_or, set, map}
-use Rattle.std.specs.Prelude.{not, ◌&&◌, ◌||◌, if◌then◌else◌, slice_get, slice_set}
-use Rattle.std.proofs.lemmas.List.{set-set, map-set, length-set, length-append}
-use Rattle.std.proofs.lemmas.Option.{slice_get_read, slice_get_within}
+use Rattle.std.proofs.Common.{◌≡◌, ℕ, zero, suc, ◌+◌, ◌<◌, Bool, true, false, List, [], ◌∷◌, ◌++◌, refl, sym, ◌∙◌, ap, arith, Option, Some, None, length, get_or, set, map}
+use Rattle.std.specs.Prelude.{not, ◌&&◌, if◌then◌else◌, slice_get, slice_set}
+use Rattle.std.proofs.lemmas.List.{set-set, length-set, length-append}
 use Rattle.loft_orders.specs.declared.thread.Wait.{Wait}
 use Rattle.loft_orders.specs.declared.thread.Wait.TheVariants.{Halt}
-use Rattle.loft_orders.specs.declared.order.Stop.{Stop}
-use Rattle.loft_orders.specs.declared.order.Stop.TheVariants.{Holds, Leaves, Ends}
 use Rattle.loft_passes.specs.declared.runner.Runner.{Runner}
 use Rattle.loft_passes.specs.View.{is_held}
 use Rattle.loft_ready.specs.Entered.{wait_of}

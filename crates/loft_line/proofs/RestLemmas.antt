@@ -1,5 +1,5 @@
 -- Whether all threads of a line rest.
-use Rattle.std.proofs.Common.{◌≡◌, ℕ, zero, suc, ◌+◌, ◌≤◌, Bool, true, false, List, [], ◌∷◌, ◌++◌, refl, sym, ◌∙◌, ap, subst, arith, Option, Some, None, option_map, get_or, map}
+use Rattle.std.proofs.Common.{◌≡◌, ℕ, zero, suc, Bool, true, false, List, [], ◌∷◌, ◌++◌, refl, sym, ◌∙◌, ap, arith, Option, Some, None, option_map, get_or, map}
 use Rattle.std.specs.Prelude.{not, ◌&&◌, ◌||◌, is_none, is_some, if◌then◌else◌}
 use Rattle.std.specs.List.{list_any}
 use Rattle.std.proofs.lemmas.List.Concat.{flat_map-cons}
@@ -14,9 +14,8 @@ use Rattle.loft_sense.specs.Rest.{waits_for_ever, all_rest}
 use Rattle.loft_passes.specs.declared.runner.Runner.{Runner}
 use Rattle.loft_passes.specs.View.{standing_of, is_held}
 use Rattle.loft_ready.specs.Entered.{wait_of}
-use Rattle.loft_waits.specs.Told.{Told, count_in, ends_alone, is_alone, is_ready, ready_at, wait_at, closed, NobodyFrom}
-use Rattle.loft_line.specs.declared.line.Line.{Line}
-use Rattle.loft_line.specs.Line.{standing_if, standings_in, IsQuiet}
+use Rattle.loft_waits.specs.Told.{Told, count_in, ends_alone, is_alone, is_ready, wait_at, closed, NobodyFrom}
+use Rattle.loft_line.specs.Line.{standing_if, standings_in}
 
 none_or : {A : Type 0} (o : Option A) → is_some o ≡ true → is_none o ≡ false
 none_or None h = absurd cc

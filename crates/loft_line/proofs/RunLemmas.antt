@@ -1,5 +1,5 @@
 -- One run at a position of a line.
-use Rattle.std.proofs.Common.{◌≡◌, ℕ, ◌+◌, ◌-◌, ◌<◌, ◌≤◌, Bool, true, false, List, ◌++◌, refl, sym, ◌∙◌, ap, subst, arith, Option, Some, None, length, get_or, set, map}
+use Rattle.std.proofs.Common.{◌≡◌, ℕ, ◌-◌, ◌<◌, Bool, true, false, List, ◌++◌, refl, sym, ◌∙◌, ap, subst, arith, Option, Some, None, length, get_or, set, map}
 use Rattle.std.specs.Prelude.{◌&&◌, slice_get, slice_set}
 use Rattle.std.proofs.lemmas.List.{length-set}
 use Rattle.std.proofs.lemmas.Option.{slice_get_read}
@@ -9,7 +9,7 @@ use Rattle.loft_sense.specs.Machine.{Prog}
 use Rattle.loft_sense.specs.Around.{Around}
 use Rattle.loft_sense.specs.Passes.{Walk, run_of, runners_after, around_after}
 use Rattle.loft_passes.specs.declared.runner.Runner.{Runner}
-use Rattle.loft_passes.specs.View.{runner_to, linked_of, runners_of, is_held, can_run}
+use Rattle.loft_passes.specs.View.{runner_to, linked_of, runners_of, is_held}
 use Rattle.loft_waits.specs.Told.{Told, counts_of, ready_at, NobodyFrom, IsNext}
 use Rattle.loft_ready.specs.Entered.{wait_of, IsEntered, HasRunAt}
 use Rattle.loft_ready.proofs.RunLemmas.{entered_after, waits_left}

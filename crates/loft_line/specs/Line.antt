@@ -1,5 +1,5 @@
 -- The linked threads of a scheduler whose waits are kept over its instants (docs/SEMANTICS.md, "Waiting lists").
-use Rattle.std.specs.Prelude.{◌≡◌, ◌≢◌, ℕ, ◌+◌, ◌<◌, ◌≤◌, ◌==◌, not, ◌&&◌, ◌||◌, Bool, true, false, List, [], ◌∷◌, ◌++◌, map, filter, length, Option, Some, None, slice_get, slice_set, slice_index_or, if◌then◌else◌}
+use Rattle.std.specs.Prelude.{◌≡◌, ℕ, ◌+◌, ◌<◌, ◌==◌, not, ◌&&◌, ◌||◌, Bool, true, false, List, [], ◌∷◌, map, filter, length, Option, Some, None, slice_get, slice_set, slice_index_or, if◌then◌else◌}
 use Rattle.std.specs.List.{flat_map}
 use Rattle.loft_base.specs.declared.ids.ThreadId.{ThreadId}
 use Rattle.loft_orders.specs.declared.note.Standing.{Standing}
@@ -11,7 +11,7 @@ use Rattle.loft_sense.specs.Around.{Around}
 use Rattle.loft_sense.specs.CanGo.{same_thread}
 use Rattle.loft_sense.specs.Instant.{runner_of, closed_wait, stays, has_run, leavers}
 use Rattle.loft_passes.specs.declared.runner.Runner.{Runner}
-use Rattle.loft_passes.specs.View.{standing_of, linked_of, runners_of, is_held}
+use Rattle.loft_passes.specs.View.{standing_of, linked_of, is_held}
 use Rattle.loft_ready.specs.Entered.{wait_of}
 use Rattle.loft_waits.specs.Told.{counts_of, wait_at, ends_alone}
 use Rattle.loft_sense.specs.Rest.{waits_for_ever}

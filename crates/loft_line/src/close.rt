@@ -1,6 +1,6 @@
 //! The linked threads as an instant closes.
 
-ghost use Rattle.std.specs.Prelude.{◌≡◌, ◌<◌, ◌≤◌, ◌+◌, ◌^◌, ◌++◌, ◌∷◌, [], Some, true, map, filter, length, slice_get, IfOk, OnOk};
+ghost use Rattle.std.specs.Prelude.{◌≡◌, ◌<◌, ◌+◌, ◌^◌, ◌++◌, ◌∷◌, [], Some, true, map, filter, length, slice_get, IfOk, OnOk};
 ghost use Rattle.std.specs.List.{flat_map};
 ghost use Rattle.loft_orders.specs.declared.order.Order.TheVariants.{Arrive};
 ghost use Rattle.loft_sense.specs.Instant.{closed as closed_runner, closed_thread, stays, has_run, leavers};

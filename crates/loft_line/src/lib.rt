@@ -6,5 +6,6 @@ mod line;
 mod marks;
 mod run;
 mod slots;
+mod standings;
 
 pub use line::Line;

@@ -1,10 +1,10 @@
 //! The passes of an instant over linked threads whose waits are kept.
 
-ghost use Rattle.std.specs.Prelude.{◌≡◌, ◌<◌, true, false, length, map, IfOk, OnOk};
+ghost use Rattle.std.specs.Prelude.{◌≡◌, ◌<◌, true, false, length, map, OnOk};
 ghost use Rattle.loft_sense.specs.Instant.{runner_of as begin_of};
 ghost use Rattle.loft_sense.specs.Passes.{passes as passes_over};
 ghost use Rattle.loft_effect.specs.View.{around_of};
-ghost use Rattle.loft_passes.specs.View.{runners_of, walk_of};
+ghost use Rattle.loft_passes.specs.View.{walk_of};
 ghost use Rattle.loft_waits.specs.Told.{ready_at, NobodyFrom};
 ghost use Rattle.loft_ready.specs.Entered.{IsEntered, HasRunAt};
 

@@ -7,4 +7,4 @@ mod ready;
 mod tell;
 
 pub use ready::{Ready, run_ready};
-pub use tell::{from, tell_acts, tell_board, tell_ends};
+pub use tell::{from, tell_acts, tell_ends};

@@ -1,14 +1,12 @@
-use Rattle.std.proofs.Common.{◌≡◌, Bool, Option, List, Some, None, ap, sym, ◌∙◌, set, get_or}
+use Rattle.std.proofs.Common.{◌≡◌, Bool, Option, List, Some, None, ap, sym, ◌∙◌, set}
 use Rattle.std.specs.Prelude.{not, ◌&&◌, false, if◌then◌else◌}
 use Rattle.std.proofs.lemmas.List.{set-get_or}
 use Rattle.loft_orders.specs.declared.thread.Wait.{Wait}
 use Rattle.loft_orders.specs.declared.thread.Wait.TheVariants.{Halt}
-use Rattle.loft_passes.specs.declared.runner.Runner.{Runner}
 use Rattle.loft_passes.specs.View.{is_held}
 use Rattle.loft_ready.specs.Entered.{wait_of}
-use Rattle.loft_waits.specs.Told.{Told}
 use Rattle.loft_line.specs.Line.{with_wait, without_wait}
-use Rattle.loft_line.proofs.ListLemmas.{read_there, set_there}
+use Rattle.loft_line.proofs.ListLemmas.{read_there}
 use Rattle.loft_line.proofs.slots.enter.Goals as goal
 
 pub returns-else-is_awake-clause-told : goal.returns-else-is_awake-clause-told

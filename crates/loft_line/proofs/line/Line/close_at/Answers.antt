@@ -1,10 +1,9 @@
-use Rattle.std.proofs.Common.{◌≡◌, ◌<◌, ◌-◌, ◌++◌, ◌∷◌, [], List, Some, refl, sym, ap, subst, ◌∙◌, arith, length, append-nil}
+use Rattle.std.proofs.Common.{◌≡◌, ◌<◌, ◌-◌, ◌++◌, ◌∷◌, [], List, Some, refl, sym, ap, ◌∙◌, arith, length, append-nil}
 use Rattle.std.specs.Prelude.{slice_get}
 use Rattle.std.specs.Vec.{with_item}
 use Rattle.std.proofs.lemmas.Option.{slice_get_read}
 use Rattle.loft_orders.specs.declared.order.Order.TheVariants.{Arrive}
 use Rattle.loft_orders.specs.declared.order.Sent.{Sent}
-use Rattle.loft_orders.specs.declared.order.Stop.{Stop}
 use Rattle.loft_orders.specs.declared.order.Stop.TheVariants.{Leaves, Ends}
 use Rattle.loft_orders.specs.declared.thread.Thread.{Thread}
 use Rattle.loft_passes.specs.View.{is_held}

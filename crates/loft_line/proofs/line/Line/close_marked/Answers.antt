@@ -1,6 +1,6 @@
-use Rattle.std.proofs.Common.{◌≡◌, ◌<◌, ◌≤◌, ◌+◌, ℕ, List, Option, Some, None, true, false, sym, ap, subst, ◌∙◌, arith, length, refl}
+use Rattle.std.proofs.Common.{◌≡◌, ◌<◌, ◌≤◌, ◌+◌, ℕ, List, Option, Some, None, true, false, sym, subst, ◌∙◌, length}
 use Rattle.std.specs.Prelude.{MatchOption}
-use Rattle.loft_line.specs.Line.{runners_in, is_marked, HasClosedAt}
+use Rattle.loft_line.specs.Line.{is_marked}
 use Rattle.loft_line.proofs.EndLemmas.{IfMark, mark_from, closed_line, next_stands, next_leaves, next_standings, next_unmarked, last_stands, last_leaves}
 use Rattle.loft_line.proofs.line.Line.close_marked.Goals as goal
 

@@ -1,4 +1,4 @@
-use Rattle.std.proofs.Common.{◌≡◌, ◌++◌, ◌-◌, ℕ, length, Option, Some, None, List}
+use Rattle.std.proofs.Common.{◌≡◌, ◌++◌, length}
 use Rattle.std.specs.List.{flat_map}
 use Rattle.loft_line.specs.Line.{runners_in, standings_in, stands_if, leaves_if, IsLine, HasClosed}
 use Rattle.loft_line.proofs.EndLemmas.{IfMark, left_from}

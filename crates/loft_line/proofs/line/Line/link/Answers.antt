@@ -1,7 +1,6 @@
-use Rattle.std.proofs.Common.{rules, ◌≡◌, ◌<◌, ◌+◌, ◌++◌, ◌∷◌, [], ℕ, false, refl, sym, ap, ◌∙◌, arith, List, Option, None, length}
+use Rattle.std.proofs.Common.{rules, ◌≡◌, ◌<◌, ◌+◌, ◌++◌, ◌∷◌, [], false, refl, ap, ◌∙◌, arith, List, None, length}
 use Rattle.std.proofs.lemmas.List.{length-append}
 use Rattle.loft_orders.specs.declared.note.Standing.{Standing}
-use Rattle.loft_orders.specs.declared.thread.Wait.{Wait}
 use Rattle.loft_sense.specs.Instant.{runner_of}
 use Rattle.loft_passes.specs.declared.runner.Runner.{Runner}
 use Rattle.loft_passes.specs.View.{linked_of}

@@ -1,4 +1,4 @@
-use Rattle.std.proofs.Common.{List, Option, None, ℕ, get_or, ap, sym, ◌∙◌, ◌≡◌, false, true, Some, subst, map}
+use Rattle.std.proofs.Common.{List, Option, None, ℕ, get_or, ap, ◌∙◌, ◌≡◌, false, true, Some, subst, map}
 use Rattle.std.specs.Prelude.{not}
 use Rattle.std.specs.List.{list_any}
 use Rattle.loft_orders.specs.declared.thread.Wait.{Wait}

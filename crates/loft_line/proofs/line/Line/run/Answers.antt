@@ -1,17 +1,14 @@
-use Rattle.std.proofs.Common.{rules, ◌≡◌, ℕ, ◌+◌, ◌≤◌, ◌<◌, suc, refl, sym, ◌∙◌, ap, subst, arith, true, List, Option, Some, None, length}
+use Rattle.std.proofs.Common.{rules, ◌≡◌, ℕ, ◌+◌, ◌≤◌, ◌<◌, suc, refl, sym, ◌∙◌, ap, subst, arith, true, List, Option, Some, length}
 use Rattle.std.proofs.lemmas.Option.{slice_get_within}
-use Rattle.loft_sense.specs.Around.{Around}
 use Rattle.loft_sense.specs.Passes.{Runner as Linked, passes}
 use Rattle.loft_effect.specs.View.{around_of}
 use Rattle.loft_passes.specs.declared.runner.Runner.{Runner}
 use Rattle.loft_passes.specs.View.{runners_of, can_run}
-use Rattle.loft_waits.specs.Told.{NobodyFrom}
 use Rattle.loft_ready.specs.Entered.{IsEntered}
 use Rattle.loft_ready.proofs.PositionLemmas.{at, IsOn, Onward, runs_at, ready_runs, next_first, next_behind, length_set}
 use Rattle.loft_ready.proofs.RunLemmas.{fewer_steps}
 use Rattle.loft_line.specs.Line.{runners_in}
 use Rattle.loft_line.proofs.ListLemmas.{length_with}
-use Rattle.loft_line.proofs.LineLemmas.{all_rest}
 use Rattle.loft_line.proofs.RunLemmas.{IfNext, if_next, idle_rests, over_is}
 use Rattle.loft_line.proofs.line.Line.run.Goals as goal
 

@@ -1,14 +1,11 @@
-use Rattle.std.proofs.Common.{◌≡◌, ◌<◌, ◌-◌, ◌++◌, ◌∙◌, ℕ, ap, sym, refl, subst, arith, List, drop, length, length-set, get_or, set, map}
+use Rattle.std.proofs.Common.{◌<◌, ◌-◌, ◌++◌, ◌∙◌, ap, sym, refl, subst, arith, List, drop, length, length-set, set}
 use Rattle.loft_base.specs.declared.ids.ThreadId.{ThreadId}
-use Rattle.loft_board.specs.Board.{generate_all}
-use Rattle.loft_orders.specs.declared.note.Act.{Act}
-use Rattle.loft_sense.specs.LawWords.{generated_in, ended_in}
+use Rattle.loft_sense.specs.LawWords.{ended_in}
 use Rattle.loft_effect.specs.View.{around_of}
 use Rattle.loft_passes.specs.declared.runner.Runner.{Runner}
-use Rattle.loft_waits.specs.Told.{Told}
-use Rattle.loft_ready.proofs.RunLemmas.{told_run, grown, since}
+use Rattle.loft_ready.proofs.RunLemmas.{told_run, since}
 use Rattle.loft_line.specs.Line.{runners_in, AreMarked, count_present}
-use Rattle.loft_line.proofs.ListLemmas.{length_with, length_line, length_left}
+use Rattle.loft_line.proofs.ListLemmas.{length_with, length_left}
 use Rattle.loft_line.proofs.LineLemmas.{marked_run, present_run}
 use Rattle.loft_line.proofs.RunLemmas.{HasRunSo, taken_there, entered_now, has_run, closes_same, long3, ready_held}
 use Rattle.loft_line.proofs.line.Line.run_at.Given as given

@@ -1,11 +1,8 @@
-use Rattle.std.proofs.Common.{◌≡◌, ◌<◌, ◌≤◌, ◌+◌, ◌-◌, ℕ, Some, None, refl, sym, ap, subst, ◌∙◌, arith, length, length-set}
-use Rattle.std.proofs.lemmas.Option.{slice_get_within, slice_get_read}
-use Rattle.std.specs.Prelude.{slice_get}
+use Rattle.std.proofs.Common.{◌<◌, ◌≤◌, ◌-◌, ℕ, Some, None, refl, sym, arith, length}
+use Rattle.std.proofs.lemmas.Option.{slice_get_within}
 use Rattle.loft_base.specs.declared.ids.ThreadId.{ThreadId}
-use Rattle.loft_passes.specs.declared.runner.Runner.{Runner}
-use Rattle.loft_waits.specs.Told.{Told}
 use Rattle.loft_line.specs.declared.line.Line.{Line}
-use Rattle.loft_line.specs.Line.{runners_in, IsFirst, IsFirstAt}
+use Rattle.loft_line.specs.Line.{runners_in, IsFirstAt}
 use Rattle.loft_line.proofs.ListLemmas.{length_line, length_with, length_left}
 use Rattle.loft_line.proofs.FirstLemmas.{first_in, none_linked, first_linked, none_without}
 use Rattle.loft_line.proofs.BatchLemmas.{first_held}

@@ -1,10 +1,10 @@
-use Rattle.std.proofs.Common.{◌≡◌, ◌<◌, ◌≤◌, ◌+◌, ℕ, Some, None, refl, sym, ap, subst, ◌∙◌, arith, length, length-set, set}
+use Rattle.std.proofs.Common.{◌≡◌, ◌<◌, Some, None, refl, sym, ap, subst, ◌∙◌, arith, length, length-set, set}
 use Rattle.std.proofs.lemmas.Option.{slice_get_within, slice_get_read}
 use Rattle.std.specs.Prelude.{slice_get, slice_set}
 use Rattle.loft_passes.specs.declared.runner.Runner.{Runner}
 use Rattle.loft_waits.specs.Told.{Told}
 use Rattle.loft_line.specs.declared.line.Line.{Line}
-use Rattle.loft_line.specs.Line.{runners_in, without_wait, IsFirst, IsFirstAt}
+use Rattle.loft_line.specs.Line.{runners_in, without_wait, IsFirstAt}
 use Rattle.loft_line.proofs.ListLemmas.{length_line, length_with, length_left}
 use Rattle.loft_line.proofs.FirstLemmas.{first_in, none_linked, first_linked, none_suspend}
 use Rattle.loft_ready.specs.Entered.{wait_of}

@@ -1,5 +1,4 @@
 use Rattle.std.proofs.Common.{Option, ap, ◌∙◌}
-use Rattle.loft_orders.specs.declared.thread.Thread.{Thread}
 use Rattle.loft_orders.specs.declared.thread.Wait.{Wait}
 use Rattle.loft_line.specs.Line.{thread_with}
 use Rattle.loft_line.proofs.ListLemmas.{thread_there}
