@@ -1,9 +1,8 @@
 -- A history has ended where none of the choices of declared actors is allowed after it.
 use Rattle.std.proofs.Common.{◌≡◌, ◌≢◌, ℕ, ◌+◌, ◌<◌, ◌≤◌, nat_lt, ◌==◌, Bool, true, false, not, ◌&&◌, List, [], ◌∷◌, ◌++◌, length, Option, None, Some, ◌⊎◌, inl, inr, refl, sym, ap, subst, ◌∙◌, arith, if◌then◌else◌, ◌↔◌}
-use Rattle.std.specs.Prelude.{IsTrue, MatchOption, Ok, Err}
+use Rattle.std.specs.Prelude.{MatchOption, Ok}
 use Rattle.std.proofs.lemmas.Bool.{lt-ltb, eqb-true, eqb-false}
 use Rattle.loft_base.specs.Options.{HasWorkers}
-use Rattle.loft_base.specs.declared.ids.SchedId.{SchedId}
 use Rattle.loft_base.specs.declared.options.RunOptions.{RunOptions}
 use Rattle.loft_orders.specs.declared.entry.Entry.{Entry}
 use Rattle.loft_orders.specs.declared.entry.Entry.TheVariants.{Take, Give, Pick, Post, Client}
@@ -13,7 +12,7 @@ use Rattle.loft_history.specs.History.{Choice, waiting, jobs, unposted, unsent, 
 use Rattle.loft_turns.specs.Course.{Moves}
 use Rattle.loft_shape.specs.declared.raw.Choice.{Choice as ByName}
 use Rattle.loft_replay.specs.Named.{follows, IsRefused}
-use Rattle.loft_replay.specs.Whole.{IsUnfinished, IsNotWhole, choice_at, HasTried, GoesOnOrEnded}
+use Rattle.loft_replay.specs.Whole.{IsNotWhole, choice_at, HasTried, GoesOnOrEnded}
 use Rattle.loft_replay.specs.declared.ended.Kind.TheVariants as kind
 use Rattle.loft_replay.specs.declared.replay.FollowError.{FollowError}
 use Rattle.loft_replay.specs.declared.replay.FollowError.TheVariants.{NotAllowed, NoMemory}

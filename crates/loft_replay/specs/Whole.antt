@@ -1,6 +1,5 @@
 -- Whole histories: those after which no choice is allowed (docs/SEMANTICS.md, "Choices by name").
 use Rattle.std.specs.Prelude.{◌≡◌, ℕ, ◌+◌, ◌<◌, ◌⊎◌, Bool, true, false, List, length, None, Ok, Err}
-use Rattle.loft_base.specs.declared.ids.SchedId.{SchedId}
 use Rattle.loft_orders.specs.declared.entry.Entry.{Entry}
 use Rattle.loft_base.specs.declared.options.RunOptions.{RunOptions}
 use Rattle.loft_sense.specs.Heads.{scheduler}

@@ -1,6 +1,6 @@
 //! Whether a history has ended: no choice is allowed after it.
 
-ghost use Rattle.std.specs.Prelude.{◌≡◌, ◌<◌, length, OnOk, IfOk};
+ghost use Rattle.std.specs.Prelude.{◌≡◌, OnOk, IfOk};
 ghost use Rattle.loft_sense.specs.Machine.{heads as heads_of};
 ghost use Rattle.loft_turns.specs.Course.{IsRun, CanRun, Moves};
 ghost use Rattle.loft_replay.specs.Whole.{choice_at, HasTried, GoesOnOrEnded};

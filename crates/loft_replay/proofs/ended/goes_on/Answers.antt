@@ -1,4 +1,4 @@
-use Rattle.std.proofs.Common.{◌≡◌, ◌∙◌, ℕ, ap, length}
+use Rattle.std.proofs.Common.{◌≡◌, ◌∙◌, ap, length}
 use Rattle.loft_tree.specs.declared.heads.Heads.{Heads}
 use Rattle.loft_sense.specs.Machine.{heads}
 use Rattle.loft_replay.specs.Whole.{choice_at}
