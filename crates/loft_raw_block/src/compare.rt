@@ -1,6 +1,6 @@
 //! A block that is compared with a text.
 
-ghost use Rattle.std.specs.Prelude.{◌≡◌, ◌≤◌, ◌++◌, ℕ, List, length};
+ghost use Rattle.std.specs.Prelude.{◌++◌, ℕ, List};
 ghost use Rattle.std.specs.List.{flat_map};
 ghost use Rattle.loft_shape.specs.Text.{block_text};
 ghost use Rattle.loft_replay_error.specs.Difference.{IsDifference};

@@ -4,12 +4,11 @@ ghost use Rattle.std.specs.Prelude.{◌≡◌, ◌++◌, ◌∷◌, [], min, len
 ghost use Rattle.std.specs.Fmt.{decimal};
 ghost use Rattle.std.specs.List.{flat_map};
 ghost use Rattle.loft_text.specs.Appending.{Appends};
-ghost use Rattle.loft_base.specs.declared.options.RunOptions.{RunOptions};
 ghost use Rattle.loft_shape.specs.Text.{block_text, choice_text, head_text};
 ghost use Rattle.loft_reader.specs.Answer.{report_in};
 ghost use Rattle.loft_raw_block.specs.Offsets.{last_place};
 
-use loft_base::{RunOptions, Sequence};
+use loft_base::Sequence;
 use loft_reader::RawReport;
 use loft_shape::{Choice, RawBlock};
 use loft_text::{TextLength, TextWriter};

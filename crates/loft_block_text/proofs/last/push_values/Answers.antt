@@ -1,4 +1,4 @@
-use Rattle.std.proofs.Common.{◌≡◌, ◌++◌, ◌∷◌, [], sym, ap, refl, FitsSigned, w64, rules}
+use Rattle.std.proofs.Common.{◌++◌, ◌∷◌, [], sym, ap, FitsSigned, w64, rules}
 use Rattle.loft_instant_text.proofs.Appended.{appends_then}
 use Rattle.loft_block_text.proofs.SharedLemmas.{still_more, still_same, value_text, value_read, shared-written, shared-skipped}
 use Rattle.loft_block_text.proofs.last.push_values.Goals.{then-s-head+in-Some, else-s-head}

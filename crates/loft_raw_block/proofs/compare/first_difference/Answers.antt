@@ -1,4 +1,4 @@
-use Rattle.std.proofs.Common.{◌≡◌, ◌<◌, ◌-◌, ℕ, List, [], ◌∷◌, true, false, codes, length, refl, sym, ap, subst, ◌∙◌}
+use Rattle.std.proofs.Common.{◌≡◌, ◌<◌, ◌-◌, ℕ, List, [], true, false, codes, length, refl, sym, subst, ◌∙◌}
 use Rattle.std.specs.List.{flat_map}
 use Rattle.loft_replay_error.specs.Difference.{DifferAt}
 use Rattle.loft_raw_block.proofs.CompareLemmas.{block_front, left_within, seen_same, seen_other, none_left, some_left}
