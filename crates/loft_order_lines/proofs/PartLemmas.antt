@@ -1,5 +1,5 @@
 -- The parts of the texts of ids, points, frames, threads and orders, where they are cut.
-use Rattle.std.proofs.Common.{◌≡◌, ℕ, ◌<◌, ◌^◌, ◌==◌, ℤ, Bool, true, false, List, [], ◌∷◌, ◌++◌, length, codes, Option, Some, None, Result, Ok, Err, IfOk, refl, sym, ap, subst, ◌∙◌, append-nil, arith}
+use Rattle.std.proofs.Common.{◌≡◌, ℕ, ◌<◌, ◌==◌, ℤ, Bool, true, false, List, [], ◌∷◌, ◌++◌, length, codes, Option, Some, None, Result, Ok, Err, IfOk, refl, sym, ap, subst, ◌∙◌, append-nil, arith}
 use Rattle.std.specs.Fmt.{decimal, signed_decimal}
 use Rattle.loft_base.specs.declared.ids.Maker.{Maker}
 use Rattle.loft_base.specs.declared.ids.EventId.{EventId}
@@ -16,7 +16,7 @@ use Rattle.loft_orders.specs.declared.order.End.{End}
 use Rattle.loft_orders.specs.declared.order.Order.TheVariants as order
 use Rattle.loft_orders.specs.Text.{separated, separated_by, space, maker_name, id_text, value_text, module_name, event_name, at_text, end_text, wait_text, frame_text, thread_text, sent_value}
 use Rattle.loft_order_lines.specs.Cut.{Lacks, IsCut}
-use Rattle.loft_order_lines.specs.Texts.{OwnNames, IdHasText, NumberHasText, ModuleHasText, EventHasText, PointHasText, FrameHasText, ThreadHasText, CreateHasText}
+use Rattle.loft_order_lines.specs.Texts.{OwnNames, IdHasText, NumberHasText, EventHasText, PointHasText, FrameHasText, ThreadHasText, CreateHasText}
 use Rattle.loft_order_lines.proofs.Bytes.{lacks_class, lacks_decimal}
 use Rattle.loft_order_lines.proofs.Cuts.{cut_found, cut_none}
 use Rattle.loft_order_lines.proofs.NameLemmas.{name_bytes, event_is}

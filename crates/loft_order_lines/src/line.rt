@@ -5,7 +5,7 @@ ghost use Rattle.loft_orders.specs.declared.order.Mark.{Mark};
 ghost use Rattle.loft_orders.specs.declared.order.Order.{Order};
 ghost use Rattle.loft_orders.specs.Lines.{mark_word};
 ghost use Rattle.loft_orders.specs.Text.{order_text};
-ghost use Rattle.loft_order_lines.specs.Texts.{OwnNames, OrderHasText};
+ghost use Rattle.loft_order_lines.specs.Texts.{OwnNames};
 ghost use Rattle.loft_order_lines.specs.Says.{Says};
 ghost use Rattle.loft_order_lines.specs.Words.{word_of_mark};
 ghost use Rattle.loft_shape.specs.Word.{spelling};

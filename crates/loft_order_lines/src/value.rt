@@ -1,6 +1,6 @@
 //! Ids, values and points.
 
-ghost use Rattle.std.specs.Prelude.{◌≡◌, ◌<◌, ◌^◌, ℕ, true, Some, IfSome};
+ghost use Rattle.std.specs.Prelude.{◌≡◌, ◌<◌, ◌^◌, ℕ, Some, IfSome};
 ghost use Rattle.std.specs.Fmt.{decimal, signed_decimal};
 ghost use Rattle.loft_order_lines.specs.Texts.{begins_number};
 ghost use Rattle.loft_base.specs.declared.ids.ThreadId.{ThreadId};

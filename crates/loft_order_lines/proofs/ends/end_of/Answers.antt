@@ -1,4 +1,4 @@
-use Rattle.std.proofs.Common.{◌≡◌, ℕ, ℤ, Bool, true, false, List, [], ◌∷◌, ◌++◌, Option, Some, None, length, refl, sym, ap, subst, ◌∙◌}
+use Rattle.std.proofs.Common.{Some, None, sym, ap, ◌∙◌}
 use Rattle.loft_orders.specs.declared.order.End.{End}
 use Rattle.loft_order_lines.proofs.WordLemmas.{end_cut, plain_same, fault_only}
 use Rattle.loft_order_lines.proofs.PartLemmas.{never_none, one_found}

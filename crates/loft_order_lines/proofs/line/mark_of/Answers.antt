@@ -1,4 +1,4 @@
-use Rattle.std.proofs.Common.{◌≡◌, ℕ, ℤ, Bool, true, false, List, [], ◌∷◌, ◌++◌, Option, Some, None, length, refl, sym, ap, subst, ◌∙◌}
+use Rattle.std.proofs.Common.{Some, ap, ◌∙◌}
 use Rattle.loft_shape.specs.Word.{word_of}
 use Rattle.loft_orders.specs.declared.order.Mark.{Mark}
 use Rattle.loft_order_lines.specs.Words.{word_of_mark}

@@ -1,4 +1,4 @@
-use Rattle.std.proofs.Common.{◌≡◌, ℕ, ℤ, Bool, true, false, List, [], ◌∷◌, ◌++◌, Option, Some, None, length, refl, sym, ap, subst, ◌∙◌}
+use Rattle.std.proofs.Common.{◌≡◌, true, Some}
 use Rattle.loft_order_lines.proofs.PartLemmas.{if_done}
 use Rattle.loft_order_lines.proofs.line.read_order.Goals as goal
 

@@ -1,4 +1,4 @@
-use Rattle.std.proofs.Common.{◌≡◌, ℕ, ℤ, Bool, true, false, List, [], ◌∷◌, ◌++◌, Option, Some, None, length, refl, sym, ap, subst, ◌∙◌}
+use Rattle.std.proofs.Common.{false, ◌++◌, Some, sym, ap, ◌∙◌}
 use Rattle.loft_orders.specs.declared.order.Order.{Order}
 use Rattle.loft_orders.specs.Lines.{mark_word}
 use Rattle.loft_orders.specs.Text.{order_text}

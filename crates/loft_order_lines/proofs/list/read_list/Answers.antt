@@ -1,4 +1,4 @@
-use Rattle.std.proofs.Common.{◌≡◌, ◌<◌, ℕ, true, List, [], ◌∷◌, ◌++◌, Option, Some, None, length, refl, sym, ap, subst, ◌∙◌, arith}
+use Rattle.std.proofs.Common.{◌<◌, true, [], ◌∷◌, length, arith}
 use Rattle.loft_order_lines.proofs.Lists.{each_append}
 use Rattle.loft_order_lines.proofs.ListLemmas.{left_first}
 use Rattle.loft_order_lines.proofs.PartLemmas.{never_none, one_found}

@@ -1,4 +1,4 @@
-use Rattle.std.proofs.Common.{◌≡◌, ℕ, Some, sym, ap, ◌∙◌}
+use Rattle.std.proofs.Common.{◌≡◌, ℕ, Some, ap}
 use Rattle.loft_order_lines.proofs.NameLemmas.{event_found}
 use Rattle.loft_order_lines.proofs.names.event_named.Goals as goal
 

@@ -1,4 +1,4 @@
-use Rattle.std.proofs.Common.{◌≡◌, ℕ, ℤ, Bool, true, false, List, [], ◌∷◌, ◌++◌, Option, Some, None, length, refl, sym, ap, subst, ◌∙◌}
+use Rattle.std.proofs.Common.{true, Some, sym, ap, ◌∙◌}
 use Rattle.loft_base.specs.declared.ids.Maker.{Maker}
 use Rattle.loft_order_lines.proofs.NameLemmas.{maker_starts, same_bytes}
 use Rattle.loft_order_lines.proofs.names.maker_named.Goals as goal

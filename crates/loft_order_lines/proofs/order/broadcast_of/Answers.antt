@@ -1,4 +1,4 @@
-use Rattle.std.proofs.Common.{◌≡◌, ℕ, ℤ, Bool, true, false, List, [], ◌∷◌, ◌++◌, Option, Some, None, length, w64, to_z, of_z, refl, sym, ap, subst, ◌∙◌}
+use Rattle.std.proofs.Common.{◌≡◌, ℤ, true, false, Some, None, w64, to_z, of_z, sym, ap, ◌∙◌}
 use Rattle.loft_orders.specs.declared.order.Order.{Order}
 use Rattle.loft_orders.specs.declared.order.Order.TheVariants as order
 use Rattle.loft_order_lines.specs.Texts.{OrderHasText}

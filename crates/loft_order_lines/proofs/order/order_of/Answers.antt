@@ -1,4 +1,4 @@
-use Rattle.std.proofs.Common.{◌≡◌, ℕ, ℤ, Bool, true, false, List, [], ◌∷◌, ◌++◌, Option, Some, None, length, refl, sym, ap, subst, ◌∙◌}
+use Rattle.std.proofs.Common.{Some, sym, ap, ◌∙◌}
 use Rattle.loft_order_lines.specs.Words.{word_of_order}
 use Rattle.loft_order_lines.proofs.WordLemmas.{order_cut, arm, control_only}
 use Rattle.loft_order_lines.proofs.PartLemmas.{never_none, one_found}

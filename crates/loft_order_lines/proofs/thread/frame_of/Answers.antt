@@ -1,4 +1,3 @@
-use Rattle.std.proofs.Common.{◌≡◌, ℕ, ℤ, Bool, true, false, List, [], ◌∷◌, ◌++◌, Option, Some, None, length, refl, sym, ap, subst, ◌∙◌}
 use Rattle.loft_order_lines.proofs.Texts.{number_some, number_lacks, value_some, value_lacks, comma_outside}
 use Rattle.loft_order_lines.proofs.PartLemmas.{frame_parts, same_frame, never_none, one_found}
 use Rattle.loft_order_lines.proofs.thread.frame_of.Goals as goal

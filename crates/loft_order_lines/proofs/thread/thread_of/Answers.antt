@@ -1,4 +1,4 @@
-use Rattle.std.proofs.Common.{◌≡◌, ℕ, ℤ, Bool, true, false, List, [], ◌∷◌, ◌++◌, Option, Some, None, length, refl, sym, ap, subst, ◌∙◌}
+use Rattle.std.proofs.Common.{sym}
 use Rattle.loft_orders.specs.declared.thread.Wait.TheVariants as wait
 use Rattle.loft_order_lines.proofs.Numbers.{bits_same}
 use Rattle.loft_order_lines.proofs.Texts.{frame_some, frame_lacks_blank}

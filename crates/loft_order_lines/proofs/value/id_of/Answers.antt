@@ -1,4 +1,3 @@
-use Rattle.std.proofs.Common.{◌≡◌, ℕ, ℤ, Bool, true, false, List, [], ◌∷◌, ◌++◌, Option, Some, None, length, refl, sym, ap, subst, ◌∙◌}
 use Rattle.loft_order_lines.proofs.PartLemmas.{id_parts, same_id, never_none, one_found}
 use Rattle.loft_order_lines.proofs.value.id_of.Goals as goal
 

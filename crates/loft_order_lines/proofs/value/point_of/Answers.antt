@@ -1,4 +1,3 @@
-use Rattle.std.proofs.Common.{◌≡◌, ℕ, ℤ, Bool, true, false, List, [], ◌∷◌, ◌++◌, Option, Some, None, length, refl, sym, ap, subst, ◌∙◌}
 use Rattle.loft_order_lines.proofs.PartLemmas.{point_parts, same_point, never_none, one_found}
 use Rattle.loft_order_lines.proofs.value.point_of.Goals as goal
 
