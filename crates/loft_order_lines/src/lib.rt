@@ -13,8 +13,3 @@ mod value;
 
 pub use cut::cut_at;
 pub use line::read_order;
-
-#[test]
-fn scratch() {
-    let _ = cut(b"a.b", b'.');
-}
