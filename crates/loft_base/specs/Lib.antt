@@ -6,3 +6,4 @@ pub mod Lists
 pub mod Streams
 pub mod Writing
 pub mod Options
+pub mod Walk

@@ -1,5 +1,5 @@
 -- Lines of a text, and what a call that writes a text may leave in a sink.
-use Rattle.std.specs.Prelude.{◌≡◌, ℕ, ◌≤◌, List, Option, Result, OnOk, OnErr, IsErrOf}
+use Rattle.std.specs.Prelude.{◌≡◌, ℕ, ◌+◌, ◌<◌, ◌≤◌, List, length, Option, Result, OnOk, OnErr, IsErrOf}
 use Rattle.std.specs.Io.BufRead.{take_through}
 use Rattle.loft_base.specs.Outside.{appended, GrowsByPrefix, Rose}
 use Rattle.loft_base.specs.declared.writing.WriteError.{WriteError}
@@ -9,14 +9,19 @@ use Rattle.loft_base.specs.declared.writing.WriteError.TheVariants.{Sink}
 abbrev pub leading_line : List ℕ → List ℕ
 leading_line text = take_through 10 text
 
--- A call has this result. Of the bytes written, `old` is known before it and `new` after it; the counts of faults are `before` and `after`.
--- All of the text is written where the result is Ok, else a prefix of it; the sink is blamed only where its count rose.
-pub record Writes (result : Result (Unit {0}) WriteError) (old new : Option (List ℕ)) (before after : ℕ) (text : List ℕ) : Type 0 where
+-- A call has this result. Of the bytes written, `old` is known before it and `new` after it; the counts of faults are `before` and `after`;
+-- the sink is known to take `room` more bytes before it, and `left` after it.
+-- All of the text is written where the result is Ok, else a prefix of it; the sink is blamed only where its count rose and the text has more
+-- bytes than it was known to take.
+pub record Writes (result : Result (Unit {0}) WriteError) (old new : Option (List ℕ)) (before after room left : ℕ) (text : List ℕ) : Type 0 where
   pub ok : OnOk result (new ≡ appended old text)
   pub failed : OnErr result (GrowsByPrefix old new text)
   pub cause : IsErrOf result Sink → Rose before after
   pub never_falls : before ≤ after
+  pub blamed : IsErrOf result Sink → room < length text
+  pub no_fault : length text ≤ room → after ≡ before
+  pub room_left : OnOk result (room ≤ left + length text)
 
--- The same of a call that was handed a sink: `written` and `faults` are what the sink's type means by these words.
-abbrev pub WritesTo : {S : Type 0} → (S → Option (List ℕ)) → (S → ℕ) → S → S → Result (Unit {0}) WriteError → List ℕ → Type 0
-WritesTo written faults old new result text = Writes result (written old) (written new) (faults old) (faults new) text
+-- The same of a call that was handed a sink: `written`, `faults` and `room` are what the sink's type means by these words.
+abbrev pub WritesTo : {S : Type 0} → (S → Option (List ℕ)) → (S → ℕ) → (S → ℕ) → S → S → Result (Unit {0}) WriteError → List ℕ → Type 0
+WritesTo written faults room old new result text = Writes result (written old) (written new) (faults old) (faults new) (room old) (room new) text

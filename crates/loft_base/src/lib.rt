@@ -15,6 +15,7 @@ mod out;
 mod outside;
 mod room;
 mod streams;
+mod walk;
 mod whole;
 mod writing;
 
@@ -29,5 +30,6 @@ pub use options::{Limits, MAX_BLOCK, MAX_BUDGET, MAX_INSTANTS, MAX_WORKERS, RunO
 pub use out::Out;
 pub use outside::{Files, Gate, Sink, Turn};
 pub use room::Room;
+pub use walk::FileWalk;
 pub use whole::read_whole;
 pub use writing::{WriteError, write_lines, write_piece};

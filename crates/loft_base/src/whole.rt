@@ -5,7 +5,8 @@ ghost use Rattle.loft_base.specs.Outside.{Rose};
 
 use crate::errors::FileError;
 use crate::outside::Files;
-use std::alloc::{AllocError, Global};
+use crate::walk::FileWalk;
+use std::alloc::Global;
 
 /// How many bytes of a file are asked for at once.
 const PART: usize = 16384;
@@ -51,25 +52,13 @@ pub fn read_whole<F: Files>(
     ensures same_sure { F.never_fails files.new ≡ F.never_fails files.old }
     ensures same_refused { F.always_fails files.new ≡ F.always_fails files.old }
 {
-    let mut buffer = zeros(alloc, PART)?;
+    let mut walk = FileWalk::new(alloc, PART)?;
     let mut whole = Vec::new(alloc);
-    let mut at = 0;
-    loop {
-        let count = files.part(name, at, buffer.as_mut_slice())?;
-        if count == 0 {
-            return Ok(whole);
-        }
-        at += count as u64;
-        if limit < at {
+    while walk.advance(files, name)? {
+        if limit < walk.count() {
             return Err(FileError::TooLong);
         }
-        whole.extend_from_slice(&buffer[..count])?;
+        whole.extend_from_slice(walk.part())?;
     }
-}
-
-/// `count` zero bytes.
-fn zeros(alloc: Global, count: usize) -> Result<Vec<u8>, AllocError>
-    ensures { IfOk result (λ bytes. vec_len bytes ≡ count) }
-{
-    vec![in alloc; 0; count]
+    Ok(whole)
 }

@@ -42,7 +42,7 @@ impl From<NoMemory> for WriteError {
 /// faults rose; a prefix of the piece was then written.
 pub fn write_piece<S: Sink>(piece: &[u8], sink: &mut S) -> Result<(), WriteError>
     requires { 0 < length piece.now }
-    ensures { WritesTo S.written S.faults sink.old sink.new result piece.now }
+    ensures { WritesTo S.written S.faults S.room sink.old sink.new result piece.now }
 {
     sink.put(piece)?;
     Ok(())
@@ -51,7 +51,7 @@ pub fn write_piece<S: Sink>(piece: &[u8], sink: &mut S) -> Result<(), WriteError
 /// Writes a text, each line with its line feed as a piece of its own. `Sink` comes where the sink
 /// failed, and its count of faults rose; a prefix of the text was then written.
 pub fn write_lines<S: Sink>(text: &[u8], sink: &mut S) -> Result<(), WriteError>
-    ensures { WritesTo S.written S.faults sink.old sink.new result text.now }
+    ensures { WritesTo S.written S.faults S.room sink.old sink.new result text.now }
 {
     let mut rest = text;
     'lines: while !rest.is_empty() {

@@ -86,7 +86,7 @@ impl ReportWriter<'_> {
         sink: &mut S,
     ) -> Result<(), WriteError>
         requires heads { world.now.heads ≡ self.now.heads.now }
-        ensures { WritesTo S.written S.faults sink.old sink.new result
+        ensures { WritesTo S.written S.faults S.room sink.old sink.new result
             (world_report self.now.heads.now options.now world.now.history notes.now.of finals.now.of) }
     {
         self.write_head(options, world, line, sink)?;
@@ -103,7 +103,7 @@ impl ReportWriter<'_> {
         line: &mut LineBuffer,
         sink: &mut S,
     ) -> Result<(), WriteError>
-        ensures { WritesTo S.written S.faults sink.old sink.new result
+        ensures { WritesTo S.written S.faults S.room sink.old sink.new result
             (text_of (head_lines self.now.heads.now options.now (map choice_of world.now.history))) }
     {
         self.write_text("loft-report 1", line, sink)?;
@@ -124,7 +124,7 @@ impl ReportWriter<'_> {
         line: &mut LineBuffer,
         sink: &mut S,
     ) -> Result<(), WriteError>
-        ensures { WritesTo S.written S.faults sink.old sink.new result
+        ensures { WritesTo S.written S.faults S.room sink.old sink.new result
             (text_of (world_blocks self.now.heads.now world.now.history
             (schedulers_from 0 self.now.heads.now.schedulers) notes.now finals.now)) }
     {
@@ -147,7 +147,7 @@ impl ReportWriter<'_> {
         line: &mut LineBuffer,
         sink: &mut S,
     ) -> Result<(), WriteError>
-        ensures { WritesTo S.written S.faults sink.old sink.new result
+        ensures { WritesTo S.written S.faults S.room sink.old sink.new result
             (text_of (world_block self.now.heads.now world.now.history s notes.now last.now)) }
     {
         self.write_scheduler("scheduler ", s, line, sink)?;
@@ -163,7 +163,7 @@ impl ReportWriter<'_> {
         line: &mut LineBuffer,
         sink: &mut S,
     ) -> Result<(), WriteError>
-        ensures { WritesTo S.written S.faults sink.old sink.new result
+        ensures { WritesTo S.written S.faults S.room sink.old sink.new result
             (text_of (final_lines self.now.heads.now s last.now.linked last.now.shared)) }
     {
         let linked = last.linked.as_slice();
@@ -180,7 +180,7 @@ impl ReportWriter<'_> {
         line: &mut LineBuffer,
         sink: &mut S,
     ) -> Result<(), WriteError>
-        ensures { WritesTo S.written S.faults sink.old sink.new result
+        ensures { WritesTo S.written S.faults S.room sink.old sink.new result
             (text_of (shared_lines self.now.heads.now
             (shared_of self.now.heads.now s) values.now)) }
     {
@@ -205,7 +205,7 @@ impl ReportWriter<'_> {
         line: &mut LineBuffer,
         sink: &mut S,
     ) -> Result<(), WriteError>
-        ensures { WritesTo S.written S.faults sink.old sink.new result
+        ensures { WritesTo S.written S.faults S.room sink.old sink.new result
             (text_of (map (T.text self.now.heads.now) items.now)) }
     {
         for item in items {
@@ -222,7 +222,7 @@ impl ReportWriter<'_> {
         line: &mut LineBuffer,
         sink: &mut S,
     ) -> Result<(), WriteError>
-        ensures { WritesTo S.written S.faults sink.old sink.new result
+        ensures { WritesTo S.written S.faults S.room sink.old sink.new result
             (text_of (map (standing_line self.now.heads.now) linked.now)) }
     {
         for standing in linked {
@@ -239,7 +239,7 @@ impl ReportWriter<'_> {
         line: &mut LineBuffer,
         sink: &mut S,
     ) -> Result<(), WriteError>
-        ensures { WritesTo S.written S.faults sink.old sink.new result
+        ensures { WritesTo S.written S.faults S.room sink.old sink.new result
             (text.now ++ 10 ∷ []) }
     {
         make_text_line(line, text);
@@ -254,7 +254,7 @@ impl ReportWriter<'_> {
         line: &mut LineBuffer,
         sink: &mut S,
     ) -> Result<(), WriteError>
-        ensures { WritesTo S.written S.faults sink.old sink.new result
+        ensures { WritesTo S.written S.faults S.room sink.old sink.new result
             ((word.now ++ decimal number) ++ 10 ∷ []) }
     {
         make_number_line(line, word, number);
@@ -269,7 +269,7 @@ impl ReportWriter<'_> {
         line: &mut LineBuffer,
         sink: &mut S,
     ) -> Result<(), WriteError>
-        ensures { WritesTo S.written S.faults sink.old sink.new result
+        ensures { WritesTo S.written S.faults S.room sink.old sink.new result
             ((word.now ++ scheduler_name self.now.heads.now s) ++ 10 ∷ []) }
     {
         make_scheduler_line(line, self.heads, word, s);
@@ -280,7 +280,7 @@ impl ReportWriter<'_> {
 /// Writes a line and its line feed, if memory was enough for the line.
 fn write_line<S: Sink>(line: &mut LineBuffer, sink: &mut S) -> Result<(), WriteError>
     ensures { (text : List ℕ) → Holds line.old text
-        → WritesTo S.written S.faults sink.old sink.new result (text ++ 10 ∷ []) }
+        → WritesTo S.written S.faults S.room sink.old sink.new result (text ++ 10 ∷ []) }
 {
     line.byte(b'\n');
     write_piece(line.whole()?, sink)

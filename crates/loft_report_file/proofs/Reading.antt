@@ -1,8 +1,8 @@
 -- What is read of a file grows part by part.
 use Rattle.std.proofs.Common.{◌≡◌, ℕ, ◌+◌, ◌≤◌, ◌<◌, List, [], ◌++◌, length, length-append, Option, Some, None, Err, IfSome, sym, subst, arith}
 use Rattle.std.proofs.lemmas.List.{take_all}
-use Rattle.loft_file_walk.specs.Walk.{count_of, part_of, given, IsWithin, Grows}
-use Rattle.loft_file_walk.specs.declared.walk.FileWalk.{FileWalk}
+use Rattle.loft_base.specs.Walk.{count_of, part_of, given, IsWithin, Grows}
+use Rattle.loft_base.specs.declared.walk.FileWalk.{FileWalk}
 use Rattle.loft_shape.specs.Report.{longest}
 use Rattle.loft_reader.specs.Answer.{HasRead, Verdict}
 use Rattle.loft_reader.specs.declared.log.LogReader.{LogReader}

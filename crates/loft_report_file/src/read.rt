@@ -10,8 +10,7 @@ ghost use Rattle.loft_report_file.specs.declared.error.ReportFileError.TheVarian
 ghost use Rattle.loft_report_file.specs.Answer.{FileAnswers, FileVerdict, IsOfAll};
 
 use crate::error::ReportFileError;
-use loft_base::Files;
-use loft_file_walk::FileWalk;
+use loft_base::{FileWalk, Files};
 use loft_reader::{LogError, LogReader, MAX_REPORT_LEN, RawReport};
 use std::alloc::Global;
 

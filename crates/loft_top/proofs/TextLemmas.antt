@@ -15,8 +15,8 @@ use Rattle.loft_top.proofs.AnswerLemmas.{cut_answers}
 -- a command that refuses nothing, and answers each text of which P holds
 module _ (c : Command) (P : List ℕ → Type 0) (answers : (contents : List (List ℕ)) (text : List ℕ) → P text → IsAnswer c contents text)
     (never : (contents : List (List ℕ)) (line : List ℕ) → Refuses c contents line → ⊥) where
-  whole_answers : (known : Option (List (List ℕ))) (old new : Option (List ℕ)) (f g before after : ℕ) → WritesOneOf P (Ok tt) old new f g → Answers c known status.Done old new before after
-  whole_answers known old new f g before after (inl (text, holds, writes)) = record {
+  whole_answers : (known : Option (List (List ℕ))) (old new : Option (List ℕ)) (f g p q before after : ℕ) → WritesOneOf P (Ok tt) old new f g p q → Answers c known status.Done old new before after
+  whole_answers known old new f g p q before after (inl (text, holds, writes)) = record {
     done = λ contents k e. appends {P = IsAnswer c contents} text writes.ok (answers contents text holds);
     source = λ contents k e. absurd cc;
     refused = λ contents line k r. absurd (never contents line r);
@@ -26,34 +26,34 @@ module _ (c : Command) (P : List ℕ → Type 0) (answers : (contents : List (Li
     never_usage = λ e. cc;
     never_log = λ e. cc;
   }
-  whole_answers known old new f g before after (inr (is, same, still)) = absurd cc
+  whole_answers known old new f g p q before after (inr (is, same, still)) = absurd cc
 
-  part_of_answer : (e : WriteError) (old new : Option (List ℕ)) (f g before after : ℕ) (contents : List (List ℕ)) → WritesOneOf P (Err e) old new f g
+  part_of_answer : (e : WriteError) (old new : Option (List ℕ)) (f g p q before after : ℕ) (contents : List (List ℕ)) → WritesOneOf P (Err e) old new f g p q
       → Appends old new (IsPrefix (IsText c contents before after))
-  part_of_answer e old new f g before after contents (inl (text, holds, writes)) = begun (IsText c contents before after) text writes.failed (inl (answers contents text holds))
-  part_of_answer e old new f g before after contents (inr (is, same, still)) = not_begun (IsText c contents before after) same
+  part_of_answer e old new f g p q before after contents (inl (text, holds, writes)) = begun (IsText c contents before after) text writes.failed (inl (answers contents text holds))
+  part_of_answer e old new f g p q before after contents (inr (is, same, still)) = not_begun (IsText c contents before after) same
 
-  pub text_answers : (known : Option (List (List ℕ))) (result : Result (Unit {0}) WriteError) (old new : Option (List ℕ)) (f g before after : ℕ) → WritesOneOf P result old new f g
+  pub text_answers : (known : Option (List (List ℕ))) (result : Result (Unit {0}) WriteError) (old new : Option (List ℕ)) (f g p q before after : ℕ) → WritesOneOf P result old new f g p q
       → Answers c known (status_of_write result) old new before after
-  text_answers known (Ok done) old new f g before after writes = whole_answers known old new f g before after writes
-  text_answers known (Err write.Sink) old new f g before after writes =
-      cut_answers c known status.SinkFault old new before after (inl refl) (λ contents k. part_of_answer write.Sink old new f g before after contents writes)
-  text_answers known (Err write.NoMemory) old new f g before after writes =
-      cut_answers c known status.NoMemory old new before after (inr refl) (λ contents k. part_of_answer write.NoMemory old new f g before after contents writes)
+  text_answers known (Ok done) old new f g p q before after writes = whole_answers known old new f g p q before after writes
+  text_answers known (Err write.Sink) old new f g p q before after writes =
+      cut_answers c known status.SinkFault old new before after (inl refl) (λ contents k. part_of_answer write.Sink old new f g p q before after contents writes)
+  text_answers known (Err write.NoMemory) old new f g p q before after writes =
+      cut_answers c known status.NoMemory old new before after (inr refl) (λ contents k. part_of_answer write.NoMemory old new f g p q before after contents writes)
 
 -- the sink is blamed only where it failed
-pub sink_blamed : {P : List ℕ → Type 0} (result : Result (Unit {0}) WriteError) (old new : Option (List ℕ)) (before after : ℕ) → WritesOneOf P result old new before after
+pub sink_blamed : {P : List ℕ → Type 0} (result : Result (Unit {0}) WriteError) (old new : Option (List ℕ)) (before after room left : ℕ) → WritesOneOf P result old new before after room left
     → status_of_write result ≡ status.SinkFault → Rose before after
-sink_blamed (Ok done) old new before after writes is = absurd cc
-sink_blamed (Err write.Sink) old new before after (inl (text, holds, writes)) is = writes.cause refl
-sink_blamed (Err write.Sink) old new before after (inr (no_memory, same, still)) is = absurd cc
-sink_blamed (Err write.NoMemory) old new before after writes is = absurd cc
+sink_blamed (Ok done) old new before after room left writes is = absurd cc
+sink_blamed (Err write.Sink) old new before after room left (inl (text, holds, writes)) is = writes.cause refl
+sink_blamed (Err write.Sink) old new before after room left (inr (no_memory, same, still)) is = absurd cc
+sink_blamed (Err write.NoMemory) old new before after room left writes is = absurd cc
 
 -- the count of its faults doesn't fall
-pub never_fell : {P : List ℕ → Type 0} (result : Result (Unit {0}) WriteError) (old new : Option (List ℕ)) (before after : ℕ) → WritesOneOf P result old new before after
+pub never_fell : {P : List ℕ → Type 0} (result : Result (Unit {0}) WriteError) (old new : Option (List ℕ)) (before after room left : ℕ) → WritesOneOf P result old new before after room left
     → before ≤ after
-never_fell result old new before after (inl (text, holds, writes)) = writes.never_falls
-never_fell result old new before after (inr (no_memory, same, still)) = omega (arith, still)
+never_fell result old new before after room left (inl (text, holds, writes)) = writes.never_falls
+never_fell result old new before after room left (inr (no_memory, same, still)) = omega (arith, still)
 
 -- no file is
 pub no_file_blamed : (result : Result (Unit {0}) WriteError) → status_of_write result ≡ status.FileFault → ⊥

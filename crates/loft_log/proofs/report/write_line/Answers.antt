@@ -9,7 +9,7 @@ pub returns-in_err-whole : goal.returns-in_err-whole
 returns-in_err-whole g c = λ text holds.
     let p = err_from_is_err_and c.from_residual.result c.from_residual.ensures.1 in
     let is : c.from_residual.result ≡ Err NoMemory = rw (p.1, p.2) refl in
-    lacks_memory is (begins _ _ _)
+    lacks_memory is (begins _ _ _ _)
 
 pub returns : goal.returns
 returns g c = λ text holds.

@@ -1,7 +1,7 @@
 use Rattle.std.proofs.Common.{◌≡◌, ◌-◌, ◌≤◌, IsTrue, IfSome}
 use Rattle.loft_base.specs.Outside.{IsNextPlace}
 use Rattle.loft_shape.specs.Report.{longest}
-use Rattle.loft_file_walk.specs.Walk.{count_of, room_of}
+use Rattle.loft_base.specs.Walk.{count_of, room_of}
 use Rattle.loft_report_file.specs.declared.read.TheConstants.{PART}
 use Rattle.loft_report_file.proofs.Reading.{IsReadOn, IsFed}
 use Rattle.loft_report_file.proofs.read.read_log.Given as goal

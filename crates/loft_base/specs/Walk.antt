@@ -1,6 +1,6 @@
 -- What a walk over a file gave so far (docs/OUTSIDE.md).
 use Rattle.std.specs.Prelude.{◌≡◌, ℕ, ◌≤◌, List, ◌++◌, length, take}
-use Rattle.loft_file_walk.specs.declared.walk.FileWalk.{FileWalk}
+use Rattle.loft_base.specs.declared.walk.FileWalk.{FileWalk}
 
 -- how many bytes it gave so far
 abbrev pub count_of : FileWalk → ℕ

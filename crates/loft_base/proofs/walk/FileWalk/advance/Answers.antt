@@ -1,7 +1,7 @@
 use Rattle.std.proofs.Common.{rules, length, take, ◌≡◌, ◌≤◌, refl, ap}
 use Rattle.std.proofs.lemmas.List.{take_at}
-use Rattle.loft_file_walk.proofs.Walking.{grows}
-use Rattle.loft_file_walk.proofs.walk.FileWalk.advance.Goals as goal
+use Rattle.loft_base.proofs.Walking.{grows}
+use Rattle.loft_base.proofs.walk.FileWalk.advance.Goals as goal
 
 pub returns-in-Ok-clause-grows : goal.returns-in-Ok-clause-grows
 returns-in-Ok-clause-grows g c =

@@ -2,8 +2,8 @@
 use Rattle.std.proofs.Common.{◌≡◌, ℕ, ◌+◌, ◌≤◌, List, length, take, drop, Option, Some, None, IfSome, arith, ap, length-take, length-drop}
 use Rattle.std.proofs.Math.Seq.{take-add}
 use Rattle.loft_base.specs.Outside.{IsPart}
-use Rattle.loft_file_walk.specs.Walk.{IsWithin, Grows}
-use Rattle.loft_file_walk.specs.declared.walk.FileWalk.{FileWalk}
+use Rattle.loft_base.specs.Walk.{IsWithin, Grows}
+use Rattle.loft_base.specs.declared.walk.FileWalk.{FileWalk}
 
 one_more : (file : List ℕ) (old new : FileWalk) (k : ℕ) (into : List ℕ) → new.at ≡ old.at + k → take new.count new.buffer.items ≡ take k into → k ≤ length into → IsPart file old.at k into → IsWithin old file → Grows file old new
 one_more file old new k into at last fits part within = record {

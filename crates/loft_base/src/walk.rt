@@ -2,7 +2,8 @@
 
 ghost use Rattle.std.specs.Prelude.{◌≡◌, ◌<◌, ◌≤◌, length, IfOk};
 
-use loft_base::{Failed, Files, NoMemory};
+use crate::errors::{Failed, NoMemory};
+use crate::outside::Files;
 use std::alloc::{AllocError, Global};
 
 /// A walk over a file, part by part from its beginning. It keeps the last part alone.
@@ -28,7 +29,7 @@ fn zeros(alloc: Global, count: usize) -> Result<Vec<u8>, AllocError>
 impl FileWalk {
     ghost use Rattle.std.specs.Prelude.{◌+◌, ◌^◌, [], false, true, Ok, IsTrue, OnOk, OnErr, IfSome, IsOk, IsErr};
     ghost use Rattle.loft_base.specs.Outside.{Rose, IsNextPlace};
-    ghost use Rattle.loft_file_walk.specs.Walk.{count_of, part_of, room_of, IsWithin, Grows};
+    ghost use Rattle.loft_base.specs.Walk.{count_of, part_of, room_of, IsWithin, Grows};
 
     /// A walk that gave nothing yet, in parts of at most `most` bytes.
     ///
