@@ -1,3 +1,4 @@
 pub mod Written
 pub mod Doing
+pub mod Longer
 pub mod Reported
