@@ -1,5 +1,5 @@
 -- The last element of a list that was taken, or wasn't there.
-use Rattle.std.proofs.Common.{◌≡◌, ℕ, suc, ◌-◌, ◌<◌, List, [], ◌∷◌, ◌++◌, length, slice_get, slice_set, Some, refl, sym, ap, ◌∙◌, arith}
+use Rattle.std.proofs.Common.{◌≡◌, ℕ, zero, suc, ◌-◌, ◌<◌, List, [], ◌∷◌, ◌++◌, length, slice_get, slice_set, Some, refl, sym, ap, ◌∙◌, arith}
 use Rattle.std.proofs.lemmas.List.{nil_from_length}
 use Rattle.loft_shape.specs.Last.{on_last}
 use Rattle.loft_shape.specs.Told.{Report, in_last_block}
@@ -38,6 +38,15 @@ block_set f r count x y all there is = ap (λ (blocks : List RawBlock). record r
 
 pub no_block_set : (f : RawBlock → RawBlock) (r : Report) (count : ℕ) → count ≡ length r.blocks → (0 < count → ⊥) → r ≡ in_last_block f r
 no_block_set f r count all none = ap (λ (blocks : List RawBlock). record r { blocks = blocks }) (none_set f r.blocks count all none)
+
+-- an element is set to what it was
+pub set_same : {A : Type 0} (xs : List A) (i : ℕ) (x y : A) → slice_get xs i ≡ Some x → y ≡ x → slice_set xs i y ≡ xs
+set_same [] i x y there is = absurd cc
+set_same (z ∷ zs) zero x y there is = let same : y ≡ z = cc in rw same refl
+set_same (z ∷ zs) (suc i) x y there is = ap (λ l. z ∷ l) (set_same zs i x y there is)
+
+pub block_same : (r : Report) (i : ℕ) (x y : RawBlock) → slice_get r.blocks i ≡ Some x → y ≡ x → record r { blocks = slice_set r.blocks i y } ≡ r
+block_same r i x y there is = ap (λ (blocks : List RawBlock). record r { blocks = blocks }) (set_same r.blocks i x y there is)
 
 -- what is left of a list from which nothing could be taken
 pub nothing_taken : {A : Type 0} (f : A → A) (old new : List A) → old ≡ new ++ [] → old ≡ [] → new ≡ on_last f old

@@ -9,7 +9,7 @@ ghost use Rattle.loft_shape.specs.declared.part.Section.TheVariants.{Instant, Fi
 ghost use Rattle.loft_shape.specs.declared.part.NameRole.TheVariants.{Block};
 ghost use Rattle.loft_told.specs.Drafts.{told_of, report_of};
 
-use crate::text::{append, append_to_last};
+use crate::text::{append, append_to_last, shrink_last};
 use loft_base::{Limits, Room, RunOptions, Sequence};
 use loft_sets::{value_of, word_of};
 use loft_shape::{Choice, Choices, NameRole, NumberKind, Part, RawBlock, Section, Word};
@@ -36,6 +36,13 @@ fn append_to_instant(room: &mut Room, block: &mut RawBlock, bytes: &[u8])
     ensures block { room.new.is_whole ≡ true → block.new ≡ record block.old { instants = on_last (λ lines. lines ++ bytes.now) block.old.instants } }
 {
     append_to_last(room, &mut block.instants, bytes);
+}
+
+/// Gives back the memory that the last instant of the block doesn't use.
+fn shrink_instant(alloc: Global, block: &mut RawBlock)
+    ensures { block.new ≡ block.old }
+{
+    shrink_last(alloc, &mut block.instants);
 }
 
 /// Appends bytes to the final state of the block.
@@ -91,6 +98,16 @@ impl Draft {
         }
     }
 
+    /// Gives back the memory that the last instant of the last block doesn't use.
+    fn end_instant(&mut self, alloc: Global)
+        ensures { told_of self.new ≡ told_of self.old }
+    {
+        let count = self.blocks.len();
+        if count > 0 {
+            shrink_instant(alloc, &mut self.blocks[count - 1]);
+        }
+    }
+
     /// Begins an instant of the last block.
     #[tactic(auto, using(crate::proofs::LastLemmas::none_on_last, crate::proofs::LastLemmas::on_last_end))]
     fn begin_instant(&mut self, room: &mut Room)
@@ -127,10 +144,14 @@ impl Draft {
         match word {
             Some(Word::Scheduler) => self.section = Section::Told,
             Some(Word::Instant) => {
+                self.end_instant(room.alloc);
                 self.begin_instant(room);
                 self.section = Section::Instant;
             }
-            Some(Word::State) => self.section = Section::Final,
+            Some(Word::State) => {
+                self.end_instant(room.alloc);
+                self.section = Section::Final;
+            }
             Some(Word::Left) => self.section = Section::Left,
             _ => {}
         }
