@@ -14,7 +14,7 @@ use crate::scope::{Beside, Scope, number_if};
 use crate::value::thread_or;
 use loft_base::{Div, EventId, ModuleId, NoMemory, SchedId, Sequence, ThreadId, Value, Values};
 use loft_code::SharedText;
-use loft_orders::{Act, End, Line, Order, To};
+use loft_orders::{Act, End, Line, Order, SharedValues, To};
 use loft_text::{Item, LineBuffer};
 use loft_tree::{Control, Heads, NamedExpr, Target};
 use std::alloc::Global;
@@ -261,6 +261,7 @@ impl Scope {
         if !beside.around.has_room() {
             return Ok(Effect::Dies(End::Flood(self.at)));
         }
+        let args = SharedValues::from_slice(alloc, args.as_slice())?;
         let thread = beside.around.new_id();
         beside.make(
             alloc,

@@ -9,8 +9,8 @@ ghost use Rattle.loft_world.specs.State.{with_entry};
 ghost use Rattle.loft_ft.specs.Calls.{IsDeclared, sent_of};
 
 use crate::receipt::Receipt;
-use loft_base::{EventId, Maker, ModuleId, NoMemory, SchedId, Sequence, ThreadId, Value};
-use loft_orders::{Order, Sent, To};
+use loft_base::{EventId, Maker, ModuleId, NoMemory, SchedId, ThreadId, Value};
+use loft_orders::{Order, Sent, SharedValues, To};
 use loft_tree::Control;
 use loft_world::World;
 use std::alloc::Global;
@@ -59,7 +59,7 @@ fn sent_of(alloc: Global, world: &World, next: ThreadId, call: Call<'_>) -> Resu
             order: Order::Create {
                 thread: next,
                 module: m,
-                args: Sequence::from_slice(alloc, args)?,
+                args: SharedValues::from_slice(alloc, args)?,
             },
         },
         Call::Control { control, s, t } => Sent {

@@ -7,7 +7,7 @@ ghost use Rattle.loft_sense.specs.Apply.{marked, with_last, ended_by, apply_orde
 ghost use Rattle.loft_instant.specs.Positions.{IsPosition};
 
 use crate::told::tell_end;
-use loft_base::{EventId, ModuleId, NoMemory, SchedId, Sequence, ThreadId, TryClone, Values};
+use loft_base::{EventId, ModuleId, NoMemory, SchedId, Sequence, ThreadId, TryClone, Value};
 use loft_board::Board;
 use loft_effect::{first_values, same_thread};
 use loft_orders::{End, Ended, Ends, Frame, Mark, Marks, Order, Sents, Thread, Wait};
@@ -48,11 +48,11 @@ fn new_thread(
     heads: &Heads,
     thread: ThreadId,
     module: ModuleId,
-    args: &Values,
+    args: &[Value],
 ) -> Result<Thread, NoMemory>
     ensures { IfOk result (λ t. t ≡ new_thread_of heads.now thread «module» args.now) }
 {
-    let args = Sequence::from_slice(alloc, args.as_slice())?;
+    let args = Sequence::from_slice(alloc, args)?;
     let values = first_values(heads, thread, module, args)?;
     let mut frames = Vec::with_capacity(alloc, 1)?;
     frames.push(Frame {
@@ -149,7 +149,7 @@ impl Batch {
         scheduler: SchedId,
         thread: ThreadId,
         module: ModuleId,
-        args: &Values,
+        args: &[Value],
     ) -> Result<(), NoMemory>
         ensures { OnOk result (applied_of self.new
             ≡ apply_order heads.now scheduler (applied_of self.old)
@@ -228,7 +228,7 @@ impl Batch {
                 thread,
                 module,
                 args,
-            } => self.create(alloc, heads, scheduler, *thread, *module, args),
+            } => self.create(alloc, heads, scheduler, *thread, *module, args.as_slice()),
             Order::Arrive(thread) => {
                 self.link(thread.as_thread().try_clone(alloc)?)?;
                 self.mark(Mark::Done)

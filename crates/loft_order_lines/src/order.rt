@@ -1,11 +1,13 @@
 //! Orders.
 
-ghost use Rattle.std.specs.Prelude.{◌≡◌, true, Some, IfSome};
+ghost use Rattle.std.specs.Prelude.{◌≡◌, List, true, Some, IfSome};
+ghost use Rattle.loft_base.specs.declared.ids.Value.{Value as PlainValue};
+ghost use Rattle.loft_tree.specs.Fits.{Each};
 ghost use Rattle.loft_orders.specs.declared.order.Order.{Order};
-ghost use Rattle.loft_orders.specs.Text.{order_text};
+ghost use Rattle.loft_orders.specs.Text.{order_text, separated, value_text};
 ghost use Rattle.loft_shape.specs.declared.word.Word.TheVariants as word;
 ghost use Rattle.loft_tree.specs.declared.heads.Heads.{Heads};
-ghost use Rattle.loft_order_lines.specs.Texts.{OwnNames, IdHasText, OrderHasText};
+ghost use Rattle.loft_order_lines.specs.Texts.{OwnNames, IdHasText, ValueHasText, OrderHasText};
 ghost use Rattle.loft_order_lines.specs.Words.{word_of_order, rest_of_order, thread_in};
 
 use crate::cut::cut_at;
@@ -15,11 +17,29 @@ use crate::names::{event_named, module_named};
 use crate::number::integer_of;
 use crate::thread::thread_of;
 use crate::value::id_of;
-use loft_base::{Room, ThreadId};
-use loft_orders::{Order, SharedThread};
+use loft_base::{Room, ThreadId, Value};
+use loft_orders::{Order, SharedThread, SharedValues};
 use loft_sets::word_of;
 use loft_shape::Word;
 use loft_tree::Heads;
+
+/// The arguments whose texts these bytes are, with a comma between each two, if there are such values.
+fn arguments_of(room: &mut Room, heads: &Heads, bytes: &[u8]) -> Option<SharedValues>
+    requires { OwnNames heads.now }
+    ensures before { room.new.is_whole ≡ true → room.old.is_whole ≡ true }
+    ensures text { room.new.is_whole ≡ true → IfSome result (Each (ValueHasText heads.now)) }
+    ensures read { room.new.is_whole ≡ true → (args : List PlainValue) → Each (ValueHasText heads.now) args
+        → bytes.now ≡ separated (value_text heads.now) args → result ≡ Some args }
+{
+    let values = read_list::<Value>(room, heads, bytes, b',')?;
+    match SharedValues::from_slice(room.alloc, values.as_slice()) {
+        Ok(args) => Some(args),
+        Err(_) => {
+            room.is_whole = false;
+            None
+        }
+    }
+}
 
 /// The create that has this text after its word, if one has.
 fn create_of(room: &mut Room, heads: &Heads, bytes: &[u8]) -> Option<Order>
@@ -34,7 +54,7 @@ fn create_of(room: &mut Room, heads: &Heads, bytes: &[u8]) -> Option<Order>
     let (args, _) = cut_at(rest, b')');
     let thread = id_of(heads, thread)?;
     let module = module_named(heads, module)?;
-    let args = read_list(room, heads, args, b',')?;
+    let args = arguments_of(room, heads, args)?;
     Some(Order::Create {
         thread,
         module,

@@ -61,7 +61,7 @@ impl TryClone for Order {
             } => Order::Create {
                 thread: *thread,
                 module: *module,
-                args: Sequence::from_slice(alloc, args.as_slice())?,
+                args: args.share()?,
             },
             Order::Arrive(thread) => Order::Arrive(thread.share()?),
             Order::Stop(thread) => Order::Stop(*thread),

@@ -7,6 +7,7 @@ mod line;
 pub mod note;
 pub mod order;
 pub mod shared_thread;
+pub mod shared_values;
 pub mod thread;
 
 pub use entry::{Actor, Entry};
@@ -17,4 +18,5 @@ pub use note::{
 };
 pub use order::{At, End, Mark, Marks, Order, Orders, Sent, Sents, Stop, To};
 pub use shared_thread::{SharedThread, ThreadGroup};
+pub use shared_values::SharedValues;
 pub use thread::{Counts, Events, Frame, Frames, Thread, Threads, Wait};

@@ -1,7 +1,8 @@
 //! Orders to schedulers, and how threads end.
 
 use crate::shared_thread::SharedThread;
-use loft_base::{EventId, ModuleId, SchedId, Sequence, ThreadId, Values};
+use crate::shared_values::SharedValues;
+use loft_base::{EventId, ModuleId, SchedId, Sequence, ThreadId};
 
 /// Orders, in the order in which they were accepted.
 pub type Orders = Sequence<Order>;
@@ -44,7 +45,7 @@ pub enum Order {
     Create {
         thread: ThreadId,
         module: ModuleId,
-        args: Values,
+        args: SharedValues,
     },
     Arrive(SharedThread),
     Stop(ThreadId),

@@ -7,8 +7,8 @@ ghost use Rattle.loft_history.specs.Clients.{orders_from, orders_of};
 ghost use Rattle.loft_sense.specs.Statements.{order_of as order_by};
 ghost use Rattle.loft_steps.specs.Clients.{orders_at, HasEvent};
 
-use loft_base::{Maker, NoMemory, Sequence, ThreadId};
-use loft_orders::{Order, Sent, To};
+use loft_base::{Maker, NoMemory, ThreadId};
+use loft_orders::{Order, Sent, SharedValues, To};
 use loft_tree::{ClientOrder, Control, Heads};
 use std::alloc::Global;
 
@@ -48,7 +48,7 @@ fn sent_of(
                     seq: create,
                 },
                 module: *module,
-                args: Sequence::from_slice(alloc, arguments.as_slice())?,
+                args: SharedValues::from_slice(alloc, arguments.as_slice())?,
             },
         },
         ClientOrder::Control {

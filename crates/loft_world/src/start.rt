@@ -8,7 +8,7 @@ ghost use Rattle.loft_sense.specs.Heads.{scheduler};
 ghost use Rattle.loft_world.specs.State.{AreEach};
 
 use loft_base::{Maker, NoMemory, Sequence, ThreadId};
-use loft_orders::{Order, Orders};
+use loft_orders::{Order, Orders, SharedValues};
 use loft_tree::{Heads, Start};
 use std::alloc::Global;
 
@@ -23,7 +23,7 @@ fn add_create(
         ++ Create (record { maker = Source; seq = number }) start.now.«module» start.now.arguments
         ∷ []) }
 {
-    let args = Sequence::from_slice(alloc, start.arguments.as_slice())?;
+    let args = SharedValues::from_slice(alloc, start.arguments.as_slice())?;
     orders.push(Order::Create {
         thread: ThreadId {
             maker: Maker::Source,

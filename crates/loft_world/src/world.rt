@@ -83,23 +83,24 @@ impl World {
         ensures ok { IfOk result (λ batch. self.new ≡ with_entry self.old (entry.Take s batch)) }
         ensures err { OnErr result (self.new ≡ self.old) }
     {
-        let batch = try_clone_all(alloc, self.left(s).as_slice())?;
-        self.record_take(alloc, s)?;
-        Ok(batch)
+        let copy = try_clone_all(alloc, self.left(s).as_slice())?;
+        self.record_take(alloc, s, copy)
     }
 
-    /// Adds the entry of a Take. The orders that wait move into it.
-    fn record_take(&mut self, alloc: Global, s: SchedId) -> Result<(), NoMemory>
+    /// Adds the entry of a Take, with a copy of the orders that wait: it has no more room than they need. The orders
+    /// themselves are the answer.
+    fn record_take(&mut self, alloc: Global, s: SchedId, copy: Orders) -> Result<Orders, NoMemory>
         requires declared { IsScheduler self.old.heads s }
         requires closed { is_open s self.old.history ≡ false }
-        ensures ok { OnOk result (self.new ≡ with_entry self.old
-            (entry.Take s (waiting self.old.heads s self.old.history))) }
+        requires copy { copy ≡ waiting self.old.heads s self.old.history }
+        ensures batch { IfOk result (λ batch. batch ≡ copy) }
+        ensures ok { OnOk result (self.new ≡ with_entry self.old (entry.Take s copy)) }
         ensures err { OnErr result (self.new ≡ self.old) }
     {
         self.entries.reserve(1)?;
         let batch = mem::replace(&mut self.waits[s.0 as usize], Sequence::new(alloc));
-        self.entries.push_reserved(Entry::Take { s, batch });
-        Ok(())
+        self.entries.push_reserved(Entry::Take { s, batch: copy });
+        Ok(batch)
     }
 
     /// All that the instant of a declared scheduler sent is accepted, and ends the instant.

@@ -3,7 +3,6 @@ use Rattle.loft_orders.specs.declared.order.Order.{Order}
 use Rattle.loft_orders.specs.declared.order.Order.TheVariants as order
 use Rattle.loft_order_lines.specs.Texts.{OrderHasText}
 use Rattle.loft_order_lines.specs.Words.{rest_of_order}
-use Rattle.loft_order_lines.proofs.Texts.{value_some, value_lacks, comma_outside}
 use Rattle.loft_order_lines.proofs.WordLemmas.{create_only}
 use Rattle.loft_order_lines.proofs.PartLemmas.{create_parts, same_create, never_none, one_found}
 use Rattle.loft_order_lines.proofs.order.create_of.Goals as goal
@@ -18,13 +17,10 @@ returns-in_err-module-clause-read c w o has is same = create_only (λ (q : Order
     let p = create_parts c.args.heads.now c.requires t m args has c.args.bytes.now c.cut_at.result.0.now c.cut_at-2.result.0.now c.cut_at-3.result.0.now c.cut_at.result.1.now c.cut_at-2.result.1.now c.cut_at-3.result.1.now c.cut_at.ensures c.cut_at-2.ensures c.cut_at-3.ensures same in
     absurd (never_none c.module_named.result m (c.module_named.ensures.read m has.declared p.module_is) c.in_err-module.was)) o is has same
 
-pub read_list-requires-clause-apart : goal.read_list-requires-clause-apart
-read_list-requires-clause-apart c v p = (value_some c.args.heads.now c.requires v p, value_lacks 44 comma_outside c.args.heads.now c.requires v p)
-
 pub returns-in_err-args-clause-read : goal.returns-in_err-args-clause-read
 returns-in_err-args-clause-read c w o has is same = create_only (λ (q : Order). OrderHasText c.args.heads.now q → c.args.bytes.now ≡ rest_of_order c.args.heads.now q → c.from_residual-in_err-args.result ≡ Some q) (λ t m args has same.
     let p = create_parts c.args.heads.now c.requires t m args has c.args.bytes.now c.cut_at.result.0.now c.cut_at-2.result.0.now c.cut_at-3.result.0.now c.cut_at.result.1.now c.cut_at-2.result.1.now c.cut_at-3.result.1.now c.cut_at.ensures c.cut_at-2.ensures c.cut_at-3.ensures same in
-    absurd (never_none c.read_list.result args (c.read_list.ensures.read w args has.each p.args_are) c.in_err-args.was)) o is has same
+    absurd (never_none c.arguments_of.result args (c.arguments_of.ensures.read w args has.each p.args_are) c.in_err-args.was)) o is has same
 
 pub returns-clause-read : goal.returns-clause-read
 returns-clause-read c w o has is same = create_only (λ (q : Order). OrderHasText c.args.heads.now q → c.args.bytes.now ≡ rest_of_order c.args.heads.now q → Some (order.Create c.in_ok-thread.thread c.in_ok-module.module c.in_ok-args.args) ≡ Some q) (λ t m args has same.
@@ -32,4 +28,4 @@ returns-clause-read c w o has is same = create_only (λ (q : Order). OrderHasTex
     same_create c.in_ok-thread.thread t c.in_ok-module.module m c.in_ok-args.args args
     (one_found c.id_of.result c.in_ok-thread.thread t (c.id_of.ensures.read t has.id p.id_is) c.in_ok-thread.was)
     (one_found c.module_named.result c.in_ok-module.module m (c.module_named.ensures.read m has.declared p.module_is) c.in_ok-module.was)
-    (one_found c.read_list.result c.in_ok-args.args args (c.read_list.ensures.read w args has.each p.args_are) c.in_ok-args.was)) o is has same
+    (one_found c.arguments_of.result c.in_ok-args.args args (c.arguments_of.ensures.read w args has.each p.args_are) c.in_ok-args.was)) o is has same
