@@ -7,7 +7,15 @@ NAME.loft.stdout is all that the command has to print; the status follows from t
 that (docs/COMMANDS.md). A case passes where each program gives both exactly. NAME.loft.stdout.rule
 stands for a long answer: a line `N x TEXT` is N lines, TEXT with the numbers from 0 to N - 1 in place of
 `{}`, and those from K on in place of `{K}`; a line `N x (` is the lines up to the next line `)`, N times;
-every other line stands for itself, and all end with a line feed. In the folder `exec`
+every other line stands for itself, and all end with a line feed.
+
+Where several actors made entries of a stored report, its history is one of those that a run may have. Such a
+source passes where the program prints the report of a history of its own that has ended: followed by its
+choices, statement by statement, the source gives exactly that text, and nothing may come after them. The stored
+report is followed in the same way. A report whose entries are all of one scheduler is that of every run, and
+compared byte for byte.
+
+In the folder `exec`
 NAME.listing stands for NAME.loft, and in the folder `gen` NAME.words has the words, one a line, in place of a
 source. Each source in `run` that has a report is compiled, too, and `exec`
 of its listing has to print that report.
@@ -43,6 +51,8 @@ STATUSES = {b"source:": 3, b"listing:": 3, b"locks:": 3, b"loft:": 2, b"log:": 4
 SECONDS = 300
 REPEATED = re.compile(rb"([0-9]+) x (.*)")
 NUMBER = re.compile(rb"\{([0-9]*)\}")
+COMMENT = re.compile(rb"//[^\n]*")
+CLIENT = re.compile(rb"\boutside\s+(\w+)")
 FOLDERS = {**{f"cases/{it}": it for it in COMMANDS}, "examples": "run", "docs/tutorial": "run"}
 
 
@@ -111,6 +121,44 @@ def followed(program, choices, words):
         return ended(program, [file.name, *words], TOP)
 
 
+def choices_of(report):
+    """The choices in the head of a report, as lines."""
+    lines = report.splitlines(keepends=True)
+    at, count = next((at, int(it.split()[1])) for at, it in enumerate(lines) if it.startswith(b"history "))
+    return lines[at + 1 : at + 1 + count]
+
+
+def is_of_one_scheduler(report):
+    """Whether every run of the same source has this history: all entries are those of one scheduler."""
+    actors = {tuple(choice.replace(b"give", b"take").split()) for choice in choices_of(report)}
+    return len(actors) < 2 and all(kind == b"take" for kind, _ in actors)
+
+
+def next_choices(source, report):
+    """Each choice that may come after a history, allowed or not, as a line."""
+    lines = report.split(b"\n")
+    workers = next(int(it.split()[1]) for it in lines if it.startswith(b"workers "))
+    yield from (b"%s %s\n" % (word, it.split()[1]) for it in lines if it.startswith(b"scheduler ") for word in (b"take", b"give"))
+    yield from (b"%s %d\n" % (word, worker) for worker in range(workers) for word in (b"pick", b"post"))
+    yield from (b"client %s\n" % it for it in CLIENT.findall(COMMENT.sub(b"", source.read_bytes())))
+
+
+def why_not_whole(source, further, report):
+    """Why a text isn't the report of a whole run of a source, or None."""
+    if status_of(report) != 0:
+        return f"the answer is no report: {report[:60]!r}"
+    choices = b"".join(choices_of(report))
+    words = ["run", str(source), *further]
+    ran = followed(str(FOLLOWER), choices, words)
+    if ran.stdout != report:
+        return "followed by its choices, " + difference(report, ran.stdout)
+    refusal = b"log: entry %d not allowed\n" % (len(choices_of(report)) + 1)
+    for choice in next_choices(source, report):
+        if followed(str(FOLLOWER), choices + choice, words).stdout != refusal:
+            return f"its history hasn't ended: {choice.decode().strip()} may come next"
+    return None
+
+
 class Source:
     """A source or a listing with the answer of a command."""
 
@@ -128,11 +176,17 @@ class Source:
         if wanted is None:
             return f"there is no {self.source.name}.stdout"
         ran = self.ran(program)
-        if ran.stdout != wanted:
-            return difference(ran.stdout, wanted)
         if ran.returncode != status_of(wanted):
             return f"the status is {ran.returncode}, not {status_of(wanted)}"
+        if self.is_run() and status_of(wanted) == 0 and not is_of_one_scheduler(wanted):
+            return why_not_whole(self.source, self.further(), ran.stdout)
+        if ran.stdout != wanted:
+            return difference(ran.stdout, wanted)
         return None
+
+    def is_run(self):
+        """Whether the source is run, and no choices are given."""
+        return self.command == "run"
 
     def further(self):
         """The further words of the command."""
@@ -194,10 +248,12 @@ class Followed(Source):
 
     def ran(self, program):
         """How the program ends for the choices in the head of the stored report."""
-        lines = stored_answer(self.source).splitlines(keepends=True)
-        at, count = next((at, int(it.split()[1])) for at, it in enumerate(lines) if it.startswith(b"history "))
-        choices = b"".join(lines[at + 1 : at + 1 + count])
+        choices = b"".join(choices_of(stored_answer(self.source)))
         return followed(program, choices, [self.command, str(self.source), *self.further()])
+
+    def is_run(self):
+        """The choices are given."""
+        return False
 
 
 class History(Source):
@@ -222,6 +278,10 @@ class History(Source):
     def ran(self, program):
         """How the program ends for the choices."""
         return ended(program, [self.choices, self.command, self.name, *self.further()], TOP)
+
+    def is_run(self):
+        """The choices are given."""
+        return False
 
     def ran_on(self, program):
         """How the program ends for the choices and the one after them."""

@@ -36,8 +36,7 @@ struct CountingGate {
 
 impl Gate for CountingGate {
     fn pass<R: Threads + Wait + Sync>(&self, _rt: &R, _turn: Turn) {
-        let passes = self.passes.load(Ordering::SeqCst);
-        self.passes.store(passes.wrapping_add(1), Ordering::SeqCst);
+        self.passes.fetch_add(1, Ordering::SeqCst);
     }
 }
 

@@ -1,7 +1,6 @@
 //! Whole runs of code.
 #![tactic(auto)]
 
-mod code_blocks;
 mod run;
 
 pub use run::run_whole;

@@ -1,7 +1,6 @@
-use denote.Param.Send.{sendable}
-use Rattle.loft_instant.proofs.engine.InstantEngine.TheSendSync as instant
-use Rattle.loft_sharing.proofs.Sharing.{code}
+use denote.Param.Send.{param_send, arg_send}
+use Rattle.loft_moving.proofs.Engines.{engine}
 use Rattle.loft_moving.proofs.moving.engine_may_move.Goals as goal
 
 pub may_move-requires-send-T : goal.may_move-requires-send-T
-may_move-requires-send-T c κs = search (sendable, instant.the_field_send, code) depth 20 fits 20000
+may_move-requires-send-T c κs = search (param_send, arg_send, engine)

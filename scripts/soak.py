@@ -1,0 +1,125 @@
+#!/usr/bin/env python3
+"""Runs large sources again and again, and follows each report by its own choices: soak.py PROGRAM FOLLOWER [SECONDS] [SEED]
+
+PROGRAM is crates/loft_app/out/loft_app, and FOLLOWER crates/loft_follow/out/loft_follow, which `.ci/run` builds. Each source has
+16 schedulers, 16 clients and 1,008 threads that go from scheduler to scheduler and through the workers, of which there are
+16; which way they go, and what the clients order, is chosen at random by the seed. A run passes where the status is 0, the
+follower makes the very same report of the choices in its head, and none of 64 further choices is allowed after them: 16
+takes and gives, 16 picks and 16 posts. For 600 seconds, or so many. The last line says what was done, and the status is 1
+where a run failed. It stands outside the gate."""
+
+import random
+import subprocess
+import sys
+import tempfile
+import time
+
+MANY = 16
+EACH = 63
+OPTIONS = ["--instants", "60", "--workers", str(MANY)]
+
+
+def walk(pick, s):
+    """A module whose threads begin and end at a scheduler, and go round others and through workers."""
+    body, place = [], s
+    for _ in range(pick.randint(2, 5)):
+        if pick.random() < 0.4:
+            body.append(f"unlink; broadcast e{pick.randrange(MANY)}, k;")
+            place = None
+        place = pick.choice([it for it in range(MANY) if it != place])
+        body.append(f"link S{place};")
+        if pick.random() < 0.3:
+            body.append("n = n + k; cooperate;")
+    if place != s:
+        body.append(f"link S{s};")
+    lines = "".join(f"    {it}\n" for it in body)
+    return f"module walk{s}(int k) in S{s}\n  local int n;\n  repeat ({pick.randint(2, 6)}) do\n{lines}  end\n  x{s} = x{s} + n;\nend\n"
+
+
+def order(pick):
+    """An order of a client."""
+    kind, s = pick.randrange(4), pick.randrange(MANY)
+    if kind == 0:
+        return f"create S{s}.walk{s}({pick.randint(1, 9)});"
+    if kind == 1:
+        return f"broadcast e{s}, {pick.randint(-9, 9)};"
+    return f"{('suspend', 'resume')[kind - 2]} t{pick.randrange(MANY * EACH)} in S{s};"
+
+
+def source_of(seed):
+    """The source of a seed."""
+    pick = random.Random(seed)
+    parts = [f"scheduler S{s};\n" for s in range(MANY)]
+    parts += [f"event e{s} in S{s};\nshared x{s} in S{s} = 0;\n" for s in range(MANY)]
+    parts += [walk(pick, s) for s in range(MANY)]
+    parts += [f"start S{n % MANY}.walk{n % MANY}({pick.randint(1, 9)}) as t{n};\n" for n in range(MANY * EACH)]
+    parts += [f"outside c{c} {{ {' '.join(order(pick) for _ in range(pick.randint(1, 20)))} }}\n" for c in range(MANY)]
+    return "".join(parts)
+
+
+def ended(words):
+    """How a program ends."""
+    return subprocess.run(words, stdin=subprocess.DEVNULL, capture_output=True)
+
+
+def choices_of(report):
+    """The choices in the head of a report, as lines."""
+    lines = report.splitlines(keepends=True)
+    at, count = next((at, int(it.split()[1])) for at, it in enumerate(lines) if it.startswith(b"history "))
+    return lines[at + 1 : at + 1 + count]
+
+
+def follow(follower, choices, source):
+    """How the follower ends for these choices."""
+    with tempfile.NamedTemporaryFile(suffix=".choices") as file:
+        file.write(b"".join(choices))
+        file.flush()
+        return ended([follower, file.name, "run", source, *OPTIONS])
+
+
+def fault(follower, source, report):
+    """What is wrong with a report, or None."""
+    choices = choices_of(report)
+    if follow(follower, choices, source).stdout != report:
+        return "its choices make another report"
+    refusal = b"log: entry %d not allowed\n" % (len(choices) + 1)
+    for word, name in [("take", "S"), ("give", "S"), ("pick", ""), ("post", "")]:
+        for n in range(MANY):
+            if follow(follower, choices + [f"{word} {name}{n}\n".encode()], source).stdout != refusal:
+                return f"{word} {name}{n} may come after it"
+    return None
+
+
+def main(program, follower, seconds=600, seed=1):
+    runs = entries = failed = 0
+    histories, longest, taken = set(), 0, 0.0
+    seed, end = int(seed), time.monotonic() + float(seconds)
+    while time.monotonic() < end:
+        with tempfile.NamedTemporaryFile(suffix=".loft") as file:
+            file.write(source_of(seed).encode())
+            file.flush()
+            for again in range(8):
+                begun = time.monotonic()
+                ran = ended([program, "run", file.name, *OPTIONS])
+                taken += time.monotonic() - begun
+                runs += 1
+                why = f"the status is {ran.returncode}" if ran.returncode else None
+                if not why and again == 0:
+                    why = fault(follower, file.name, ran.stdout)
+                elif not why and follow(follower, choices_of(ran.stdout), file.name).stdout != ran.stdout:
+                    why = "its choices make another report"
+                if why:
+                    failed += 1
+                    print(f"seed {seed}, run {again}: {why}", flush=True)
+                    continue
+                choices = choices_of(ran.stdout)
+                entries += len(choices)
+                longest = max(longest, len(choices))
+                histories.add(hash((seed, b"".join(choices))))
+        seed += 1
+    print(f"{runs} runs of {seed - 1} sources in {taken:.0f} seconds: {entries} entries, {longest} at most, {len(histories)} histories, {failed} failed")
+    return 1 if failed else 0
+
+
+if __name__ == "__main__":
+    sys.exit(main(*sys.argv[1:]))
