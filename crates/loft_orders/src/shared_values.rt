@@ -16,9 +16,9 @@ pub struct SharedValues {
 impl Model for SharedValues {
     ghost use Rattle.std.specs.Prelude.{List};
     ghost use Rattle.std.specs.Arc.{arc_slice_items};
-    ghost use Rattle.loft_base.specs.declared.ids.Value.{Value};
+    ghost use Rattle.loft_base.specs.declared.ids.Value.{Value as PlainValue};
 
-    ghost Value = { List Value };
+    ghost Value = { List PlainValue };
 
     ghost view = { λ v. arc_slice_items v.values };
 }
