@@ -1,0 +1,10 @@
+//! The command `replay`: the report in a file is checked by the source in another one (docs/COMMANDS.md, "`replay SOURCE REPORT [--only NAME]`").
+#![tactic(auto)]
+
+mod checking;
+mod refusal;
+mod replaying;
+mod stops;
+
+pub use refusal::{LogRefusal, ReplayStop};
+pub use replaying::replay;
