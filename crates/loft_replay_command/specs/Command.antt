@@ -1,4 +1,4 @@
--- What the command `replay` promises, where its source and its report are known (docs/COMMANDS.md, "`replay SOURCE REPORT [--only NAME]`").
+-- What the command `replay` promises, where its source and its report are known (docs/COMMANDS.md, "replay").
 use Rattle.std.specs.Prelude.{◌≡◌, ℕ, ◌⊎◌, List, Option, Some, Result, Ok, Err}
 use Rattle.loft_base.specs.Outside.{appended, GrowsByPrefix}
 use Rattle.loft_commands.specs.Written.{Appends, IsPrefix}

@@ -1,4 +1,4 @@
--- What a replay comes to, by its source and its report (docs/COMMANDS.md, "`replay SOURCE REPORT [--only NAME]`").
+-- What a replay comes to, by its source and its report (docs/COMMANDS.md, "replay").
 use Rattle.std.specs.Prelude.{◌≡◌, ℕ, ◌<◌, ◌≤◌, List, length, codes, Option, Some, None, Result, Ok, Err}
 use Rattle.loft_tree.specs.declared.heads.Heads.{Heads}
 use Rattle.loft_tree.specs.Source.{Source}

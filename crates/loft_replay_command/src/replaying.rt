@@ -6,8 +6,13 @@ ghost use Rattle.loft_base.specs.Outside.{Rose};
 ghost use Rattle.loft_replay_command.specs.Replay.{IsSourceStop};
 ghost use Rattle.loft_replay_command.specs.Command.{Replays};
 
+use crate::finding::find;
+use crate::refusal::ReplayStop;
+use loft_base::{Files, Sink, write_lines};
+use std::alloc::Global;
+
 /// Checks the report in a file by the source in another one: the whole report, or the block of the scheduler that is
-/// named. Writes the line `ok`, or the block (docs/COMMANDS.md, "`replay SOURCE REPORT [--only NAME]`"). The source is
+/// named. Writes the line `ok`, or the block (docs/COMMANDS.md, "replay"). The source is
 /// read and checked whole, and the scheduler is looked up, before the report is opened. Nothing is written before the
 /// report has been checked.
 ///
@@ -47,4 +52,7 @@ pub fn replay<F: Files, S: Sink>(
         → F.contents files.old source.now ≡ Some s → IsSourceStop (option_copied only.entry) s e
         → result ≢ Err ReplayStop.FileFault × (F.faults files.new ≡ F.faults files.old) }
 {
+    let answer = find(alloc, source, report, only, files)?;
+    write_lines(answer.text(), sink)?;
+    Ok(())
 }
