@@ -29,6 +29,9 @@ pub fn read_program<F: Files>(alloc: Global, files: &mut F, name: &str) -> Resul
     ensures never_falls { F.faults files.old ≤ F.faults files.new }
     ensures sure { IsTrue (F.never_fails files.old name.now) → IfErr result (λ e. e ≡ Stopped.FileFault → ⊥) }
     ensures no_fault { IsTrue (F.never_fails files.old name.now) → F.faults files.new ≡ F.faults files.old }
+    ensures same_contents { F.contents files.new ≡ F.contents files.old }
+    ensures same_names { F.may_ask files.new ≡ F.may_ask files.old }
+    ensures same_sure { F.never_fails files.new ≡ F.never_fails files.old }
 {
     let text = read_whole(alloc, files, name, MAX_TEXT_LEN as u64)?;
     Ok(parse(alloc, text.as_slice())?)

@@ -8,10 +8,10 @@ use Rattle.std.proofs.lemmas.Bool.Decides.{nat_tests}
 use Rattle.loft_base.specs.declared.options.RunOptions.{RunOptions}
 use Rattle.loft_base.specs.declared.options.TheConstants.{MAX_INSTANTS, MAX_BUDGET, MAX_BLOCK, MAX_WORKERS}
 use Rattle.loft_words.specs.declared.defaults.TheConstants.{DEFAULT_INSTANTS, DEFAULT_BUDGET, DEFAULT_BLOCK, DEFAULT_WORKERS}
-use Rattle.loft_words.specs.Words.{is_number, number_in}
+use Rattle.loft_words.specs.Words.{is_file_name, is_number, number_in}
 use Rattle.loft_gen.specs.declared.source.TheConstants.{GENERATED_MAX}
 use Rattle.loft_words.specs.Arguments.{Argument, arguments, plain_words, values, flags_of, has_only}
-use Rattle.loft_words.specs.Command.{FileCommand, Run, Exec, Show, Check, Compile, Bound, Expand, Command, OfFile, only_file, only_number, number_of, flag_of, options_from, run_names, run_flag, run_options, taking, with_options, of_file, gen_with, gen, file_command_named, command_named, command}
+use Rattle.loft_words.specs.Command.{FileCommand, Run, Exec, Show, Check, Compile, Bound, Expand, Command, OfFile, Replay, only_file, of_two_files, only_number, number_of, value_of, flag_of, options_from, run_names, only_name, run_flag, run_options, taking, with_options, of_file, gen_with, gen, replay, file_command_named, command_named, command}
 use Rattle.loft_base.specs.Options.{AreInRange}
 use Rattle.loft_words.specs.Ranges.{KeepsRanges, IsInRanges}
 
@@ -113,16 +113,32 @@ gen_keeps given = go (has_only [] run_flag given) (only_number GENERATED_MAX (pl
     go true (Some n) (Some true) is = only_number_range GENERATED_MAX (plain_words given) n is
     go true (Some n) (Some false) is = only_number_range GENERATED_MAX (plain_words given) n is
 
+replay_keeps : (given : List Argument) → AreKept (taking only_name [] given (replay given))
+replay_keeps given = go (has_only only_name [] given) (plain_words given) (value_of (values (codes "--only") given))
+  where
+    kept : (b : Bool) (source report : List ℕ) (o : Option (Option (List ℕ))) → AreKept (if b then option_map (Replay source report) o else None)
+    kept false source report o = tt
+    kept true source report None = tt
+    kept true source report (Some only) = tt
+
+    go : (b : Bool) (names : List (List ℕ)) (o : Option (Option (List ℕ))) → AreKept (if b then of_two_files (λ source report. option_map (Replay source report) o) names else None)
+    go false names o = tt
+    go true [] o = tt
+    go true (name ∷ []) o = tt
+    go true (name ∷ other ∷ []) o = kept (is_file_name name && is_file_name other) name other o
+    go true (name ∷ other ∷ third ∷ more) o = tt
+
 of_file_kept : (o : Option FileCommand) → Keeps o → AreKept (option_map OfFile o)
 of_file_kept None keeps = tt
 of_file_kept (Some c) keeps = keeps
 
 named_keeps : (word : List ℕ) (given : List Argument) → AreKept (command_named word given)
-named_keeps word given = go (bytes_eq word (codes "gen"))
+named_keeps word given = go (bytes_eq word (codes "gen")) (bytes_eq word (codes "replay"))
   where
-    go : (a : Bool) → AreKept (if a then taking [] run_flag given (gen given) else option_map OfFile (file_command_named word given))
-    go true = gen_keeps given
-    go false = of_file_kept (file_command_named word given) (file_named_keeps word given)
+    go : (a b : Bool) → AreKept (if a then taking [] run_flag given (gen given) else (if b then taking only_name [] given (replay given) else option_map OfFile (file_command_named word given)))
+    go true b = gen_keeps given
+    go false true = replay_keeps given
+    go false false = of_file_kept (file_command_named word given) (file_named_keeps word given)
 
 words_keep : (words : List (List ℕ)) → AreKept (command words)
 words_keep [] = tt

@@ -1,5 +1,5 @@
 pub mod Texts
-pub mod TwoWords
+pub mod ThreeWords
 pub mod Telling
 pub mod Commands
 pub mod InRange

@@ -9,9 +9,10 @@ use Rattle.std.proofs.lemmas.List.Folds.{list_all-append}
 use Rattle.loft_base.specs.declared.options.TheConstants.{MAX_INSTANTS, MAX_BUDGET, MAX_BLOCK, MAX_WORKERS}
 use Rattle.loft_words.specs.declared.defaults.TheConstants.{DEFAULT_INSTANTS, DEFAULT_BUDGET, DEFAULT_BLOCK, DEFAULT_WORKERS}
 use Rattle.loft_gen.specs.declared.source.TheConstants.{GENERATED_MAX}
-use Rattle.loft_words.specs.Arguments.{Argument, plain_word, value_for, flag_for, is_among, has_only}
-use Rattle.loft_words.specs.Command.{FileCommand, Run, Exec, Show, Check, Compile, Bound, Expand, Command, OfFile, only_file, only_number, number_of, flag_of, options_from, run_names, run_flag, gen_with, command_named}
-use Rattle.loft_words.proofs.Commands.{not_one, not_one_number, no_number, no_flag}
+use Rattle.loft_words.specs.Arguments.{Argument, plain_word, plain_words, value_for, values, flag_for, is_among, has_only}
+use Rattle.loft_words.specs.Command.{FileCommand, Run, Exec, Show, Check, Compile, Bound, Expand, Command, OfFile, Replay, only_file, of_two_files, only_number, number_of, value_of, flag_of, options_from, run_names, only_name, run_flag, taking, gen_with, gen, replay, file_command_named, command_named}
+use Rattle.loft_words.specs.Changing.{MayChange}
+use Rattle.loft_words.proofs.Commands.{not_one, not_one_number, no_number, no_value, no_flag}
 
 -- the same words, or more than one on both sides
 abbrev AreAlike : List (List ℕ) → List (List ℕ) → Type 0
@@ -51,6 +52,16 @@ same_flag : (xs ys : List (List ℕ)) → AreAlike xs ys → flag_of xs ≡ flag
 same_flag xs ys (inl same) = ap (λ (l : List (List ℕ)). flag_of l) same
 same_flag xs ys (inr (many, much)) = no_flag xs many ∙ sym (no_flag ys much)
 
+same_value : (xs ys : List (List ℕ)) → AreAlike xs ys → value_of xs ≡ value_of ys
+same_value xs ys (inl same) = ap (λ (l : List (List ℕ)). value_of l) same
+same_value xs ys (inr (many, much)) = no_value xs many ∙ sym (no_value ys much)
+
+-- where one of the two isn't found, what is found is the same
+apart : (f : Argument → Option (List ℕ)) (before after : List Argument) (a b : Argument) → (f a ≡ None) ⊎ (f b ≡ None)
+    → filter_map f (before ++ (a ∷ b ∷ after)) ≡ filter_map f (before ++ (b ∷ a ∷ after))
+apart f before after a b (inl is) = grind (arith, filter_map-append f before (a ∷ b ∷ after), filter_map-append f before (b ∷ a ∷ after))
+apart f before after a b (inr is) = grind (arith, filter_map-append f before (a ∷ b ∷ after), filter_map-append f before (b ∷ a ∷ after))
+
 swapped : (a b c : Bool) → (a && (b && c)) ≡ (b && (a && c))
 swapped true true c = refl
 swapped true false c = refl
@@ -63,15 +74,18 @@ same_names options flags before after a b =
     ∙ ap (λ (t : Bool). list_all (is_among options flags) before && t) (swapped (is_among options flags a) (is_among options flags b) (list_all (is_among options flags) after))
     ∙ sym (list_all-append (is_among options flags) before (b ∷ a ∷ after))
 
--- a command that reads one file is made of seven answers, and that of a number of three
+-- a command that reads one file is made of seven answers, that of a number of three, and a replay of three
 file_made_alike : (F : Bool → Bool → Option (List ℕ) → Option ℕ → Option ℕ → Option ℕ → Option ℕ → Option FileCommand)
     (b c d e : Bool) (f g : Option (List ℕ)) (i j k l m n o p : Option ℕ) → b ≡ c → d ≡ e → f ≡ g → i ≡ j → k ≡ l → m ≡ n → o ≡ p
     → F b d f i k m o ≡ F c e g j l n p
 file_made_alike F b c d e f g i j k l m n o p r s t u v w x = cc
 
-made_alike : (F : Bool → Option ℕ → Option Bool → Option FileCommand → Option Command) (b c : Bool) (i j : Option ℕ) (r s : Option Bool) (f g : Option FileCommand)
-    → b ≡ c → i ≡ j → r ≡ s → f ≡ g → F b i r f ≡ F c j s g
-made_alike F b c i j r s f g t u v w = cc
+gen_made_alike : (F : Bool → Option ℕ → Option Bool → Option Command) (b c : Bool) (i j : Option ℕ) (r s : Option Bool) → b ≡ c → i ≡ j → r ≡ s → F b i r ≡ F c j s
+gen_made_alike F b c i j r s t u v = cc
+
+replay_made_alike : (F : Bool → List (List ℕ) → Option (Option (List ℕ)) → Option Command) (b c : Bool) (i j : List (List ℕ)) (r s : Option (Option (List ℕ)))
+    → b ≡ c → i ≡ j → r ≡ s → F b i r ≡ F c j s
+replay_made_alike F b c i j r s t u v = cc
 
 abbrev file_command_with : List ℕ → (known alone : Bool) (file : Option (List ℕ)) (instants budget block workers : Option ℕ) → Option FileCommand
 file_command_with word known alone file instants budget block workers =
@@ -83,21 +97,48 @@ file_command_with word known alone file instants budget block workers =
     else (if bytes_eq word (codes "bound") then (if alone then option_map Bound file else None)
     else (if bytes_eq word (codes "expand") then (if alone then option_map Expand file else None) else None))))))
 
-abbrev command_with : List ℕ → (numbered : Bool) (number : Option ℕ) (run : Option Bool) (file : Option FileCommand) → Option Command
-command_with word numbered number run file =
-    if bytes_eq word (codes "gen") then (if numbered then option_and_then (λ n. option_map (gen_with n) run) number else None) else option_map OfFile file
+abbrev gen_with_all : (numbered : Bool) (number : Option ℕ) (run : Option Bool) → Option Command
+gen_with_all numbered number run = if numbered then option_and_then (λ n. option_map (gen_with n) run) number else None
 
-pub neighbours : (word : List ℕ) (before after : List Argument) (a b : Argument)
-    → command_named word (before ++ (a ∷ b ∷ after)) ≡ command_named word (before ++ (b ∷ a ∷ after))
-neighbours word before after a b = made_alike (command_with word) _ _ _ _ _ _ _ _
-    (same_names [] run_flag before after a b)
-    (same_k _ _ (alike plain_word before after a b))
-    (same_flag _ _ (alike (flag_for (codes "--run")) before after a b))
-    (file_made_alike (file_command_with word) _ _ _ _ _ _ _ _ _ _ _ _ _ _
-    (same_names run_names [] before after a b)
-    (same_names [] [] before after a b)
-    (same_file _ _ (alike plain_word before after a b))
-    (same_number MAX_INSTANTS DEFAULT_INSTANTS _ _ (alike (value_for (codes "--instants")) before after a b))
-    (same_number MAX_BUDGET DEFAULT_BUDGET _ _ (alike (value_for (codes "--budget")) before after a b))
-    (same_number MAX_BLOCK DEFAULT_BLOCK _ _ (alike (value_for (codes "--block")) before after a b))
-    (same_number MAX_WORKERS DEFAULT_WORKERS _ _ (alike (value_for (codes "--workers")) before after a b)))
+abbrev replay_with : (known : Bool) (words : List (List ℕ)) (only : Option (Option (List ℕ))) → Option Command
+replay_with known words only = if known then of_two_files (λ source report. option_map (Replay source report) only) words else None
+
+module _ (before after : List Argument) (a b : Argument) where
+  same_file_command : (word : List ℕ) → file_command_named word (before ++ (a ∷ b ∷ after)) ≡ file_command_named word (before ++ (b ∷ a ∷ after))
+  same_file_command word = file_made_alike (file_command_with word) _ _ _ _ _ _ _ _ _ _ _ _ _ _
+      (same_names run_names [] before after a b)
+      (same_names [] [] before after a b)
+      (same_file _ _ (alike plain_word before after a b))
+      (same_number MAX_INSTANTS DEFAULT_INSTANTS _ _ (alike (value_for (codes "--instants")) before after a b))
+      (same_number MAX_BUDGET DEFAULT_BUDGET _ _ (alike (value_for (codes "--budget")) before after a b))
+      (same_number MAX_BLOCK DEFAULT_BLOCK _ _ (alike (value_for (codes "--block")) before after a b))
+      (same_number MAX_WORKERS DEFAULT_WORKERS _ _ (alike (value_for (codes "--workers")) before after a b))
+
+  same_gen : taking [] run_flag (before ++ (a ∷ b ∷ after)) (gen (before ++ (a ∷ b ∷ after))) ≡ taking [] run_flag (before ++ (b ∷ a ∷ after)) (gen (before ++ (b ∷ a ∷ after)))
+  same_gen = gen_made_alike gen_with_all _ _ _ _ _ _
+      (same_names [] run_flag before after a b)
+      (same_k _ _ (alike plain_word before after a b))
+      (same_flag _ _ (alike (flag_for (codes "--run")) before after a b))
+
+  same_replay : (plain_word a ≡ None) ⊎ (plain_word b ≡ None)
+      → taking only_name [] (before ++ (a ∷ b ∷ after)) (replay (before ++ (a ∷ b ∷ after))) ≡ taking only_name [] (before ++ (b ∷ a ∷ after)) (replay (before ++ (b ∷ a ∷ after)))
+  same_replay free = replay_made_alike replay_with _ _ _ _ _ _
+      (same_names only_name [] before after a b)
+      (apart plain_word before after a b free)
+      (same_value _ _ (alike (value_for (codes "--only")) before after a b))
+
+  pub neighbours : (word : List ℕ) → MayChange word a b → command_named word (before ++ (a ∷ b ∷ after)) ≡ command_named word (before ++ (b ∷ a ∷ after))
+  neighbours word may = go (bytes_eq word (codes "gen")) (bytes_eq word (codes "replay")) may
+    where
+      go : (g r : Bool) → ((plain_word a ≡ None) ⊎ ((plain_word b ≡ None) ⊎ (r ≡ false)))
+          → (if g then taking [] run_flag (before ++ (a ∷ b ∷ after)) (gen (before ++ (a ∷ b ∷ after)))
+          else (if r then taking only_name [] (before ++ (a ∷ b ∷ after)) (replay (before ++ (a ∷ b ∷ after)))
+          else option_map OfFile (file_command_named word (before ++ (a ∷ b ∷ after)))))
+          ≡ (if g then taking [] run_flag (before ++ (b ∷ a ∷ after)) (gen (before ++ (b ∷ a ∷ after)))
+          else (if r then taking only_name [] (before ++ (b ∷ a ∷ after)) (replay (before ++ (b ∷ a ∷ after)))
+          else option_map OfFile (file_command_named word (before ++ (b ∷ a ∷ after)))))
+      go true r may = same_gen
+      go false true (inl is) = same_replay (inl is)
+      go false true (inr (inl is)) = same_replay (inr is)
+      go false true (inr (inr is)) = absurd cc
+      go false false may = ap (λ (o : Option FileCommand). option_map OfFile o) (same_file_command word)

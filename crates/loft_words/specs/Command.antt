@@ -1,5 +1,5 @@
 -- What the words after the program's name ask for (docs/COMMANDS.md, "Words").
-use Rattle.std.specs.Prelude.{ℕ, Bool, true, false, List, [], ◌∷◌, codes, Option, Some, None, if◌then◌else◌, option_and_then}
+use Rattle.std.specs.Prelude.{ℕ, Bool, true, false, ◌&&◌, List, [], ◌∷◌, codes, Option, Some, None, if◌then◌else◌, option_and_then}
 use Rattle.std.specs.Option.{option_map}
 use Rattle.std.specs.Str.{bytes_eq}
 use Rattle.loft_base.specs.declared.options.RunOptions.{RunOptions}
@@ -29,6 +29,8 @@ pub data FileCommand : Type 0 where
 pub data Command : Type 0 where
   -- read one file
   OfFile : FileCommand → Command
+  -- replay the report in a file by the source in another one: the whole report, or the block of this scheduler
+  Replay : (source report : List ℕ) (only : Option (List ℕ)) → Command
   -- write the source of this number
   Gen : (number : ℕ) → Command
   -- run the source of this number, and tell the summary
@@ -46,6 +48,7 @@ file_of (Expand file) = file
 -- the files that a command reads, in this order
 abbrev pub files_of : Command → List (List ℕ)
 files_of (OfFile c) = file_of c ∷ []
+files_of (Replay source report only) = source ∷ report ∷ []
 files_of (Gen number) = []
 files_of (GenRun number) = []
 
@@ -54,6 +57,13 @@ abbrev pub only_file : List (List ℕ) → Option (List ℕ)
 only_file [] = None
 only_file (word ∷ []) = if is_file_name word then Some word else None
 only_file (word ∷ other ∷ more) = None
+
+-- what is asked of two files, where there are exactly two words that are no options
+abbrev pub of_two_files : {A : Type 0} → (List ℕ → List ℕ → Option A) → List (List ℕ) → Option A
+of_two_files ask [] = None
+of_two_files ask (word ∷ []) = None
+of_two_files ask (word ∷ other ∷ []) = if is_file_name word && is_file_name other then ask word other else None
+of_two_files ask (word ∷ other ∷ third ∷ more) = None
 
 -- the number from 1 to the most, where there is exactly one such word
 abbrev pub only_number : (most : ℕ) → List (List ℕ) → Option ℕ
@@ -66,6 +76,12 @@ abbrev pub number_of : (most default : ℕ) → List (List ℕ) → Option ℕ
 number_of most default [] = Some default
 number_of most default (value ∷ []) = number_in most value
 number_of most default (value ∷ other ∷ more) = None
+
+-- the value of an option that is given at most once, if it is given
+abbrev pub value_of : List (List ℕ) → Option (Option (List ℕ))
+value_of [] = Some None
+value_of (value ∷ []) = Some (Some value)
+value_of (value ∷ other ∷ more) = None
 
 -- whether a flag is given, at most once
 abbrev pub flag_of : List (List ℕ) → Option Bool
@@ -81,6 +97,9 @@ options_from _ _ _ _ = None
 
 abbrev pub run_names : List (List ℕ)
 run_names = codes "--instants" ∷ codes "--budget" ∷ codes "--block" ∷ codes "--workers" ∷ []
+
+abbrev pub only_name : List (List ℕ)
+only_name = codes "--only" ∷ []
 
 abbrev pub run_flag : List (List ℕ)
 run_flag = codes "--run" ∷ []
@@ -111,6 +130,10 @@ gen_with number run = if run then GenRun number else Gen number
 abbrev pub gen : List Argument → Option Command
 gen given = option_and_then (λ number. option_map (gen_with number) (flag_of (flags_of (codes "--run") given))) (only_number GENERATED_MAX (plain_words given))
 
+-- a source and a report, and perhaps the name of a scheduler
+abbrev pub replay : List Argument → Option Command
+replay given = of_two_files (λ source report. option_map (Replay source report) (value_of (values (codes "--only") given))) (plain_words given)
+
 -- The table of the commands: the name, the options with values and the flags that it takes, and what else it needs.
 -- These read one file ..
 abbrev pub file_command_named : List ℕ → List Argument → Option FileCommand
@@ -127,7 +150,8 @@ file_command_named word given =
 abbrev pub command_named : List ℕ → List Argument → Option Command
 command_named word given =
     if bytes_eq word (codes "gen") then taking [] run_flag given (gen given)
-    else option_map OfFile (file_command_named word given)
+    else (if bytes_eq word (codes "replay") then taking only_name [] given (replay given)
+    else option_map OfFile (file_command_named word given))
 
 -- the command of some words; all other words are refused
 abbrev pub command : List (List ℕ) → Option Command

@@ -1,11 +1,11 @@
 -- A command in memory, as a plain value.
 use Rattle.std.specs.Prelude.{Option}
-use Rattle.std.specs.Option.{option_map}
+use Rattle.std.specs.Option.{option_map, option_copied}
 use Rattle.loft_words.specs.declared.command.Command.{Command as CommandInMemory}
 use Rattle.loft_words.specs.declared.command.Command.TheVariants as command
 use Rattle.loft_words.specs.declared.command.FileCommand.{FileCommand as FileCommandInMemory}
 use Rattle.loft_words.specs.declared.command.FileCommand.TheVariants as file_command
-use Rattle.loft_words.specs.Command.{FileCommand, Run, Exec, Show, Check, Compile, Bound, Expand, Command, OfFile, Gen, GenRun}
+use Rattle.loft_words.specs.Command.{FileCommand, Run, Exec, Show, Check, Compile, Bound, Expand, Command, OfFile, Replay, Gen, GenRun}
 
 abbrev pub file_command_of : FileCommandInMemory → FileCommand
 file_command_of (file_command.Run file options) = Run file.now options
@@ -18,6 +18,7 @@ file_command_of (file_command.Expand file) = Expand file.now
 
 abbrev pub command_of : CommandInMemory → Command
 command_of (command.OfFile c) = OfFile (file_command_of c)
+command_of (command.Replay source report only) = Replay source.now report.now (option_copied only)
 command_of (command.Gen number) = Gen number
 command_of (command.GenRun number) = GenRun number
 

@@ -5,3 +5,4 @@ pub mod CommandView
 pub mod Ranges
 pub mod Parts
 pub mod FromParts
+pub mod Changing

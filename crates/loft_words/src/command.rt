@@ -7,14 +7,14 @@ ghost use Rattle.loft_words.specs.Words.{words_of, is_file_name};
 ghost use Rattle.loft_words.specs.Ranges.{IsInRanges};
 ghost use Rattle.loft_words.specs.Command.{Command as PlainCommand, Exec, Run, Show, Check, Compile, Bound, Expand, command, file_of, only_file, number_of};
 ghost use Rattle.loft_words.specs.CommandView.{meant, file_meant, file_command_of};
-ghost use Rattle.loft_words.specs.Parts.{parts_of};
-ghost use Rattle.loft_words.specs.FromParts.{option_list, run_from, run_options_from, only_options_from, file_from, file_command_from, number_from, gen_from, command_from};
+ghost use Rattle.loft_words.specs.Parts.{parts_of, plain_of};
+ghost use Rattle.loft_words.specs.FromParts.{option_list, run_from, run_options_from, only_options_from, file_from, file_command_from, only_word, number_from, gen_from, replay_from, command_from};
 ghost use Rattle.loft_base.specs.declared.options.TheConstants.{MAX_WORKERS};
 ghost use Rattle.loft_words.specs.declared.defaults.TheConstants.{DEFAULT_WORKERS};
 
 use crate::defaults::{DEFAULT_BLOCK, DEFAULT_BUDGET, DEFAULT_INSTANTS, DEFAULT_WORKERS};
 use crate::number::number_in;
-use crate::parts::Parts;
+use crate::parts::{Parts, PlainWords};
 use loft_base::{Limits, MAX_BLOCK, MAX_BUDGET, MAX_INSTANTS, MAX_WORKERS, RunOptions};
 use loft_gen::GENERATED_MAX;
 
@@ -42,6 +42,13 @@ pub enum FileCommand<'a> {
 pub enum Command<'a> {
     /// To read one file.
     OfFile(FileCommand<'a>),
+    /// To replay the report in a file by the source in another one: the whole report, or the block of the scheduler that is
+    /// named.
+    Replay {
+        source: &'a str,
+        report: &'a str,
+        only: Option<&'a str>,
+    },
     /// To write the source of this number, which is from 1 to `GENERATED_MAX`.
     Gen(u32),
     /// To run the source of this number, from 1 to `GENERATED_MAX`, and to tell the summary of the run.
@@ -76,12 +83,20 @@ fn is_file_name(word: &str) -> bool
     }
 }
 
-/// The file, where a word is given and can be a file's name.
-fn only_file(word: Option<&str>) -> Option<&str>
-    ensures { option_copied result ≡ only_file (option_list (option_copied word.entry)) }
+/// The file, where one word is given and can be a file's name.
+fn only_file<'a>(words: PlainWords<'a>) -> Option<&'a str>
+    ensures { option_copied result ≡ only_file (plain_of words.entry) }
 {
-    let word = word?;
-    if is_file_name(word) { Some(word) } else { None }
+    match words {
+        PlainWords::One(word) => {
+            if is_file_name(word) {
+                Some(word)
+            } else {
+                None
+            }
+        }
+        _ => None,
+    }
 }
 
 /// The file, where no option is given.
@@ -126,11 +141,11 @@ fn run_options(parts: Parts<'_>) -> Option<RunOptions>
     Some(RunOptions { limits, workers })
 }
 
-/// The options of a run, where the flag isn't given.
+/// The options of a run, where no other option is given.
 fn only_run_options(parts: Parts<'_>) -> Option<RunOptions>
     ensures { result ≡ only_options_from (parts_of parts.entry) }
 {
-    if parts.run.is_none() {
+    if parts.run.is_none() && parts.only.is_none() {
         run_options(parts)
     } else {
         None
@@ -190,14 +205,24 @@ fn expand<'a>(parts: Parts<'a>) -> Option<FileCommand<'a>>
     Some(FileCommand::Expand(file_alone(parts)?))
 }
 
+/// The word, where one is given.
+fn only_word<'a>(words: PlainWords<'a>) -> Option<&'a str>
+    ensures { option_copied result ≡ only_word (plain_of words.entry) }
+{
+    match words {
+        PlainWords::One(word) => Some(word),
+        _ => None,
+    }
+}
+
 /// The number of a source, where no option with a value is given.
 fn number_alone(parts: Parts<'_>) -> Option<u32>
     ensures { result ≡ number_from (parts_of parts.entry) }
 {
-    if !parts.has_no_values() {
+    if !(parts.has_no_run_options() && parts.only.is_none()) {
         return None;
     }
-    let number = number_in(u64::from(GENERATED_MAX), parts.plain?)?;
+    let number = number_in(u64::from(GENERATED_MAX), only_word(parts.plain)?)?;
     u32::try_from(number).ok()
 }
 
@@ -210,6 +235,28 @@ fn generate<'a>(parts: Parts<'a>) -> Option<Command<'a>>
         Some(Command::GenRun(number))
     } else {
         Some(Command::Gen(number))
+    }
+}
+
+/// To replay a report by a source, where no option but `--only` is given.
+fn replay<'a>(parts: Parts<'a>) -> Option<Command<'a>>
+    ensures { meant result ≡ replay_from (parts_of parts.entry) }
+{
+    if !(parts.has_no_run_options() && parts.run.is_none()) {
+        return None;
+    }
+    let PlainWords::Two(source, report) = parts.plain else {
+        return None;
+    };
+    if is_file_name(source) && is_file_name(report) {
+        let only = parts.only;
+        Some(Command::Replay {
+            source,
+            report,
+            only,
+        })
+    } else {
+        None
     }
 }
 
@@ -243,15 +290,18 @@ fn command_named<'a>(word: &str, parts: Parts<'a>) -> Option<Command<'a>>
     if word == "gen" {
         return generate(parts);
     }
+    if word == "replay" {
+        return replay(parts);
+    }
     Some(Command::OfFile(file_command_named(word, parts)?))
 }
 
 /// What the words after the program's name ask for (docs/COMMANDS.md, "Words"). The first is the
-/// command: `run`, `exec`, `show`, `check`, `compile`, `bound`, `expand` or `gen`. After it stand
-/// one file (of `gen`, a number) and, for `run` and `exec`, options in any order: `--instants N`,
-/// `--budget B`, `--block U` and `--workers W`, each once at most, as two words or as one with `=`;
-/// for `gen`, perhaps the option `--run`. After `--` no word is an option. All other words are no
-/// command: None. It takes no memory.
+/// command: `run`, `exec`, `show`, `check`, `compile`, `bound`, `expand`, `replay` or `gen`. After it
+/// stand one file (of `replay`, a source and a report; of `gen`, a number) and options in any order:
+/// for `run` and `exec` `--instants N`, `--budget B`, `--block U` and `--workers W`, for `replay`
+/// `--only NAME`, each once at most, as two words or as one with `=`; for `gen`, perhaps the option
+/// `--run`. After `--` no word is an option. All other words are no command: None. It takes no memory.
 #[tactic(auto, using(crate::proofs::Commands::command_from_parts))]
 pub fn read_words(words: &[String]) -> Option<Command<'_>>
     ensures meant { meant result ≡ command (words_of words.now) }

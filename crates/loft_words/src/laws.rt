@@ -5,6 +5,7 @@ ghost use Rattle.std.specs.Str.{bytes_eq};
 ghost use Rattle.loft_words.specs.Words.{is_option, is_flag, has_value};
 ghost use Rattle.loft_words.specs.Arguments.{Argument, arguments};
 ghost use Rattle.loft_words.specs.Command.{command_named};
+ghost use Rattle.loft_words.specs.Changing.{MayChange};
 
 /// An option that isn't a flag says the same with its value after `=` as with its value in the next word, where that
 /// doesn't begin with `-`.
@@ -15,9 +16,11 @@ pub fn options_have_two_forms()
         → arguments ((name ++ (codes "=" ++ value)) ∷ words) ≡ arguments (name ∷ value ∷ words) }
 {}
 
-/// Two arguments that stand beside each other can change places: so files and options stand in any order.
+/// Two arguments that stand beside each other can change places, but for the two files of `replay`: so options stand before,
+/// between and after files.
 pub fn arguments_change_places()
     ensures { (word : List ℕ) (before after : List Argument) (a b : Argument)
+        → MayChange word a b
         → command_named word (before ++ (a ∷ b ∷ after))
         ≡ command_named word (before ++ (b ∷ a ∷ after)) }
 {}

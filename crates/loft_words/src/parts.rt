@@ -4,15 +4,26 @@ ghost use Rattle.std.specs.Prelude.{◌≡◌, ◌≤◌, length, ◌∷◌, Non
 ghost use Rattle.std.specs.Option.{option_map, option_copied};
 ghost use Rattle.loft_words.specs.Words.{words_of};
 ghost use Rattle.loft_words.specs.Arguments.{Plain, Given, Flag};
-ghost use Rattle.loft_words.specs.Parts.{argument_of, parts_of, no_parts, first_value, with_argument, with_arguments, with_words, has_no_values, has_no_options};
+ghost use Rattle.loft_words.specs.Parts.{argument_of, plain_of, parts_of, no_parts, first_value, next_word, with_argument, with_arguments, with_words, has_no_run_options, has_no_options};
 
 use crate::argument::{Argument, next_argument};
 
-/// The word that is no option, the values of the options of a run, and the flag of `gen`.
+/// The words that are no options, at most two, in their order.
+#[derive(Clone, Copy)]
+pub enum PlainWords<'a> {
+    /// There is none.
+    Nothing,
+    /// There is one.
+    One(&'a str),
+    /// There are two.
+    Two(&'a str, &'a str),
+}
+
+/// The words that are no options, the values of the options, and the flag of `gen`.
 #[derive(Clone, Copy)]
 pub struct Parts<'a> {
-    /// The word that is no option.
-    pub plain: Option<&'a str>,
+    /// The words that are no options.
+    pub plain: PlainWords<'a>,
     /// The value of `--instants`.
     pub instants: Option<&'a str>,
     /// The value of `--budget`.
@@ -23,6 +34,8 @@ pub struct Parts<'a> {
     pub workers: Option<&'a str>,
     /// The flag `--run`.
     pub run: Option<&'a str>,
+    /// The value of `--only`.
+    pub only: Option<&'a str>,
 }
 
 /// A value where there was none.
@@ -35,8 +48,19 @@ fn first_value<'a>(before: Option<&'a str>, value: &'a str) -> Option<&'a str>
     }
 }
 
+/// With one more word, where there were fewer than two.
+fn next_word<'a>(words: PlainWords<'a>, word: &'a str) -> Option<PlainWords<'a>>
+    ensures { option_map plain_of result ≡ next_word (plain_of words.entry) word.now }
+{
+    match words {
+        PlainWords::Nothing => Some(PlainWords::One(word)),
+        PlainWords::One(first) => Some(PlainWords::Two(first, word)),
+        PlainWords::Two(..) => None,
+    }
+}
+
 impl<'a> Parts<'a> {
-    /// What words say. None where two of them are no options, where an option stands twice or isn't known, and where
+    /// What words say. None where three of them are no options, where an option stands twice or isn't known, and where
     /// it has no value and needs one.
     pub fn read(words: &'a [String]) -> Option<Self>
         ensures { option_map parts_of result ≡ with_words no_parts (words_of words.now) }
@@ -48,12 +72,12 @@ impl<'a> Parts<'a> {
     pub fn has_no_options(self) -> bool
         ensures { result ≡ has_no_options (parts_of self.entry) }
     {
-        self.has_no_values() && self.run.is_none()
+        self.has_no_run_options() && self.run.is_none() && self.only.is_none()
     }
 
-    /// Whether no option with a value is given.
-    pub fn has_no_values(self) -> bool
-        ensures { result ≡ has_no_values (parts_of self.entry) }
+    /// Whether no option of a run is given.
+    pub fn has_no_run_options(self) -> bool
+        ensures { result ≡ has_no_run_options (parts_of self.entry) }
     {
         self.instants.is_none()
             && self.budget.is_none()
@@ -66,12 +90,13 @@ impl<'a> Parts<'a> {
         ensures { parts_of result ≡ no_parts }
     {
         Parts {
-            plain: None,
+            plain: PlainWords::Nothing,
             instants: None,
             budget: None,
             block: None,
             workers: None,
             run: None,
+            only: None,
         }
     }
 
@@ -79,7 +104,7 @@ impl<'a> Parts<'a> {
     fn with_plain(self, word: &'a str) -> Option<Self>
         ensures { option_map parts_of result ≡ with_argument (Plain word.now) (parts_of self.entry) }
     {
-        let plain = Some(first_value(self.plain, word)?);
+        let plain = next_word(self.plain, word)?;
         Some(Parts { plain, ..self })
     }
 
@@ -96,6 +121,8 @@ impl<'a> Parts<'a> {
             parts.block.replace(value)
         } else if name == "--workers" {
             parts.workers.replace(value)
+        } else if name == "--only" {
+            parts.only.replace(value)
         } else {
             return None;
         };
@@ -132,7 +159,8 @@ impl<'a> Parts<'a> {
         match words {
             [] => Some(self),
             [word] => self.with_plain(word.as_str()),
-            [_, _, ..] => None,
+            [word, other] => self.with_plain(word.as_str())?.with_plain(other.as_str()),
+            [_, _, _, ..] => None,
         }
     }
 
@@ -150,8 +178,8 @@ impl<'a> Parts<'a> {
         Some((self.with_argument(argument)?, rest))
     }
 
-    /// With what more words say. Each call adds one of the six parts, so seven calls lie in one another at most, however
-    /// many words there are.
+    /// With what more words say. Each call adds a word or one of six options, so nine calls lie in one another at most,
+    /// however many words there are.
     fn with_words(self, words: &'a [String]) -> Option<Self>
         ensures { option_map parts_of result ≡ with_words (parts_of self.entry) (words_of words.now) }
     {

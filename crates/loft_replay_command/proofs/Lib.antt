@@ -1,0 +1,7 @@
+mod Reports
+mod Whole
+mod Blocks
+mod Checked
+mod Sources
+mod Outcomes
+mod Writing

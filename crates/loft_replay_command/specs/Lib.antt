@@ -1,0 +1,5 @@
+pub mod Refusals
+pub mod Stops
+pub mod Replay
+pub mod Finding
+pub mod Command
