@@ -9,6 +9,5 @@ mod plain_blocks;
 mod replay;
 mod whole;
 
-pub use plain::run_plainly;
 pub use replay::{FollowError, Replayed, follow};
 pub use whole::follow_whole;

@@ -1,24 +1,18 @@
-//! Runs by the statements of a program.
+//! Schedulers and workers by the statements of a program.
 
 ghost use Rattle.std.specs.Prelude.{◌≡◌, [], length, IfOk};
 ghost use Rattle.loft_tree.specs.ProgramView.{program_of};
 ghost use Rattle.loft_tree.specs.Resolved.{resolved_of};
 ghost use Rattle.loft_sense.specs.Machine.{Tree, heads as heads_of};
 ghost use Rattle.loft_base.specs.Options.{IsInRange};
-ghost use Rattle.loft_base.specs.Options.{HasWorkers};
 ghost use Rattle.loft_turns.specs.Course.{stands_after, hands_after};
-ghost use Rattle.loft_turns.specs.Running.{IsWholeRun};
 
 use crate::plain_blocks::PlainBlocks;
-use loft_base::{Gate, NoMemory, RunOptions, SchedId};
+use loft_base::{NoMemory, RunOptions, SchedId};
 use loft_place::Placed;
 use loft_plain::PlainEngine;
-use loft_turns::{Setting, Station, Worker, run_in_rounds, well_formed_programs_can_run};
-use loft_world::Finished;
+use loft_turns::{Setting, Station, Worker};
 use std::alloc::Global;
-use std::marker::Brand;
-use std::sync::Wait;
-use std::thread::Threads;
 
 /// The schedulers of a program before their first instant, in the order of their declarations.
 pub(crate) fn stations<'a, X: Setting>(
@@ -57,41 +51,4 @@ pub(crate) fn workers<'a, X: Setting>(
         workers.push(Worker::new(blocks))?;
     }
     Ok(workers)
-}
-
-/// The run in a setting.
-fn run_in<X: Setting, R: Threads + Wait + Sync, G: Gate>(
-    rt: &R,
-    alloc: Global,
-    p: &Placed,
-    o: &RunOptions,
-    gate: &G,
-) -> Result<Finished, NoMemory>
-    requires program { X.program ≡ Tree (resolved_of (program_of p.now)) }
-    requires options { X.options ≡ o.now }
-    requires range { IsInRange o.now.limits }
-    requires workers { HasWorkers o.now }
-    ensures { IfOk result (λ run. IsWholeRun (Tree (resolved_of (program_of p.now))) o.now run) }
-{
-    well_formed_programs_can_run();
-    let stations = stations::<X>(alloc, p, o)?;
-    let workers = workers::<X>(alloc, p, o)?;
-    run_in_rounds(rt, alloc, &p.program().heads, stations, workers, gate)
-}
-
-/// A whole run of a placed program by its statements, within bounds and with workers that are in their
-/// ranges, in rounds on one thread of the system (docs/SEMANTICS.md, "Rounds"): the plain way to what
-/// `run_whole` of `loft_run` does by code. `NoMemory` comes where an allocation fails.
-pub fn run_plainly<R: Threads + Wait + Sync, G: Gate>(
-    rt: &R,
-    alloc: Global,
-    p: &Placed,
-    o: &RunOptions,
-    gate: &G,
-) -> Result<Finished, NoMemory>
-    requires range { IsInRange o.now.limits }
-    requires workers { HasWorkers o.now }
-    ensures { IfOk result (λ run. IsWholeRun (Tree (resolved_of (program_of p.now))) o.now run) }
-{
-    run_in::<Brand, R, G>(rt, alloc, p, o, gate)
 }

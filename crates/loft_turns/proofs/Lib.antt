@@ -1,8 +1,6 @@
 pub mod ClientsRun
 pub mod CourseLemmas
-pub mod JobLemmas
 pub mod LastLemmas
-pub mod RoundLemmas
 pub mod RunsOn
 pub mod StationLemmas
 pub mod WorkersRun

@@ -1,5 +1,4 @@
 pub mod Blocks
 pub mod Course
-pub mod Rounds
 pub mod Running
 pub mod Turning

@@ -159,23 +159,6 @@ impl<X: Setting, E: Engine, B: BlockEngine> Course<X, E, B> {
         Ok(true)
     }
 
-    /// The number of the next instant that the scheduler makes; 0 for one that isn't declared.
-    pub(crate) fn next_instant(&self, s: SchedId) -> u64 {
-        match self.stations.get(s.0 as usize) {
-            Some(station) => station.next_instant(),
-            None => 0,
-        }
-    }
-
-    /// How many workers there are.
-    pub(crate) fn workers(&self) -> u32
-        requires run { IsRun X.program X.options self.now }
-        requires can { CanRun X.program X.options }
-        ensures { result ≡ X.options.workers }
-    {
-        self.workers.len() as u32
-    }
-
     /// What the run leaves: its world, the notes, and how each scheduler stands.
     pub fn finish(self, alloc: Global) -> Result<Finished, NoMemory>
         requires run { IsRun X.program X.options self }

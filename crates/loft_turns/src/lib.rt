@@ -1,11 +1,9 @@
-//! A run so far, which goes on by one choice a call, with any engine for each scheduler and each worker; and whole runs in
-//! rounds.
+//! A run so far, which goes on by one choice a call, with any engine for each scheduler and each worker.
 #![tactic(auto)]
 
 mod block_engine;
 mod course;
 mod laws;
-mod rounds;
 mod setting;
 mod station;
 mod worker;
@@ -13,7 +11,6 @@ mod worker;
 pub use block_engine::BlockEngine;
 pub use course::Course;
 pub use laws::well_formed_programs_can_run;
-pub use rounds::run_in_rounds;
 pub use setting::Setting;
 pub use station::Station;
 pub use worker::Worker;

@@ -168,11 +168,6 @@ impl<X: Setting, E: Engine> Station<X, E> {
         Ok(true)
     }
 
-    /// The number of the next instant that its engine makes, counted from 1.
-    pub(crate) fn next_instant(&self) -> u64 {
-        self.engine.instant().saturating_add(1)
-    }
-
     /// The notes of its instants, and how it stands.
     fn finish(self, alloc: Global) -> Result<(NoteList, FinalState), NoMemory>
         ensures { IfOk result (λ last. IsLast self last.0 last.1) }

@@ -1,7 +1,0 @@
-use Rattle.std.proofs.Common.{◌≡◌, []}
-use Rattle.loft_turns.specs.Course.{hands_after}
-use Rattle.loft_gates.proofs.run.workers.Given as goal
-
--- the workers so far
-abbrev pub invariant-workers : goal.invariant-workers
-invariant-workers g l = l.workers.items ≡ hands_after g.X.Setting.program g.X.Setting.options [] l.counter

@@ -1,0 +1,164 @@
+//! Gates that hold a turn until another one has come: what no clause says, that actors are in their turns at the same time.
+
+use loft_base::{Gate, Limits, RunOptions, SchedId, Turn};
+use loft_code::validate;
+use loft_reading::read;
+use loft_run::run_whole;
+use std::sync::Wait;
+use std::sync::atomic::{AtomicU64, Ordering};
+use std::test::Fail;
+use std::thread;
+use std::thread::Threads;
+
+/// Two schedulers with a thread each.
+const TWO: &[u8] = b"loft-listing 1
+scheduler A;
+scheduler B;
+module a() in A
+0 A 0 print 1;
+1 A 0 end
+end
+module b() in B
+0 B 0 print 2;
+1 B 0 end
+end
+start A.a();
+start B.b();
+";
+
+/// 128 threads that go to the workers.
+const JOBS: &[u8] = b"loft-listing 1
+scheduler A;
+module j() in A to unlinked
+0 A 0 @1 unlink;
+1 unlinked 0 end
+end
+module f() in A
+0 A 0 count 128
+1 A 1 turn 4
+2 A 1 create A.j();
+3 A 1 jump 1
+4 A 0 end
+end
+start A.f();
+";
+
+/// How often a turn that is held looks whether the other has come.
+const LOOKS: u64 = 10_000_000;
+
+/// How often a block that is held does.
+const LOOKS_OF_BLOCKS: u64 = 100_000;
+
+/// Turns that have come, and whether two were held at once.
+#[derive(Drop)]
+struct Meeting {
+    /// A bit for each that is held, 1 shifted by its number.
+    here: AtomicU64,
+    met: AtomicU64,
+}
+
+impl Meeting {
+    /// Nobody has come.
+    fn new() -> Meeting {
+        Meeting {
+            here: AtomicU64::new(0),
+            met: AtomicU64::new(0),
+        }
+    }
+
+    /// Whether two were held at once.
+    fn has_met(&self) -> bool {
+        self.met.load(Ordering::SeqCst) > 0
+    }
+
+    /// Comes as one of the numbers below 32, and stays until another number is here, but for so many looks at most.
+    fn come(&self, number: u32, looks: u64) {
+        let bit = 1u64 << (number % 32);
+        self.here.fetch_or(bit, Ordering::SeqCst);
+        for _ in 0..looks {
+            if self.here.load(Ordering::SeqCst) != bit {
+                self.met.store(1, Ordering::SeqCst);
+            }
+            if self.has_met() {
+                return;
+            }
+            thread::yield_now();
+        }
+        self.here.fetch_and(!bit, Ordering::SeqCst);
+    }
+}
+
+/// A gate that holds each scheduler's first instant until that of the other has come.
+#[derive(Drop)]
+struct InstantsGate {
+    meeting: Meeting,
+}
+
+impl Gate for InstantsGate {
+    fn pass<R: Threads + Wait + Sync>(&self, _rt: &R, turn: Turn) {
+        if let Turn::Instant {
+            s: SchedId(s),
+            number: 1,
+        } = turn
+        {
+            self.meeting.come(s, LOOKS);
+        }
+    }
+}
+
+/// A gate that holds each block until blocks of two workers are held at once; from then on it holds none.
+#[derive(Drop)]
+struct BlocksGate {
+    meeting: Meeting,
+}
+
+impl Gate for BlocksGate {
+    fn pass<R: Threads + Wait + Sync>(&self, _rt: &R, turn: Turn) {
+        if let Turn::Block { w } = turn {
+            self.meeting.come(w, LOOKS_OF_BLOCKS);
+        }
+    }
+}
+
+/// A whole run of a listing of two workers.
+fn run_listing<R: Threads + Wait + Sync + AllocGlobal, G: Gate>(
+    rt: &R,
+    listing: &[u8],
+    gate: &G,
+) -> Result<(), Fail> {
+    let alloc = rt.alloc();
+    let raw = read(alloc, listing).map_err(|_| "it is no listing")?;
+    let code = validate(alloc, raw).map_err(|_| "its code isn't valid")?;
+    let options = RunOptions {
+        limits: Limits {
+            instants: 100,
+            budget: 10_000,
+            block: 1_000_000,
+        },
+        workers: 2,
+    };
+    run_whole(rt, alloc, &code, &options, gate)?;
+    Ok(())
+}
+
+/// Each scheduler's instant 1 is held until the other's has come, so both are in an instant at the same time.
+#[test]
+fn two_schedulers_meet(rt: HostRuntime) -> Result<(), Fail> {
+    let gate = InstantsGate {
+        meeting: Meeting::new(),
+    };
+    run_listing(&rt, TWO, &gate)?;
+    assert!(rt; gate.meeting.has_met());
+    Ok(())
+}
+
+/// Blocks of two workers are held at once.
+#[test]
+fn two_workers_meet(rt: HostRuntime) -> Result<(), Fail> {
+    let gate = BlocksGate {
+        meeting: Meeting::new(),
+    };
+    run_listing(&rt, JOBS, &gate)?;
+    assert!(rt; gate.meeting.has_met());
+    Ok(())
+}
