@@ -51,7 +51,7 @@ const LOOKS_OF_BLOCKS: u64 = 100_000;
 
 /// Turns that have come, and whether two were held at once.
 #[derive(Drop)]
-struct Meeting {
+pub(crate) struct Meeting {
     /// A bit for each that is held, 1 shifted by its number.
     here: AtomicU64,
     met: AtomicU64,
@@ -59,7 +59,7 @@ struct Meeting {
 
 impl Meeting {
     /// Nobody has come.
-    fn new() -> Meeting {
+    pub(crate) fn new() -> Meeting {
         Meeting {
             here: AtomicU64::new(0),
             met: AtomicU64::new(0),
@@ -67,12 +67,12 @@ impl Meeting {
     }
 
     /// Whether two were held at once.
-    fn has_met(&self) -> bool {
+    pub(crate) fn has_met(&self) -> bool {
         self.met.load(Ordering::SeqCst) > 0
     }
 
     /// Comes as one of the numbers below 32, and stays until another number is here, but for so many looks at most.
-    fn come(&self, number: u32, looks: u64) {
+    pub(crate) fn come(&self, number: u32, looks: u64) {
         let bit = 1u64 << (number % 32);
         self.here.fetch_or(bit, Ordering::SeqCst);
         for _ in 0..looks {
@@ -85,6 +85,17 @@ impl Meeting {
             thread::yield_now();
         }
         self.here.fetch_and(!bit, Ordering::SeqCst);
+    }
+
+    /// Waits until one of the numbers below 32 is here, for so many looks at most.
+    pub(crate) fn wait_for(&self, number: u32, looks: u64) {
+        let bit = 1u64 << (number % 32);
+        for _ in 0..looks {
+            if self.here.load(Ordering::SeqCst) & bit > 0 {
+                return;
+            }
+            thread::yield_now();
+        }
     }
 }
 
@@ -121,7 +132,7 @@ impl Gate for BlocksGate {
 }
 
 /// A whole run of a listing of two workers.
-fn run_listing<R: Threads + Wait + Sync + AllocGlobal, G: Gate>(
+pub(crate) fn run_listing<R: Threads + Wait + Sync + AllocGlobal, G: Gate>(
     rt: &R,
     listing: &[u8],
     gate: &G,
