@@ -10,7 +10,7 @@ use loft_refusal::Refusal;
 use std::alloc::Global;
 
 /// Why a report is refused.
-#[derive(Clone, Copy, Debug, PartialEq, Eq)]
+#[derive(Clone, Copy)]
 pub enum LogRefusal {
     /// It isn't a report; never out of memory.
     NoReport(LogError),

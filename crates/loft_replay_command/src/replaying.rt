@@ -12,9 +12,8 @@ use loft_base::{Files, Sink, write_lines};
 use std::alloc::Global;
 
 /// Checks the report in a file by the source in another one: the whole report, or the block of the scheduler that is
-/// named. Writes the line `ok`, or the block (docs/COMMANDS.md, "replay"). The source is
-/// read and checked whole, and the scheduler is looked up, before the report is opened. Nothing is written before the
-/// report has been checked.
+/// named. Writes the line `ok`, or the block (docs/COMMANDS.md, "replay"). The source is read and checked whole, and the
+/// scheduler is looked up, before the report is opened. Nothing is written before the report has been checked.
 ///
 /// # Errors
 ///
