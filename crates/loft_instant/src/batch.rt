@@ -43,7 +43,7 @@ fn position(linked: &[Runner], thread: ThreadId) -> Option<usize>
 }
 
 /// A thread that hasn't run.
-fn new_thread(
+pub fn new_thread(
     alloc: Global,
     heads: &Heads,
     thread: ThreadId,

@@ -86,7 +86,7 @@ impl State {
 }
 
 /// The same list in no more room than it needs, as what is kept for the whole run.
-fn fitted<T: Drop>(list: Sequence<T>) -> Sequence<T>
+pub fn fitted<T: Drop>(list: Sequence<T>) -> Sequence<T>
     ensures { result ≡ list }
 {
     let mut items = list.into_vec();
@@ -211,7 +211,7 @@ impl<I: Interpreter> Setting<I> {
     }
 
     /// One instant of a scheduler in this state.
-    pub fn instant<P: Passes<I>>(
+    pub(crate) fn instant<P: Passes<I>>(
         &self,
         alloc: Global,
         passes: &mut P,
