@@ -9,28 +9,30 @@ stands for a long answer: a line `N x TEXT` is N lines, TEXT with the numbers fr
 `{}`, and those from K on in place of `{K}`; a line `N x (` is the lines up to the next line `)`, N times;
 every other line stands for itself, and all end with a line feed.
 
-Where several actors made entries of a stored report, its history is one of those that a run may have. Such a
-source passes where the program prints the report of a history of its own that has ended: followed by its
-choices, statement by statement, the source gives exactly that text, and nothing may come after them. The stored
-report is followed in the same way. A report whose entries are all of one scheduler is that of every run, and
-compared byte for byte.
+Where several actors made entries of a stored report, its history is one of those that a run may have: such a source
+passes where the report that the program prints is replayed by the source, which says `ok`. A report whose entries are
+all of one scheduler is that of every run, and compared byte for byte.
 
-In the folder `exec`
-NAME.listing stands for NAME.loft, and in the folder `gen` NAME.words has the words, one a line, in place of a
+In the folder `exec` NAME.listing stands for NAME.loft, and in the folder `gen` NAME.words has the words, one a line, in place of a
 source. Each source in `run` that has a report is compiled, too, and `exec`
 of its listing has to print that report.
 
 In `examples` and `docs/tutorial` NAME.locks is a text with locks, and NAME.loft is what `expand` has to print of it:
 a source like the others, which is run.
 
-In the folder `history` the source is followed by the choices of NAME.choices, one a line, through each of
-FOLLOWERS. A history that hasn't ended has NAME.next in place of an answer, one line: it is followed
-without that choice, and with it.
+In the folder `replay` NAME.loft.report (or a rule, NAME.loft.report.rule) is the report that is replayed by
+NAME.loft. Where the answer is `ok`, it is replayed without its last choice too, and then the entry in the place of that
+isn't allowed. The table `changes.tsv` there has changes of one report: a text, what stands in its place,
+the answer, and that for the block of `A`, between tabs; `block` is the block as the report has it.
+
+Each report of a run in `run`, `examples` and `docs/tutorial` is replayed by its source, which has to print `ok`; and so
+is each block of it, which has to be printed as it stands there.
 
 The folder `words` has a table instead: words, the status, and the first lines of the answer, between
 tabs. Its words are written as for a shell, and are those of a program that is run in that folder."""
 
 import concurrent.futures
+import contextlib
 import os
 import pathlib
 import re
@@ -39,20 +41,18 @@ import subprocess
 import sys
 import tempfile
 
+from stored import block_of, schedulers_of, stored, without_last_choice
+
 TOP = pathlib.Path(__file__).resolve().parent.parent
-COMMANDS = ["run", "show", "check", "compile", "bound", "expand", "exec", "gen"]
+COMMANDS = ["run", "show", "check", "compile", "bound", "expand", "exec", "gen", "replay"]
 ENDINGS = {"exec": ".listing", "gen": ".words"}
 WORDS = TOP / "cases/words"
 TABLE = WORDS / "words.tsv"
-HISTORIES = TOP / "cases/history"
-FOLLOWER = TOP / "crates/loft_follow/out/loft_follow"
-FOLLOWERS = [str(FOLLOWER), f"{FOLLOWER}.by-rattle"]
+CHANGED = TOP / "cases/replay/two_prints.loft"
+CHANGES = CHANGED.with_name("changes.tsv")
 STATUSES = {b"source:": 3, b"listing:": 3, b"locks:": 3, b"loft:": 2, b"log:": 4, b"files:": 5}
 SECONDS = 300
-REPEATED = re.compile(rb"([0-9]+) x (.*)")
-NUMBER = re.compile(rb"\{([0-9]*)\}")
-COMMENT = re.compile(rb"//[^\n]*")
-CLIENT = re.compile(rb"\boutside\s+(\w+)")
+ESCAPED = re.compile(rb"\\(?:(n)|(\\)|x([0-9a-f]{2}))")
 FOLDERS = {**{f"cases/{it}": it for it in COMMANDS}, "examples": "run", "docs/tutorial": "run"}
 
 
@@ -61,39 +61,20 @@ def ending_of(command):
     return ENDINGS.get(command, ".loft")
 
 
-def by_rule(rule):
-    """The answer for which a rule stands."""
-    lines = []
-    rest = iter(rule.split(b"\n")[:-1])
-    for line in rest:
-        repeated = REPEATED.fullmatch(line)
-        if not repeated:
-            lines.append(line)
-        elif repeated[2] == b"(":
-            lines += list(iter(lambda: next(rest), b")")) * int(repeated[1])
-        else:
-            lines += [numbered(repeated[2], at) for at in range(int(repeated[1]))]
-    return b"".join(line + b"\n" for line in lines)
-
-
-def numbered(text, at):
-    """A text with numbers in place of those in braces, each larger by this one."""
-    return NUMBER.sub(lambda number: b"%d" % (int(number[1] or 0) + at), text)
-
-
 def stored_answer(source):
     """The stored answer of a source, or None."""
-    answer = source.with_name(source.name + ".stdout")
-    if answer.is_file():
-        return answer.read_bytes()
-    rule = answer.with_name(answer.name + ".rule")
-    return by_rule(rule.read_bytes()) if rule.is_file() else None
+    return stored(source, ".stdout")
 
 
 def has_report(source):
     """Whether the stored answer of a source is a report."""
     answer = stored_answer(source)
     return answer is not None and status_of(answer) == 0
+
+
+def unescaped(text):
+    """A text of the table of changes, with the bytes for which its escapes stand."""
+    return ESCAPED.sub(lambda it: b"\n" if it[1] else b"\\" if it[2] else bytes([int(it[3], 16)]), text)
 
 
 def status_of(answer):
@@ -113,12 +94,19 @@ def ended(program, words, folder):
     return subprocess.run([program, *words], cwd=folder, stdin=subprocess.DEVNULL, capture_output=True, timeout=SECONDS)
 
 
-def followed(program, choices, words):
-    """How a program ends that follows these choices."""
-    with tempfile.NamedTemporaryFile(suffix=".choices") as file:
-        file.write(choices)
+@contextlib.contextmanager
+def as_file(text, ending):
+    """The name of a file that has this text."""
+    with tempfile.NamedTemporaryFile(suffix=ending) as file:
+        file.write(text)
         file.flush()
-        return ended(program, [file.name, *words], TOP)
+        yield file.name
+
+
+def replayed(program, source, report, words):
+    """How `replay` ends for a source, the text of a report, and further words."""
+    with as_file(report, ".report") as name:
+        return ended(program, ["replay", str(source), name, *words], TOP)
 
 
 def choices_of(report):
@@ -134,29 +122,12 @@ def is_of_one_scheduler(report):
     return len(actors) < 2 and all(kind == b"take" for kind, _ in actors)
 
 
-def next_choices(source, report):
-    """Each choice that may come after a history, allowed or not, as a line."""
-    lines = report.split(b"\n")
-    workers = next(int(it.split()[1]) for it in lines if it.startswith(b"workers "))
-    yield from (b"%s %s\n" % (word, it.split()[1]) for it in lines if it.startswith(b"scheduler ") for word in (b"take", b"give"))
-    yield from (b"%s %d\n" % (word, worker) for worker in range(workers) for word in (b"pick", b"post"))
-    yield from (b"client %s\n" % it for it in CLIENT.findall(COMMENT.sub(b"", source.read_bytes())))
-
-
-def why_not_whole(source, further, report):
+def why_not_replayed(program, source, report):
     """Why a text isn't the report of a whole run of a source, or None."""
     if status_of(report) != 0:
         return f"the answer is no report: {report[:60]!r}"
-    choices = b"".join(choices_of(report))
-    words = ["run", str(source), *further]
-    ran = followed(str(FOLLOWER), choices, words)
-    if ran.stdout != report:
-        return "followed by its choices, " + difference(report, ran.stdout)
-    refusal = b"log: entry %d not allowed\n" % (len(choices_of(report)) + 1)
-    for choice in next_choices(source, report):
-        if followed(str(FOLLOWER), choices + choice, words).stdout != refusal:
-            return f"its history hasn't ended: {choice.decode().strip()} may come next"
-    return None
+    said = replayed(program, source, report, []).stdout
+    return None if said == b"ok\n" else f"of its report, replay says {said[:60]!r}"
 
 
 class Source:
@@ -170,22 +141,24 @@ class Source:
     def beside(self, ending):
         return self.source.with_name(self.source.name + ending)
 
+    def wanted(self):
+        """All that has to be printed, or None where that isn't stored."""
+        return stored_answer(self.source)
+
     def failure(self, program):
         """Why the case fails, or None."""
-        wanted = stored_answer(self.source)
+        wanted = self.wanted()
         if wanted is None:
             return f"there is no {self.source.name}.stdout"
         ran = self.ran(program)
         if ran.returncode != status_of(wanted):
             return f"the status is {ran.returncode}, not {status_of(wanted)}"
         if self.is_run() and status_of(wanted) == 0 and not is_of_one_scheduler(wanted):
-            return why_not_whole(self.source, self.further(), ran.stdout)
-        if ran.stdout != wanted:
-            return difference(ran.stdout, wanted)
-        return None
+            return why_not_replayed(program, self.source, ran.stdout)
+        return None if ran.stdout == wanted else difference(ran.stdout, wanted)
 
     def is_run(self):
-        """Whether the source is run, and no choices are given."""
+        """Whether the source is run, by itself or by its listing."""
         return self.command == "run"
 
     def further(self):
@@ -216,10 +189,8 @@ class Listed(Source):
     def ran(self, program):
         """How `exec` ends for the listing that `compile` prints."""
         listing = ended(program, ["compile", str(self.source)], TOP).stdout
-        with tempfile.NamedTemporaryFile(suffix=".listing") as file:
-            file.write(listing)
-            file.flush()
-            return ended(program, ["exec", file.name, *self.further()], TOP)
+        with as_file(listing, ".listing") as name:
+            return ended(program, ["exec", name, *self.further()], TOP)
 
 
 class Expanded(Source):
@@ -239,54 +210,79 @@ class Expanded(Source):
         return None if ran.returncode == 0 else f"the status is {ran.returncode}, not 0"
 
 
-class Followed(Source):
-    """A source of which the history that stands in its report is followed, statement by statement."""
+class Replayed(Source):
+    """A source of a run by which its own report is replayed: all of it, or the block of a scheduler."""
 
-    def __init__(self, source, command):
-        super().__init__(source, command)
-        self.name = f"{self.name}, by its history"
+    def __init__(self, source, only=None):
+        super().__init__(source, "replay")
+        self.only = only
+        self.name = f"{self.name}, its report" if only is None else f"{self.name}, its block of {only.decode()}"
+
+    def wanted(self):
+        """`ok`, or the block as it stands in the report."""
+        return b"ok\n" if self.only is None else block_of(stored_answer(self.source), self.only)
 
     def ran(self, program):
-        """How the program ends for the choices in the head of the stored report."""
-        choices = b"".join(choices_of(stored_answer(self.source)))
-        return followed(program, choices, [self.command, str(self.source), *self.further()])
-
-    def is_run(self):
-        """The choices are given."""
-        return False
+        """How `replay` ends for the stored report."""
+        words = [] if self.only is None else ["--only", self.only.decode()]
+        return replayed(program, self.source, stored_answer(self.source), words)
 
 
-class History(Source):
-    """A source whose choices are followed."""
+class Replay(Source):
+    """A source by which the report beside it is replayed."""
 
-    def __init__(self, source):
-        super().__init__(source, "run")
-        self.choices = source.with_suffix(".choices")
-        self.next = source.with_suffix(".next")
+    def report(self):
+        """The report, or None."""
+        return stored(self.source, ".report")
 
     def failure(self, program):
         """Why the case fails, or None."""
-        if not self.choices.is_file():
-            return f"there is no {self.choices.name}"
-        if not self.next.is_file():
-            return super().failure(program)
-        for what, ran in [("without", self.ran(program)), ("with", self.ran_on(program))]:
-            if ran.returncode != 0:
-                return f"{what} {self.next.name} the status is {ran.returncode}, not 0"
-        return None
+        return super().failure(program) if self.report() is not None else f"there is no {self.source.name}.report"
 
     def ran(self, program):
-        """How the program ends for the choices."""
-        return ended(program, [self.choices, self.command, self.name, *self.further()], TOP)
+        """How `replay` ends."""
+        return replayed(program, self.source, self.report(), self.further())
 
-    def is_run(self):
-        """The choices are given."""
-        return False
 
-    def ran_on(self, program):
-        """How the program ends for the choices and the one after them."""
-        choices = self.choices.read_bytes() + self.next.read_bytes()
-        return followed(program, choices, [self.command, self.name, *self.further()])
+class Unfinished(Replay):
+    """The same with a report that lacks its last choice."""
+
+    def __init__(self, source, command):
+        super().__init__(source, command)
+        self.name = f"{self.name}, without its last choice"
+        self.shorter, self.count = without_last_choice(super().report())
+
+    def wanted(self):
+        """The entry in the place of that choice isn't allowed."""
+        return b"log: entry %d not allowed\n" % self.count
+
+    def report(self):
+        """The report that lacks the choice."""
+        return self.shorter
+
+
+class Change(Replay):
+    """A row of the table of changes: a changed report, which is replayed whole or for the block of `A`."""
+
+    def __init__(self, number, line, only):
+        super().__init__(CHANGED, "replay")
+        old, new, *answers = line.split(b"\t")
+        self.changed = super().report().replace(unescaped(old), unescaped(new), 1)
+        self.answer = answers[only]
+        self.words = ["--only", "A"] if only else []
+        self.name = f"{CHANGES.relative_to(TOP)}, line {number}{', its block' if only else ''}"
+
+    def wanted(self):
+        """The answer of the row."""
+        return block_of(self.changed, b"A") if self.answer == b"block" else self.answer + b"\n"
+
+    def report(self):
+        """The changed report."""
+        return self.changed
+
+    def further(self):
+        """The option, where the row is for the block."""
+        return self.words
 
 
 class Row:
@@ -309,26 +305,41 @@ class Row:
 
 def source_name(file):
     """The name of the source to which a file of a case belongs."""
-    if file.parent == HISTORIES and file.suffix in (".choices", ".next"):
-        return file.with_suffix(".loft").name
     if file.suffix == ".locks":
         return file.with_suffix(".loft").name
-    return re.sub(r"\.(args|stdout|stdout\.rule)$", "", file.name)
+    return re.sub(r"\.(args|(report|stdout)(\.rule)?)$", "", file.name)
 
 
 def strays():
     """Files of the cases that belong to no case."""
     folders = [*TOP.glob("cases/*"), TOP / "examples", TOP / "docs/tutorial"]
-    commands = {**FOLDERS, str(HISTORIES.relative_to(TOP)): "run"}
-    for file in sorted(file for folder in folders for file in folder.glob("*")):
+    for file in sorted(file for folder in folders if folder != WORDS for file in folder.glob("*")):
         name = source_name(file)
-        command = commands.get(str(file.parent.relative_to(TOP)))
+        command = FOLDERS.get(str(file.parent.relative_to(TOP)))
         is_source = command is not None and name.endswith(ending_of(command))
-        is_known = file.parent == WORDS or file.name == "README.md" or is_source
+        is_known = file == CHANGES or file.name == "README.md" or is_source
         if not is_known or not file.with_name(name).is_file():
             yield f"{file.relative_to(TOP)}: it belongs to no case"
+        elif ".report" in file.suffixes and command != "replay":
+            yield f"{file.relative_to(TOP)}: no report is read here"
         elif file.suffix == ".rule" and file.with_suffix("").is_file():
-            yield f"{file.relative_to(TOP)}: its answer is stored too"
+            yield f"{file.relative_to(TOP)}: its text is stored too"
+
+
+def replays():
+    """The cases of `replay`: the stored ones, the changes of a report, and the reports of runs."""
+    for source in sorted(TOP.glob("cases/replay/*.loft")):
+        if source == CHANGED:
+            continue
+        yield Replay(source, "replay")
+        if stored_answer(source) == b"ok\n" and without_last_choice(stored(source, ".report")):
+            yield Unfinished(source, "replay")
+    for number, line in enumerate(CHANGES.read_bytes().split(b"\n")[:-1], 1):
+        yield from (Change(number, line, only) for only in (0, 1))
+    runs = [it for folder, command in FOLDERS.items() if command == "run" for it in sorted(TOP.glob(f"{folder}/*.loft"))]
+    for source in filter(has_report, runs):
+        yield Replayed(source)
+        yield from (Replayed(source, name) for name in schedulers_of(stored_answer(source)))
 
 
 def failures_of(programs, case):
@@ -346,23 +357,22 @@ def failures_of(programs, case):
 
 def main(programs):
     programs = [str(pathlib.Path(it).resolve()) for it in programs]
-    lacking = [f"{it}: there is no such program" for it in programs + FOLLOWERS if not pathlib.Path(it).is_file()]
+    lacking = [f"{it}: there is no such program" for it in programs if not pathlib.Path(it).is_file()]
     if lacking or not programs:
         print(*lacking, "0 passed, 1 failed", sep="\n")
         return 1
-    cases = [(Made if command == "gen" else Source)(it, command) for folder, command in FOLDERS.items() for it in sorted(TOP.glob(f"{folder}/*{ending_of(command)}"))]
+    plain = [(folder, command) for folder, command in FOLDERS.items() if command != "replay"]
+    cases = [(Made if command == "gen" else Source)(it, command) for folder, command in plain for it in sorted(TOP.glob(f"{folder}/*{ending_of(command)}"))]
     cases += [Listed(it, "run") for it in sorted(TOP.glob("cases/run/*.loft")) if has_report(it)]
     cases += [Expanded(it) for folder in ("examples", "docs/tutorial") for it in sorted(TOP.glob(f"{folder}/*.locks"))]
     cases += [Row(number, line) for number, line in enumerate(TABLE.read_text().split("\n")[:-1], 1)]
-    runs = [(programs, case) for case in cases]
-    runs += [(FOLLOWERS, Followed(it, "run")) for it in sorted(TOP.glob("cases/run/*.loft")) if has_report(it)]
-    runs += [(FOLLOWERS, History(it)) for it in sorted(HISTORIES.glob("*.loft"))]
+    cases += replays()
     with concurrent.futures.ThreadPoolExecutor(os.cpu_count()) as pool:
-        found = list(pool.map(lambda run: failures_of(*run), runs))
+        found = list(pool.map(lambda case: failures_of(programs, case), cases))
     others = list(strays())
     failed = sum(map(bool, found)) + len(others)
     lines = [line for lines in found for line in lines] + others
-    print(*lines, f"{len(runs) + len(others) - failed} passed, {failed} failed", sep="\n")
+    print(*lines, f"{len(cases) + len(others) - failed} passed, {failed} failed", sep="\n")
     return 1 if failed else 0
 
 

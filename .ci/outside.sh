@@ -44,12 +44,24 @@ answer_of_pipe() {
     return "$ended"
 }
 
+# The same of a report: the source and the report are each in a pipe.
+answer_of_pipes() {
+    local ended=0
+    timeout 60 cp "$source" "$room/pipe" &
+    timeout 60 cp "$report" "$room/other" &
+    answer replay "$room/pipe" "$room/other" "$@" || ended=$?
+    wait
+    return "$ended"
+}
+answer_of_report_in_input() { cat "$report" | answer replay "$source" /dev/stdin; }
+
 printf 'files: fault\n' > "$room/fault"
 printf 'loft: usage\n' > "$room/usage"
 printf 'source: too long\n' > "$room/too_long"
 printf 'ok\n' > "$room/ok"
 printf '#' > "$room/refused"
-mkfifo "$room/pipe"
+sed -n '/^scheduler A$/,/^state 0$/p' "$report" > "$room/block"
+mkfifo "$room/pipe" "$room/other"
 
 # The listing of the source, for `exec`.
 wants "compile" 0 answer compile "$source"
@@ -68,6 +80,24 @@ wants "a refusal of exec, the output is full" 6 full exec "$room/refused"
 wants "a missing file, the output is full" 6 full run "$room/missing"
 wants "no command, the output is full" 6 full
 
+# A report and its source: each of the two can fail.
+wants "replay" 0 answer replay "$source" "$report"
+wrote "replay" "$room/ok"
+wants "replay of a block" 0 answer replay "$source" "$report" --only A
+wrote "replay of a block" "$room/block"
+for missing in "$room/missing" "$room"; do
+    wants "replay, no source: $missing" 5 answer replay "$missing" "$report"
+    wrote "replay, no source: $missing" "$room/fault"
+    wants "replay, no report: $missing" 5 answer replay "$source" "$missing"
+    wrote "replay, no report: $missing" "$room/fault"
+    wants "replay, a refused source and no report: $missing" 3 answer replay "$room/refused" "$missing"
+done
+wants "replay, the output is full" 6 full replay "$source" "$report"
+wants "replay of a block, the output is full" 6 full replay "$source" "$report" --only A
+wants "an unknown scheduler, the output is full" 6 full replay "$source" "$report" --only B
+wants "a refused report, the output is full" 6 full replay "$source" "$source"
+wants "a missing report, the output is full" 6 full replay "$source" "$room/missing"
+
 wants "a pipe as standard input" 0 answer_of_input
 wrote "a pipe as standard input" "$report"
 # A pipe can be read once, and so each command reads its file.
@@ -82,6 +112,12 @@ wants "a named pipe, exec" 0 answer_of_pipe exec
 wrote "a named pipe, exec" "$report"
 wants "a named pipe, bound" 0 answer_of_pipe bound
 wants "a named pipe, expand" 0 answer_of_pipe expand
+wants "named pipes, replay" 0 answer_of_pipes
+wrote "named pipes, replay" "$room/ok"
+wants "named pipes, replay of a block" 0 answer_of_pipes --only A
+wrote "named pipes, replay of a block" "$room/block"
+wants "a report as standard input" 0 answer_of_report_in_input
+wrote "a report as standard input" "$room/ok"
 
 # A source of 4 MiB, one that has a byte more, and one of as many bytes that are no tokens.
 { cat "$source"; head -c 4194305 /dev/zero | tr '\0' ' '; } > "$room/blanks"
@@ -105,6 +141,19 @@ modules '' > "$room/chain"
 modules 'run m0();' > "$room/circle"
 for shape in chain circle; do
     wants "bound, 256 modules in a $shape" 0 answer bound "$room/$shape"
+done
+# A report of 1 GiB, and one that has a byte more: neither is one.
+printf 'log: line 1, byte 0\n' > "$room/no_report"
+printf 'log: too long\n' > "$room/long_report"
+truncate -s 1073741824 "$room/gibibyte"
+wants "a report of 1 GiB" 4 answer replay "$source" "$room/gibibyte"
+wrote "a report of 1 GiB" "$room/no_report"
+truncate -s 1073741825 "$room/gibibyte"
+wants "a report of more than 1 GiB" 4 answer replay "$source" "$room/gibibyte"
+wrote "a report of more than 1 GiB" "$room/long_report"
+for contents in longer zeros; do
+    wants "replay, more than 4 MiB: $contents" 3 answer replay "$room/$contents" "$report"
+    wrote "replay, more than 4 MiB: $contents" "$room/too_long"
 done
 for command in run show check expand; do
     for contents in longer zeros; do
@@ -131,6 +180,8 @@ wants "a file whose name isn't UTF-8" 2 answer run "$bad"
 wrote "a file whose name isn't UTF-8" "$room/usage"
 wants "an option that isn't UTF-8" 2 answer run "$source" "--$bad"
 wrote "an option that isn't UTF-8" "$room/usage"
+wants "a scheduler whose name isn't UTF-8" 2 answer replay "$source" "$report" --only "$bad"
+wrote "a scheduler whose name isn't UTF-8" "$room/usage"
 wants "a word that isn't UTF-8, the output is full" 6 full run "$bad"
 
 [ "$failed" = 1 ] || echo "$name: files, pipes and a full output are answered as docs/COMMANDS.md says"

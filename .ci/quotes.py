@@ -8,7 +8,8 @@ A fenced block is one of these:
 - one that begins with `$ loft COMMAND SOURCE OPTION ..`: the rest is the stored answer. It lies
   beside the source, or in cases/COMMAND where the source is named without a folder, and its
   options are those of SOURCE.args. For `gen` it is that of the case in cases/gen with these words,
-  and for a text with locks, NAME.locks, the source NAME.loft that `expand` prints of it.
+  and for a text with locks, NAME.locks, the source NAME.loft that `expand` prints of it. For `replay` of
+  SOURCE and SOURCE.stdout it is `ok`, and with `--only` the block of the scheduler in that report.
 
 In the last two a line `..` stands for lines that are left out; all others follow one another.
 
@@ -18,6 +19,8 @@ column is one of them. After `<!-- all lines of FILE -->` they are all of them, 
 import pathlib
 import re
 import sys
+
+from stored import block_of
 
 TOP = pathlib.Path(__file__).resolve().parent.parent
 PAGES = ["*.md", "docs/*.md", "cases/*.md", "editors/*.md", "examples/*.md", "view/*.md"]
@@ -87,6 +90,9 @@ def ask_answer(command, source, options, quoted):
     if command == "expand" and source.endswith(".locks"):
         ask_whole(quoted, lines_of(source[: -len(".locks")] + ".loft"))
         return
+    if command == "replay":
+        ask_replayed(source, options, quoted)
+        return
     name = source if "/" in source else f"cases/{command}/{source}"
     lines_of(name)
     further = TOP / f"{name}.args"
@@ -94,6 +100,15 @@ def ask_answer(command, source, options, quoted):
     if options != wanted:
         raise Stale(f"the options of {name} are {wanted}, not {options}")
     ask_whole(quoted, lines_of(f"{name}.stdout"))
+
+
+def ask_replayed(source, words, quoted):
+    """Whether a block is what `replay` prints of the stored report of a source."""
+    report, *only = words
+    if report != f"{source}.stdout" or (only and (len(only) != 2 or only[0] != "--only")):
+        raise Stale(f"the words are those of no report of {source}")
+    text = "\n".join([*lines_of(report), ""]).encode()
+    ask_whole(quoted, block_of(text, only[1].encode()).decode().splitlines() if only else ["ok"])
 
 
 def ask_made(words, quoted):

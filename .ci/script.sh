@@ -28,6 +28,8 @@ mkdir "$room/files"
 cp "$source" "$room/files/-a"
 cp "$source" "$room/files/5"
 cp "$source" "$room/files/--instants"
+cp "$source" "$room/files/--only"
+cp "$source.stdout" "$room/files/Road"
 
 # Runs both scripts in a folder: same WHAT STATUS REPORT FOLDER WORD ..
 same() {
@@ -56,6 +58,8 @@ report=$source.stdout
 printf 'loft: usage\n' > "$room/usage"
 printf 'files: fault\n' > "$room/fault"
 "$program" run "$source" --instants 5 > "$room/five"
+printf 'ok\n' > "$room/ok"
+sed -n '/^scheduler Road$/,/^left /p' "$report" | sed '$d' > "$room/block"
 
 same "an example" 0 "$report" . run examples/traffic_light.loft
 same "an example, from its folder" 0 "$report" examples run traffic_light.loft
@@ -66,6 +70,13 @@ same "an option after the file" 0 "$room/five" examples run traffic_light.loft -
 same "a file with the name of a number" 0 "$room/five" "$room/files" run 5 --instants 5
 same "a file with a dash after --" 0 "$report" "$room/files" run -- -a
 same "a file with an option's name after --" 0 "$report" "$room/files" run -- --instants
+same "a report" 0 "$room/ok" examples replay traffic_light.loft traffic_light.loft.stdout
+same "a report and its source by absolute names" 0 "$room/ok" / replay "$source" "$report"
+same "a block, a scheduler's name before the files" 0 "$room/block" examples replay --only Road traffic_light.loft traffic_light.loft.stdout
+same "a block, a scheduler's name after the files" 0 "$room/block" examples replay traffic_light.loft traffic_light.loft.stdout --only=Road
+same "a block, a file with the scheduler's name" 0 "$room/block" "$room/files" replay 5 Road --only Road
+same "a report after --, of a source with an option's name" 0 "$room/ok" "$room/files" replay -- --only Road
+same "a missing report" 5 "$room/fault" examples replay traffic_light.loft missing.report
 same "a missing file" 5 "$room/fault" examples run missing.loft
 same "a file of the program's folder" 5 "$room/fault" / run data/two_prints.loft
 same "an unknown option" 2 "$room/usage" examples run traffic_light.loft --loud

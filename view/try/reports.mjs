@@ -1,11 +1,11 @@
 // The reports that are tried: all that are stored, and large ones.
-import { readFileSync, readdirSync } from "node:fs";
+import { existsSync, readFileSync, readdirSync } from "node:fs";
 import { dirname, join } from "node:path";
 import { fileURLToPath } from "node:url";
 
 export const VIEW = dirname(dirname(fileURLToPath(import.meta.url)));
 export const TOP = dirname(VIEW);
-const FOLDERS = ["cases/run", "cases/history", "cases/exec", "examples", "docs/tutorial"];
+const FOLDERS = ["cases/run", "cases/replay", "cases/exec", "examples", "docs/tutorial"];
 const REPEATED = /^([0-9]+) x (.*)$/;
 // The page is made for reports of some 5 MB.
 const LONGEST = 6_000_000;
@@ -40,17 +40,23 @@ function byRule(rule) {
   return lines.join("\n");
 }
 
-/** Each stored answer that is a report of at most so many bytes. @returns {{name: string, text: string}[]} */
+/** Whether a file is an answer, or a report that `replay` accepts whole. @param {string} name from the top */
+function isWhole(name) {
+  const answer = name.replace(/\.report(\.rule)?$/, ".stdout");
+  return answer === name || (existsSync(join(TOP, answer)) && bytes(answer) === "ok\n");
+}
+
+/** Each stored report of at most so many bytes. @returns {{name: string, text: string}[]} */
 export function storedReports() {
   const found = [];
   for (const folder of FOLDERS) {
     for (const file of readdirSync(join(TOP, folder)).sort()) {
       const name = `${folder}/${file}`;
-      if (file.endsWith(".stdout")) found.push({ name, text: bytes(name) });
-      if (file.endsWith(".stdout.rule")) found.push({ name, text: byRule(bytes(name)) });
+      if (/\.(stdout|report)$/.test(file)) found.push({ name, text: bytes(name) });
+      if (/\.(stdout|report)\.rule$/.test(file)) found.push({ name, text: byRule(bytes(name)) });
     }
   }
-  return found.filter(({ text }) => text.startsWith("loft-report ") && text.length <= LONGEST);
+  return found.filter(({ name, text }) => isWhole(name) && text.startsWith("loft-report ") && text.length <= LONGEST);
 }
 
 /** A report of many instants of two schedulers, with a thread that goes to and fro. @param {number} instants */

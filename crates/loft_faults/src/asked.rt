@@ -1,4 +1,4 @@
-//! The commands that are asked for, each with the contents of the file that it reads.
+//! The commands that are asked for, each with the contents of the files that it reads.
 
 use loft_base::{MemFiles, MemSink, OpenGate};
 use loft_top::loft_main;
@@ -27,15 +27,59 @@ start A.m();
 pub const WITH_LOCK: &[u8] =
     b"scheduler A; lock l in A; module m() in A lock l; print \"one\"; unlock l; end start A.m();";
 
-/// Each command that reads a file, with the contents of it.
-pub static COMMANDS: [(&str, &[u8]); 7] = [
-    ("run a", TWO_PRINTS),
-    ("exec a", LISTING),
-    ("show a", TWO_PRINTS),
-    ("check a", TWO_PRINTS),
-    ("compile a", TWO_PRINTS),
-    ("bound a", TWO_PRINTS),
-    ("expand a", WITH_LOCK),
+/// The report of the program of two prints.
+pub const REPORT: &[u8] = b"loft-report 1
+instants 100
+budget 10000
+block 1000000
+workers 2
+history 4
+take A
+give A
+take A
+give A
+scheduler A
+instant 1
+in create start.0 m()
+print start.0 one
+at start.0 0 0 coop:0 m:1[]()
+instant 2
+print start.0 two
+end start.0 done
+state 0
+left 0
+end
+";
+
+/// What the files `a` and `b` have.
+#[derive(Clone, Copy)]
+pub struct Contents {
+    pub a: &'static [u8],
+    pub b: &'static [u8],
+}
+
+/// A file alone.
+const fn one(a: &'static [u8]) -> Contents {
+    Contents { a, b: b"" }
+}
+
+/// A source and a report.
+const REPLAYED: Contents = Contents {
+    a: TWO_PRINTS,
+    b: REPORT,
+};
+
+/// Each command that reads files, with the contents of them.
+pub static COMMANDS: [(&str, Contents); 9] = [
+    ("run a", one(TWO_PRINTS)),
+    ("exec a", one(LISTING)),
+    ("show a", one(TWO_PRINTS)),
+    ("check a", one(TWO_PRINTS)),
+    ("compile a", one(TWO_PRINTS)),
+    ("bound a", one(TWO_PRINTS)),
+    ("expand a", one(WITH_LOCK)),
+    ("replay a b", REPLAYED),
+    ("replay a b --only A", REPLAYED),
 ];
 
 /// The words of a command, which stand with a blank between them.
@@ -47,10 +91,11 @@ pub fn words(alloc: Global, command: &str) -> Result<Vec<String>, AllocError> {
     Ok(words)
 }
 
-/// The files with nothing but `a`, and no fault planned.
-pub fn files(alloc: Global, contents: &[u8]) -> Result<MemFiles, Fail> {
+/// The files with nothing but `a` and `b`, and no fault planned.
+pub fn files(alloc: Global, contents: Contents) -> Result<MemFiles, Fail> {
     let mut files = MemFiles::new(alloc)?;
-    files.add(alloc, "a", contents)?;
+    files.add(alloc, "a", contents.a)?;
+    files.add(alloc, "b", contents.b)?;
     Ok(files)
 }
 
@@ -75,7 +120,7 @@ pub fn ended<R: Threads + Wait + Sync + AllocGlobal>(
 pub fn whole<R: Threads + Wait + Sync + AllocGlobal>(
     rt: &R,
     command: &str,
-    contents: &[u8],
+    contents: Contents,
 ) -> Result<MemSink, Fail> {
     let mut files = files(rt.alloc(), contents)?;
     let mut sink = sink(rt.alloc())?;

@@ -1,6 +1,6 @@
 //! A put into the sink that fails.
 
-use crate::asked::{COMMANDS, TWO_PRINTS, ended, files, sink, whole};
+use crate::asked::{COMMANDS, Contents, ended, files, sink, whole};
 use std::sync::Wait;
 use std::test::Fail;
 use std::thread::Threads;
@@ -30,7 +30,7 @@ fn is_cut(text: &[u8], whole: &[u8], lines: u64, keep: usize) -> bool {
 fn meets_fault<R: Threads + Wait + Sync + AllocGlobal>(
     rt: &R,
     command: &str,
-    contents: &[u8],
+    contents: Contents,
     put: u64,
     keep: usize,
 ) -> Result<bool, Fail> {
@@ -49,7 +49,7 @@ fn meets_fault<R: Threads + Wait + Sync + AllocGlobal>(
 fn puts<R: Threads + Wait + Sync + AllocGlobal>(
     rt: &R,
     command: &str,
-    contents: &[u8],
+    contents: Contents,
     keep: usize,
 ) -> Result<u64, Fail> {
     for put in 1..99 {
@@ -61,29 +61,32 @@ fn puts<R: Threads + Wait + Sync + AllocGlobal>(
 }
 
 /// How many lines the answer of each command has.
-static LINES: [u64; 7] = [21, 21, 7, 1, 9, 1, 22];
+static LINES: [u64; 9] = [21, 21, 7, 1, 9, 1, 22, 1, 9];
 
 /// Each line is a put, and nothing is put after the one that fails.
 #[test]
 fn each_put_fails_in_turn(rt: HostRuntime) -> Result<(), Fail> {
     for (index, (command, contents)) in COMMANDS.iter().enumerate() {
         for keep in 0..2 {
-            assert_eq!(rt; puts(&rt, command, contents, keep)?, LINES[index]);
+            assert_eq!(rt; puts(&rt, command, *contents, keep)?, LINES[index]);
         }
     }
     Ok(())
 }
 
-/// The same of a summary, for which no file is read.
+/// What the files have where none is read.
+static NOTHING: Contents = Contents { a: b"", b: b"" };
+
+/// The same of a summary.
 #[test]
 fn each_put_of_a_summary_fails_in_turn(rt: HostRuntime) -> Result<(), Fail> {
-    assert_eq!(rt; puts(&rt, "gen 1 --run", b"", 1)?, 9);
+    assert_eq!(rt; puts(&rt, "gen 1 --run", NOTHING, 1)?, 9);
     Ok(())
 }
 
 /// What a run leaves in its sink where the third put fails and keeps so many bytes.
 fn third_put<R: Threads + Wait + Sync + AllocGlobal>(rt: &R, keep: usize) -> Result<Vec<u8>, Fail> {
-    let mut files = files(rt.alloc(), TWO_PRINTS)?;
+    let mut files = files(rt.alloc(), COMMANDS[0].1)?;
     let mut sink = sink(rt.alloc())?;
     sink.fail_at(rt.alloc(), 3, keep)?;
     ended(rt, "run a", &mut files, &mut sink)?;

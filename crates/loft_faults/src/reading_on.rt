@@ -2,24 +2,24 @@
 
 ghost use Rattle.std.specs.Prelude.{None, true};
 
-use crate::asked::{COMMANDS, sink, whole, words};
+use crate::asked::{COMMANDS, Contents, sink, whole, words};
 use loft_base::{Failed, Files, OpenGate};
 use loft_top::loft_main;
 use std::sync::Wait;
 use std::test::Fail;
 use std::thread::Threads;
 
-/// Each name is that of the same file. A part from a later offset than 0 is a fault where the part before it had
-/// another name.
+/// The files `a` and `b`, which is also the file of each other name. A part from a later offset than 0 is a fault where
+/// the part before it had another name.
 #[derive(Drop)]
-struct StrictFiles<'a> {
-    contents: &'a [u8],
+struct StrictFiles {
+    contents: Contents,
     was_a: bool,
     place: u64,
     faults: u64,
 }
 
-impl StrictFiles<'_> {
+impl StrictFiles {
     ghost use Rattle.std.specs.Prelude.{◌≡◌, ◌≤◌, length, IfSome};
 
     /// Copies a part, where this one may begin at that offset.
@@ -35,14 +35,15 @@ impl StrictFiles<'_> {
         let Ok(start) = usize::try_from(from) else {
             return Some(0);
         };
-        let rest = self.contents.get(start..).unwrap_or_default();
+        let file = if is_a { self.contents.a } else { self.contents.b };
+        let rest = file.get(start..).unwrap_or_default();
         let count = rest.len().min(into.len());
         into[..count].copy_from_slice(&rest[..count]);
         Some(count)
     }
 }
 
-impl Files for StrictFiles<'_> {
+impl Files for StrictFiles {
     ghost contents = { λ _ _. None };
 
     ghost faults = { λ files. files.faults };
@@ -66,7 +67,7 @@ impl Files for StrictFiles<'_> {
 fn is_same<R: Threads + Wait + Sync + AllocGlobal>(
     rt: &R,
     command: &str,
-    contents: &[u8],
+    contents: Contents,
 ) -> Result<bool, Fail> {
     let words = words(rt.alloc(), command)?;
     let mut files = StrictFiles {

@@ -1,3 +1,4 @@
 pub mod Deciding
 pub mod AnswerLemmas
 pub mod TextLemmas
+pub mod ReplayLemmas

@@ -8,23 +8,26 @@ use Rattle.loft_commands.specs.Written.{Appends, IsPrefix}
 use Rattle.loft_gen_command.specs.Writes.{WritesOneOf}
 use Rattle.loft_top.specs.declared.status.Status.TheVariants as status
 use Rattle.loft_top.specs.Status.{status_of_write}
-use Rattle.loft_top.specs.Answer.{IsAnswer, Refuses, IsText, Answers}
+use Rattle.loft_top.specs.Answer.{IsAnswer, Refuses, RefusesLog, IsText, Answers}
 use Rattle.loft_commands.proofs.Written.{appends, begun, not_begun}
 use Rattle.loft_top.proofs.AnswerLemmas.{cut_answers}
 
 -- a command that refuses nothing, and answers each text of which P holds
 module _ (c : Command) (P : List ℕ → Type 0) (answers : (contents : List (List ℕ)) (text : List ℕ) → P text → IsAnswer c contents text)
-    (never : (contents : List (List ℕ)) (line : List ℕ) → Refuses c contents line → ⊥) where
+    (never : (contents : List (List ℕ)) (line : List ℕ) → Refuses c contents line → ⊥)
+    (never_log : (contents : List (List ℕ)) (line : List ℕ) → RefusesLog c contents line → ⊥) where
   whole_answers : (known : Option (List (List ℕ))) (old new : Option (List ℕ)) (f g p q before after : ℕ) → WritesOneOf P (Ok tt) old new f g p q → Answers c known status.Done old new before after
   whole_answers known old new f g p q before after (inl (text, holds, writes)) = record {
     done = λ contents k e. appends {P = IsAnswer c contents} text writes.ok (answers contents text holds);
     source = λ contents k e. absurd cc;
+    log = λ contents k e. absurd cc;
     refused = λ contents line k r. absurd (never contents line r);
+    log_refused = λ contents line k r. absurd (never_log contents line r);
     accepted = λ contents k taken. tt;
     prefix = λ contents k e. absurd (elim e [ inl f ↦ cc | inr f ↦ cc ]);
     file_line = λ e. absurd cc;
     never_usage = λ e. cc;
-    never_log = λ e. cc;
+    log_reads = λ e. absurd cc;
   }
   whole_answers known old new f g p q before after (inr (is, same, still)) = absurd cc
 

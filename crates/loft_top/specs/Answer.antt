@@ -1,55 +1,79 @@
 -- What the program promises of its answer to a command.
-use Rattle.std.specs.Prelude.{◌≡◌, ◌≢◌, ℕ, ◌⊎◌, List, codes, Option, Some}
+use Rattle.std.specs.Prelude.{◌≡◌, ◌≢◌, ℕ, ◌⊎◌, List, codes, Option, Some, Ok}
 use Rattle.loft_base.specs.Outside.{Rose}
 use Rattle.loft_gen.specs.Generated.{generated}
 use Rattle.loft_generated_run.specs.Summary.{IsSummary}
 use Rattle.loft_refusal.specs.Input.{Input}
 use Rattle.loft_refusal.specs.Refusals.{IsTextOf}
-use Rattle.loft_words.specs.Command.{Command, OfFile, Gen, GenRun}
+use Rattle.loft_words.specs.Command.{Command, OfFile, Replay, Gen, GenRun}
 use Rattle.loft_commands.specs.Written.{Appends, IsLine, IsPrefix}
 use Rattle.loft_commands.specs.Asks.{RefusesFile, Takes}
 use Rattle.loft_commands.specs.Promise.{IsFileAnswer}
+use Rattle.loft_replay_command.specs.Replay.{ReplayComesTo}
 use Rattle.loft_top.specs.declared.status.Status.{Status}
 use Rattle.loft_top.specs.declared.status.Status.TheVariants as status
-use Rattle.loft_top.specs.Status.{IsRefused, IsAccepted}
-use Rattle.loft_top.specs.Reads.{OfOne}
+use Rattle.loft_top.specs.Status.{IsRefused, IsLogRefused, IsAccepted}
+use Rattle.loft_top.specs.Reads.{OfOne, OfTwo}
+use Rattle.loft_top.specs.Reports.{ReplayRefusesSource, ReplayRefusesReport}
 
--- what a command answers, where its files have these contents: that of its one file, the source of a number, or the
--- summary of a run of it
+-- what a command answers, where its files have these contents: that of its one file, what a report comes to by its
+-- source, the source of a number, or the summary of a run of it
 abbrev pub IsAnswer : Command → List (List ℕ) → List ℕ → Type 0
 IsAnswer (OfFile c) contents text = OfOne (λ file. IsFileAnswer c file text) contents
+IsAnswer (Replay source report only) contents text = OfTwo (λ s r. ReplayComesTo only s r (Ok text)) contents
 IsAnswer (Gen number) contents text = text ≡ generated number
 IsAnswer (GenRun number) contents text = IsSummary number text
 
--- a command refuses these contents by this line
+-- a command refuses these contents by this line: what it reads as a source, a listing or a text with locks
 abbrev pub Refuses : Command → List (List ℕ) → List ℕ → Type 0
 Refuses (OfFile c) contents line = OfOne (λ file. RefusesFile c file line) contents
+Refuses (Replay source report only) contents line = OfTwo (λ s r. ReplayRefusesSource only s line) contents
 Refuses (Gen number) contents line = ⊥
 Refuses (GenRun number) contents line = ⊥
 
--- the text is the line with which a command refuses these contents
+-- it refuses them by this line for the report that it reads
+abbrev pub RefusesLog : Command → List (List ℕ) → List ℕ → Type 0
+RefusesLog (OfFile c) contents line = ⊥
+RefusesLog (Replay source report only) contents line = OfTwo (λ s r. ReplayRefusesReport only s r line) contents
+RefusesLog (Gen number) contents line = ⊥
+RefusesLog (GenRun number) contents line = ⊥
+
+-- the text is the line with which a command refuses these contents, or the report among them
 abbrev pub IsRefusal : Command → List (List ℕ) → List ℕ → Type 0
 IsRefusal c contents text = (line : List ℕ) × Refuses c contents line × IsLine line text
+
+abbrev pub IsLogRefusal : Command → List (List ℕ) → List ℕ → Type 0
+IsLogRefusal c contents text = (line : List ℕ) × RefusesLog c contents line × IsLine line text
 
 -- the contents are what a command takes
 abbrev pub AreTaken : Command → List (List ℕ) → Type 0
 AreTaken (OfFile c) contents = OfOne (λ file. (x : Input) × IsTextOf file x × Takes c x) contents
+AreTaken (Replay source report only) contents = OfTwo (λ s r. (text : List ℕ) × ReplayComesTo only s r (Ok text)) contents
 AreTaken (Gen number) contents = Unit {0}
 AreTaken (GenRun number) contents = Unit {0}
+
+-- the command reads a report
+abbrev pub ReadsReport : Command → Type 0
+ReadsReport (OfFile c) = ⊥
+ReadsReport (Replay source report only) = Unit {0}
+ReadsReport (Gen number) = ⊥
+ReadsReport (GenRun number) = ⊥
 
 -- what a command may write; the count of the files' faults was `before`, and is `after`
 abbrev pub IsText : Command → List (List ℕ) → ℕ → ℕ → List ℕ → Type 0
 IsText c contents before after text =
-    IsAnswer c contents text ⊎ (IsRefusal c contents text ⊎ (IsLine (codes "files: fault") text × Rose before after))
+    IsAnswer c contents text ⊎ (IsRefusal c contents text ⊎ (IsLogRefusal c contents text ⊎ (IsLine (codes "files: fault") text × Rose before after)))
 
 -- A command ends so, where this is known of its files; the sink tells of `old` before it and of `new` after it, and the
 -- count of the files' faults was `before`, and is `after`.
 pub record Answers (c : Command) (known : Option (List (List ℕ))) (end : Status) (old new : Option (List ℕ)) (before after : ℕ) : Type 0 where
   pub done : (contents : List (List ℕ)) → known ≡ Some contents → end ≡ status.Done → Appends old new (IsAnswer c contents)
   pub source : (contents : List (List ℕ)) → known ≡ Some contents → end ≡ status.Source → Appends old new (IsRefusal c contents)
+  pub log : (contents : List (List ℕ)) → known ≡ Some contents → end ≡ status.Log → Appends old new (IsLogRefusal c contents)
   pub refused : (contents : List (List ℕ)) (line : List ℕ) → known ≡ Some contents → Refuses c contents line → IsRefused end
+  pub log_refused : (contents : List (List ℕ)) (line : List ℕ) → known ≡ Some contents → RefusesLog c contents line → IsLogRefused end
   pub accepted : (contents : List (List ℕ)) → known ≡ Some contents → AreTaken c contents → IsAccepted end
   pub prefix : (contents : List (List ℕ)) → known ≡ Some contents → end ≡ status.SinkFault ⊎ end ≡ status.NoMemory → Appends old new (IsPrefix (IsText c contents before after))
   pub file_line : end ≡ status.FileFault → Appends old new (IsLine (codes "files: fault"))
   pub never_usage : end ≢ status.Usage
-  pub never_log : end ≢ status.Log
+  pub log_reads : end ≡ status.Log → ReadsReport c

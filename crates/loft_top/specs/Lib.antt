@@ -1,3 +1,4 @@
 pub mod Status
 pub mod Reads
+pub mod Reports
 pub mod Answer

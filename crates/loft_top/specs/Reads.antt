@@ -12,3 +12,10 @@ abbrev pub OfOne : (List ℕ → Type 0) → List (List ℕ) → Type 0
 OfOne P [] = ⊥
 OfOne P (contents ∷ []) = P contents
 OfOne P (contents ∷ other ∷ more) = ⊥
+
+-- there are two files, of whose contents P holds
+abbrev pub OfTwo : (List ℕ → List ℕ → Type 0) → List (List ℕ) → Type 0
+OfTwo P [] = ⊥
+OfTwo P (contents ∷ []) = ⊥
+OfTwo P (contents ∷ other ∷ []) = P contents other
+OfTwo P (contents ∷ other ∷ third ∷ more) = ⊥

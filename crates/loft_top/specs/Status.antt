@@ -15,7 +15,7 @@ code_of FileFault = 5
 code_of SinkFault = 6
 code_of NoMemory = 7
 
--- a source is refused, unless a file or the sink fails or the program is out of memory
+-- a source, a listing or a text with locks is refused, unless a file or the sink fails or the program is out of memory
 abbrev pub IsRefused : Status → Type 0
 IsRefused Done = ⊥
 IsRefused Usage = ⊥
@@ -25,7 +25,17 @@ IsRefused FileFault = Unit {0}
 IsRefused SinkFault = Unit {0}
 IsRefused NoMemory = Unit {0}
 
--- a source is answered, unless a file or the sink fails or the program is out of memory
+-- a report is refused, unless a file or the sink fails or the program is out of memory
+abbrev pub IsLogRefused : Status → Type 0
+IsLogRefused Done = ⊥
+IsLogRefused Usage = ⊥
+IsLogRefused Source = ⊥
+IsLogRefused Log = Unit {0}
+IsLogRefused FileFault = Unit {0}
+IsLogRefused SinkFault = Unit {0}
+IsLogRefused NoMemory = Unit {0}
+
+-- contents are answered, unless a file or the sink fails or the program is out of memory
 abbrev pub IsAccepted : Status → Type 0
 IsAccepted Done = Unit {0}
 IsAccepted Usage = ⊥

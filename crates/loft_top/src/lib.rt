@@ -2,7 +2,9 @@
 #![tactic(auto)]
 
 mod generated;
+mod replaying;
 mod status;
+mod telling;
 mod top_call;
 
 pub use status::Status;

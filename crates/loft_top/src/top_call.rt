@@ -1,20 +1,21 @@
 //! The call that the program makes.
 
-ghost use Rattle.std.specs.Prelude.{◌≡◌, ◌≢◌, ◌<◌, ◌≤◌, ◌⊎◌, ◌++◌, ◌∷◌, [], ℕ, List, length, IsTrue, IsSome, Some, None, codes};
+ghost use Rattle.std.specs.Prelude.{◌≡◌, ◌≢◌, ◌≤◌, ◌⊎◌, ◌∷◌, [], ℕ, List, IsTrue, IsSome, Some, None, codes};
 ghost use Rattle.std.specs.List.{Contains};
-ghost use Rattle.loft_base.specs.Outside.{Rose, appended, GrowsByPrefix};
+ghost use Rattle.loft_base.specs.Outside.{Rose};
 ghost use Rattle.loft_words.specs.Command.{Command as PlainCommand, OfFile, command, file_of, files_of};
 ghost use Rattle.loft_words.specs.Ranges.{KeepsRanges, IsInRanges};
 ghost use Rattle.loft_words.specs.Words.{words_of};
 ghost use Rattle.loft_words.specs.CommandView.{command_of, file_command_of};
 ghost use Rattle.loft_commands.specs.Written.{Appends, IsLine, IsPrefix};
-ghost use Rattle.loft_refusal.specs.Refusals.{line_of};
-ghost use Rattle.loft_top.specs.Status.{IsRefused, IsAccepted};
+ghost use Rattle.loft_top.specs.Status.{IsRefused, IsLogRefused, IsAccepted};
 ghost use Rattle.loft_top.specs.Reads.{contents_of};
-ghost use Rattle.loft_top.specs.Answer.{IsAnswer, Refuses, IsRefusal, AreTaken, IsText, Answers};
+ghost use Rattle.loft_top.specs.Answer.{IsAnswer, Refuses, RefusesLog, IsRefusal, IsLogRefusal, AreTaken, ReadsReport, IsText, Answers};
 
 use crate::generated::{generate, summarize};
+use crate::replaying::check_report;
 use crate::status::Status;
+use crate::telling::{refuse, tell};
 use loft_base::{Files, Gate, Sink};
 use loft_code::code_is_decided;
 use loft_commands::attempt;
@@ -22,47 +23,12 @@ use loft_expansion::texts_come_to_one_answer;
 use loft_names::names_are_decided;
 use loft_parse::texts_are_decided;
 use loft_place::links_are_decided;
-use loft_refusal::{Refusal, Stopped};
+use loft_refusal::Stopped;
 use loft_roundtrip::texts_have_one_answer;
 use loft_words::{Command, FileCommand, read_words};
 use std::alloc::Global;
 use std::sync::Wait;
 use std::thread::Threads;
-
-/// Writes a line, whose status is the answer unless the sink fails.
-fn tell<S: Sink>(sink: &mut S, line: &[u8], status: Status) -> Status
-    requires { 0 < length line.now }
-    ensures told { result ≡ status ⊎ result ≡ Status.SinkFault }
-    ensures written { result ≡ status → status ≢ Status.SinkFault
-        → S.written sink.new ≡ appended (S.written sink.old) line.now }
-    ensures cut { status ≢ Status.SinkFault → result ≡ Status.SinkFault
-        → GrowsByPrefix (S.written sink.old) (S.written sink.new) line.now }
-    ensures cause { status ≢ Status.SinkFault → result ≡ Status.SinkFault
-        → Rose (S.faults sink.old) (S.faults sink.new) }
-    ensures never_falls { S.faults sink.old ≤ S.faults sink.new }
-{
-    match sink.put(line) {
-        Ok(()) => status,
-        Err(_) => Status::SinkFault,
-    }
-}
-
-/// Writes the line of a refusal.
-fn refuse<S: Sink>(alloc: Global, sink: &mut S, refusal: &Refusal) -> Status
-    ensures told { result ≡ Status.Source ⊎ (result ≡ Status.SinkFault ⊎ result ≡ Status.NoMemory) }
-    ensures written { result ≡ Status.Source
-        → S.written sink.new ≡ appended (S.written sink.old) (line_of refusal.now ++ 10 ∷ []) }
-    ensures cut { result ≡ Status.SinkFault
-        → GrowsByPrefix (S.written sink.old) (S.written sink.new) (line_of refusal.now ++ 10 ∷ []) }
-    ensures no_memory { result ≡ Status.NoMemory → S.written sink.new ≡ S.written sink.old }
-    ensures cause { result ≡ Status.SinkFault → Rose (S.faults sink.old) (S.faults sink.new) }
-    ensures never_falls { S.faults sink.old ≤ S.faults sink.new }
-{
-    match refusal.line(alloc) {
-        Ok(line) => tell(sink, line.as_slice(), Status::Source),
-        Err(_) => Status::NoMemory,
-    }
-}
 
 /// The answer of a command that reads one file.
 fn file_answer<R: Threads + Wait + Sync, F: Files, S: Sink, G: Gate>(
@@ -124,6 +90,11 @@ fn answer<R: Threads + Wait + Sync, F: Files, S: Sink, G: Gate>(
 {
     match command {
         Command::OfFile(command) => file_answer(rt, alloc, command, files, sink, gate),
+        Command::Replay {
+            source,
+            report,
+            only,
+        } => check_report(alloc, source, report, only, files, sink),
         Command::Gen(number) => generate(alloc, number, sink),
         Command::GenRun(number) => summarize(rt, alloc, number, sink, gate),
     }
@@ -143,7 +114,8 @@ pub fn loft_main<R: Threads + Wait + Sync, F: Files, S: Sink, G: Gate>(
         → Contains (files_of c) file → IsTrue (F.may_ask files.old file) }
 
     // The promise of each command: the report of a run of a source or a listing, the canonical text, `ok`, the listing, the
-    // step bounds, the canonical text of what a text with locks stands for, the source of a number, or the summary of its run.
+    // step bounds, the canonical text of what a text with locks stands for, `ok` or a block of a report that is replayed, the
+    // source of a number, or the summary of its run.
     ensures done { (c : PlainCommand) (contents : List (List ℕ)) → command (words_of words.now) ≡ Some c
         → contents_of (F.contents files.old) (files_of c) ≡ Some contents → result ≡ Status.Done
         → Appends (S.written sink.old) (S.written sink.new) (IsAnswer c contents) }
@@ -156,7 +128,8 @@ pub fn loft_main<R: Threads + Wait + Sync, F: Files, S: Sink, G: Gate>(
     ensures no_command { command (words_of words.now) ≡ None
         → result ≡ Status.Usage ⊎ result ≡ Status.SinkFault }
 
-    // Source comes exactly where the contents are refused, unless a file or the sink fails or the program is out of memory.
+    // Source comes exactly where a source, a listing or a text with locks is refused, unless a file or the sink fails or the
+    // program is out of memory.
     ensures source_runs { result ≡ Status.Source → IsSome (command (words_of words.now)) }
     ensures source { (c : PlainCommand) (contents : List (List ℕ)) → command (words_of words.now) ≡ Some c
         → contents_of (F.contents files.old) (files_of c) ≡ Some contents → result ≡ Status.Source
@@ -165,11 +138,23 @@ pub fn loft_main<R: Threads + Wait + Sync, F: Files, S: Sink, G: Gate>(
         → command (words_of words.now) ≡ Some c
         → contents_of (F.contents files.old) (files_of c) ≡ Some contents → Refuses c contents line
         → IsRefused result }
+
+    // Log comes exactly where a report is refused, with the same exceptions, and so only of a command that reads one.
+    ensures log_runs { result ≡ Status.Log → IsSome (command (words_of words.now)) }
+    ensures log_reads { (c : PlainCommand) → command (words_of words.now) ≡ Some c → result ≡ Status.Log → ReadsReport c }
+    ensures log { (c : PlainCommand) (contents : List (List ℕ)) → command (words_of words.now) ≡ Some c
+        → contents_of (F.contents files.old) (files_of c) ≡ Some contents → result ≡ Status.Log
+        → Appends (S.written sink.old) (S.written sink.new) (IsLogRefusal c contents) }
+    ensures log_refused { (c : PlainCommand) (contents : List (List ℕ)) (line : List ℕ)
+        → command (words_of words.now) ≡ Some c
+        → contents_of (F.contents files.old) (files_of c) ≡ Some contents → RefusesLog c contents line
+        → IsLogRefused result }
+
+    // What a command takes is answered, with the same exceptions.
     ensures accepted { (c : PlainCommand) (contents : List (List ℕ))
         → command (words_of words.now) ≡ Some c
         → contents_of (F.contents files.old) (files_of c) ≡ Some contents → AreTaken c contents
         → IsAccepted result }
-    ensures never_log { result ≢ Status.Log }
 
     // Where the sink fails or the program is out of memory, a prefix of what is to be written stands there.
     ensures prefix { (c : PlainCommand) (contents : List (List ℕ)) → command (words_of words.now) ≡ Some c

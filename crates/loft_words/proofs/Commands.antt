@@ -13,7 +13,7 @@ use Rattle.loft_gen.specs.declared.source.TheConstants.{GENERATED_MAX}
 use Rattle.loft_words.specs.declared.defaults.TheConstants.{DEFAULT_INSTANTS, DEFAULT_BUDGET, DEFAULT_BLOCK, DEFAULT_WORKERS}
 use Rattle.loft_words.specs.Arguments.{Argument, Plain, Given, Flag, is_among, plain_words, values, flags_of, has_only}
 use Rattle.loft_words.specs.Words.{is_file_name}
-use Rattle.loft_words.specs.Command.{FileCommand, Run, Exec, Show, Check, Compile, Bound, Expand, Command, OfFile, Replay, only_file, of_two_files, only_number, number_of, value_of, flag_of, options_from, run_names, only_name, run_flag, run_options, taking, with_options, of_file, gen_with, gen, replay, file_command_named, command_named}
+use Rattle.loft_words.specs.Command.{FileCommand, Run, Exec, Show, Check, Compile, Bound, Expand, OfFile, Replay, only_file, of_two_files, only_number, number_of, value_of, flag_of, options_from, run_names, only_name, run_flag, run_options, taking, with_options, of_file, gen_with, gen, replay, file_command_named, command_named}
 use Rattle.loft_words.specs.Parts.{Parts, no_parts, with_arguments, has_no_run_options, has_no_options}
 use Rattle.loft_words.specs.FromParts.{option_list, run_options_from, run_from, file_from, file_command_from, gen_from, replay_from, command_from}
 use Rattle.loft_words.proofs.Telling.{all_names, Tells, IsRefused, Words, Instants, Budget, Block, Workers, Run as Flags, Only, Other, TellsAll, told}
@@ -255,7 +255,7 @@ gen_same true (Some n) (Some flag) = refl
 gen_told : (given : List Argument) (p : Parts) → Tells p given → taking [] run_flag given (gen given) ≡ gen_from p
 gen_told given p t =
     let only : has_only [] run_flag given ≡ (has_no_run_options p && is_none p.only) =
-        t.these [] run_flag ∙ ap (λ (b : Bool). b && is_none p.only) (and-true (has_no_run_options p)) in
+    t.these [] run_flag ∙ ap (λ (b : Bool). b && is_none p.only) (and-true (has_no_run_options p)) in
     rw (only, t.plain, t.run) (gen_same (has_no_run_options p && is_none p.only) (only_number GENERATED_MAX p.plain) p.run)
 
 replay_same : (b : Bool) (names : List (List ℕ)) (only : Option (List ℕ))

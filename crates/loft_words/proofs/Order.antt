@@ -9,7 +9,7 @@ use Rattle.std.proofs.lemmas.List.Folds.{list_all-append}
 use Rattle.loft_base.specs.declared.options.TheConstants.{MAX_INSTANTS, MAX_BUDGET, MAX_BLOCK, MAX_WORKERS}
 use Rattle.loft_words.specs.declared.defaults.TheConstants.{DEFAULT_INSTANTS, DEFAULT_BUDGET, DEFAULT_BLOCK, DEFAULT_WORKERS}
 use Rattle.loft_gen.specs.declared.source.TheConstants.{GENERATED_MAX}
-use Rattle.loft_words.specs.Arguments.{Argument, plain_word, plain_words, value_for, values, flag_for, is_among, has_only}
+use Rattle.loft_words.specs.Arguments.{Argument, plain_word, value_for, flag_for, is_among, has_only}
 use Rattle.loft_words.specs.Command.{FileCommand, Run, Exec, Show, Check, Compile, Bound, Expand, Command, OfFile, Replay, only_file, of_two_files, only_number, number_of, value_of, flag_of, options_from, run_names, only_name, run_flag, taking, gen_with, gen, replay, file_command_named, command_named}
 use Rattle.loft_words.specs.Changing.{MayChange}
 use Rattle.loft_words.proofs.Commands.{not_one, not_one_number, no_number, no_value, no_flag}

@@ -1,5 +1,5 @@
 -- Three words that are no options are one too many.
-use Rattle.std.proofs.Common.{◌≡◌, ℕ, ◌≤◌, arith, length, List, [], ◌∷◌, refl, ◌∙◌, ap, Option, Some, None}
+use Rattle.std.proofs.Common.{◌≡◌, ℕ, ◌≤◌, arith, length, List, [], ◌∷◌, refl, ◌∙◌, ap, Option, None}
 use Rattle.std.specs.Prelude.{map, option_and_then}
 use Rattle.std.specs.Option.{option_map}
 use Rattle.loft_words.specs.Arguments.{Plain}

@@ -88,13 +88,7 @@ fn only_file<'a>(words: PlainWords<'a>) -> Option<&'a str>
     ensures { option_copied result ≡ only_file (plain_of words.entry) }
 {
     match words {
-        PlainWords::One(word) => {
-            if is_file_name(word) {
-                Some(word)
-            } else {
-                None
-            }
-        }
+        PlainWords::One(word) => { if is_file_name(word) { Some(word) } else { None } }
         _ => None,
     }
 }

@@ -10,7 +10,7 @@ pub returns-clause-answers : goal.returns-clause-answers
 returns-clause-answers g c = λ before after.
     let k = c.args.number in
     subst (λ (end : Status). Answers (Gen k) (Some []) end (g.S.Sink.written c.args.sink.now) (g.S.Sink.written c.write_source.new.sink) before after) (sym c.status_of.ensures)
-    (text_answers (Gen k) (λ (text : List ℕ). text ≡ generated k) (λ contents text is. is) (λ contents line r. r) (Some []) c.write_source.result
+    (text_answers (Gen k) (λ (text : List ℕ). text ≡ generated k) (λ contents text is. is) (λ contents line r. r) (λ contents line r. r) (Some []) c.write_source.result
     (g.S.Sink.written c.args.sink.now) (g.S.Sink.written c.write_source.new.sink) (g.S.Sink.faults c.args.sink.now) (g.S.Sink.faults c.write_source.new.sink) (g.S.Sink.room c.args.sink.now) (g.S.Sink.room c.write_source.new.sink) before after c.write_source.ensures)
 
 pub returns-clause-no_file : goal.returns-clause-no_file

@@ -10,6 +10,11 @@ returns-in-OfFile-clause-answers g c =
     subst (λ (k : Command). Answers k (contents_of (g.F.Files.contents c.args.files.now) (files_of k)) c.file_answer.result (g.S.Sink.written c.args.sink.now) (g.S.Sink.written c.file_answer.new.sink)
     (g.F.Files.faults c.args.files.now) (g.F.Files.faults c.file_answer.new.files)) (sym (ap command_of c.in-OfFile.is)) c.file_answer.ensures.answers
 
+pub returns-in-Replay-clause-answers : goal.returns-in-Replay-clause-answers
+returns-in-Replay-clause-answers g c =
+    subst (λ (k : Command). Answers k (contents_of (g.F.Files.contents c.args.files.now) (files_of k)) c.check_report.result (g.S.Sink.written c.args.sink.now) (g.S.Sink.written c.check_report.new.sink)
+    (g.F.Files.faults c.args.files.now) (g.F.Files.faults c.check_report.new.files)) (sym (ap command_of c.in-Replay.is)) c.check_report.ensures.answers
+
 pub returns-in-Gen-clause-answers : goal.returns-in-Gen-clause-answers
 returns-in-Gen-clause-answers g c =
     let faults = g.F.Files.faults c.args.files.now in

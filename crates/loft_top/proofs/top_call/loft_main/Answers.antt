@@ -3,9 +3,10 @@ use Rattle.std.specs.Prelude.{codes}
 use Rattle.loft_words.specs.Command.{files_of}
 use Rattle.loft_words.specs.CommandView.{command_of}
 use Rattle.loft_commands.specs.Written.{Appends, IsLine, IsPrefix}
-use Rattle.loft_top.specs.Status.{IsRefused}
+use Rattle.loft_top.specs.declared.status.Status.TheVariants as status
+use Rattle.loft_top.specs.Status.{IsRefused, IsLogRefused}
 use Rattle.loft_top.specs.Reads.{contents_of}
-use Rattle.loft_top.specs.Answer.{IsAnswer, Refuses, IsRefusal, IsText}
+use Rattle.loft_top.specs.Answer.{IsAnswer, Refuses, RefusesLog, IsRefusal, IsLogRefusal, ReadsReport, IsText}
 use Rattle.loft_commands.proofs.Written.{appends, begun, of_found}
 use Rattle.loft_top.proofs.top_call.loft_main.Goals as goal
 
@@ -26,6 +27,21 @@ returns-in-Some-clause-source g c = λ k contents is known source.
     of_found (λ k. contents_of (g.F.Files.contents c.args.files.now) (files_of k) ≡ Some contents
     → Appends (g.S.Sink.written c.args.sink.now) (g.S.Sink.written c.answer.new.sink) (IsRefusal k contents))
     c.in-Some.ensures.meant is (λ t. c.answer.ensures.answers.source contents t source) known
+
+pub returns-in-Some-clause-log : goal.returns-in-Some-clause-log
+returns-in-Some-clause-log g c = λ k contents is known log.
+    of_found (λ k. contents_of (g.F.Files.contents c.args.files.now) (files_of k) ≡ Some contents
+    → Appends (g.S.Sink.written c.args.sink.now) (g.S.Sink.written c.answer.new.sink) (IsLogRefusal k contents))
+    c.in-Some.ensures.meant is (λ t. c.answer.ensures.answers.log contents t log) known
+
+pub returns-in-Some-clause-log_refused : goal.returns-in-Some-clause-log_refused
+returns-in-Some-clause-log_refused g c = λ k contents line is known refuses.
+    of_found (λ k. contents_of (g.F.Files.contents c.args.files.now) (files_of k) ≡ Some contents → RefusesLog k contents line → IsLogRefused c.answer.result)
+    c.in-Some.ensures.meant is (λ t r. c.answer.ensures.answers.log_refused contents line t r) known refuses
+
+pub returns-in-Some-clause-log_reads : goal.returns-in-Some-clause-log_reads
+returns-in-Some-clause-log_reads g c = λ k is log.
+    of_found (λ k. c.answer.result ≡ status.Log → ReadsReport k) c.in-Some.ensures.meant is (λ e. c.answer.ensures.answers.log_reads e) log
 
 pub returns-in-Some-clause-refused : goal.returns-in-Some-clause-refused
 returns-in-Some-clause-refused g c = λ k contents line is known refuses.

@@ -1,4 +1,0 @@
-pub mod Program
-pub mod Answer
-pub mod Words
-pub mod Failures
