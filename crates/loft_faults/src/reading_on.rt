@@ -35,7 +35,11 @@ impl StrictFiles {
         let Ok(start) = usize::try_from(from) else {
             return Some(0);
         };
-        let file = if is_a { self.contents.a } else { self.contents.b };
+        let file = if is_a {
+            self.contents.a
+        } else {
+            self.contents.b
+        };
         let rest = file.get(start..).unwrap_or_default();
         let count = rest.len().min(into.len());
         into[..count].copy_from_slice(&rest[..count]);
