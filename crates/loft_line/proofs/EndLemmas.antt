@@ -277,7 +277,7 @@ less_left n p from (Some q) ran h is mark found = let le : from ≤ q = found.0 
 
 -- ---- a position, from the thread in memory
 
-logical_is : (rs : List Runner) (ws : List (Option Wait)) (p : ℕ) (x r : Runner) → slice_get rs p ≡ Some x → slice_get (with_waits rs ws) p ≡ Some r → with_wait (get_or ws p None) x ≡ r
+pub logical_is : (rs : List Runner) (ws : List (Option Wait)) (p : ℕ) (x r : Runner) → slice_get rs p ≡ Some x → slice_get (with_waits rs ws) p ≡ Some r → with_wait (get_or ws p None) x ≡ r
 logical_is rs ws p x r there h = let e : Some (with_wait (get_or ws p None) x) ≡ Some r = sym (with_there rs ws p x there) ∙ h in cc e
 
 pub begun_there : (rs : List Runner) (ws : List (Option Wait)) (p : ℕ) (x n : Runner) (budget : ℕ) → slice_get rs p ≡ Some x → linked_of n ≡ runner_of budget (standing_of x) ∷ []
@@ -394,10 +394,3 @@ positive n h = one (nat_lt 0 n) refl
     one : (b : Bool) → nat_lt 0 n ≡ b → b ≡ true
     one true is = refl
     one false is = let le : n ≤ 0 = ltb-false 0 n is in absurd (omega (arith, h, le))
-
-with_flag_same : (w : Option Wait) (r : Runner) → (with_wait w r).suspended ≡ r.suspended
-with_flag_same None r = refl
-with_flag_same (Some w) r = refl
-
-pub logical_flag : (rs : List Runner) (ws : List (Option Wait)) (p : ℕ) (x r : Runner) → slice_get rs p ≡ Some x → slice_get (with_waits rs ws) p ≡ Some r → r.suspended ≡ x.suspended
-logical_flag rs ws p x r there h = sym (ap (λ (q : Runner). q.suspended) (logical_is rs ws p x r there h)) ∙ with_flag_same (get_or ws p None) x

@@ -1,5 +1,5 @@
 -- How the threads of a line stand.
-use Rattle.std.proofs.Common.{◌≡◌, ℕ, zero, suc, ◌+◌, ◌<◌, Bool, true, false, List, [], ◌∷◌, ◌++◌, refl, sym, ◌∙◌, ap, Option, Some, length, take, add-one, append-nil, append_assoc}
+use Rattle.std.proofs.Common.{◌≡◌, ℕ, zero, suc, ◌+◌, ◌<◌, Bool, true, false, List, [], ◌∷◌, ◌++◌, refl, sym, ◌∙◌, ap, Option, Some, None, length, get_or, take, add-one, append-nil, append_assoc}
 use Rattle.std.specs.Prelude.{if◌then◌else◌, slice_get}
 use Rattle.std.proofs.lemmas.List.Concat.{flat_map-cons}
 use Rattle.loft_orders.specs.declared.note.Standing.{Standing}
@@ -7,9 +7,16 @@ use Rattle.loft_orders.specs.declared.thread.Thread.{Thread}
 use Rattle.loft_orders.specs.declared.thread.Wait.{Wait}
 use Rattle.loft_passes.specs.declared.runner.Runner.{Runner}
 use Rattle.loft_passes.specs.View.{standing_of, is_held}
-use Rattle.loft_line.specs.Line.{with_waits, standing_if, standings_in}
+use Rattle.loft_line.specs.Line.{with_wait, with_waits, standing_if, standings_in}
 use Rattle.loft_line.proofs.ListLemmas.{there_is}
-use Rattle.loft_line.proofs.EndLemmas.{logical_stop, logical_flag}
+use Rattle.loft_line.proofs.EndLemmas.{logical_stop, logical_is}
+
+with_flag_same : (w : Option Wait) (r : Runner) → (with_wait w r).suspended ≡ r.suspended
+with_flag_same None r = refl
+with_flag_same (Some w) r = refl
+
+logical_flag : (rs : List Runner) (ws : List (Option Wait)) (p : ℕ) (x r : Runner) → slice_get rs p ≡ Some x → slice_get (with_waits rs ws) p ≡ Some r → r.suspended ≡ x.suspended
+logical_flag rs ws p x r there h = sym (ap (λ (q : Runner). q.suspended) (logical_is rs ws p x r there h)) ∙ with_flag_same (get_or ws p None) x
 
 -- one more of the first ones
 one_more : (rs : List Runner) (p : ℕ) (r : Runner) → slice_get rs p ≡ Some r → standings_in (take (suc p) rs) ≡ standings_in (take p rs) ++ standing_if r
