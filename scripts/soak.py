@@ -1,12 +1,11 @@
 #!/usr/bin/env python3
-"""Runs large sources again and again, and follows each report by its own choices: soak.py PROGRAM FOLLOWER [SECONDS] [SEED]
+"""Runs large sources again and again, and replays each report by its source: soak.py PROGRAM [SECONDS] [SEED]
 
-PROGRAM is crates/loft_app/out/loft_app, and FOLLOWER crates/loft_follow/out/loft_follow, which `.ci/run` builds. Each source has
-16 schedulers, 16 clients and 1,008 threads that go from scheduler to scheduler and through the workers, of which there are
-16; which way they go, and what the clients order, is chosen at random by the seed. A run passes where the status is 0, the
-follower makes the very same report of the choices in its head, and none of 64 further choices is allowed after them: 16
-takes and gives, 16 picks and 16 posts. For 600 seconds, or so many. The last line says what was done, and the status is 1
-where a run failed. It stands outside the gate."""
+PROGRAM is crates/loft_app/out/loft_app, which `.ci/run` builds. Each source has 16 schedulers, 16 clients and 1,008 threads
+that go from scheduler to scheduler and through the workers, of which there are 16; which way they go, and what the clients
+order, is chosen at random by the seed. A run passes where the status is 0 and `replay` says `ok` of its report: it is the
+report of the history that its head names, and that history has ended. For 600 seconds, or so many. The last line says what
+was done, and the status is 1 where a run failed. It stands outside the gate."""
 
 import random
 import subprocess
@@ -69,28 +68,16 @@ def choices_of(report):
     return lines[at + 1 : at + 1 + count]
 
 
-def follow(follower, choices, source):
-    """How the follower ends for these choices."""
-    with tempfile.NamedTemporaryFile(suffix=".choices") as file:
-        file.write(b"".join(choices))
-        file.flush()
-        return ended([follower, file.name, "run", source, *OPTIONS])
-
-
-def fault(follower, source, report):
+def fault(program, source, report):
     """What is wrong with a report, or None."""
-    choices = choices_of(report)
-    if follow(follower, choices, source).stdout != report:
-        return "its choices make another report"
-    refusal = b"log: entry %d not allowed\n" % (len(choices) + 1)
-    for word, name in [("take", "S"), ("give", "S"), ("pick", ""), ("post", "")]:
-        for n in range(MANY):
-            if follow(follower, choices + [f"{word} {name}{n}\n".encode()], source).stdout != refusal:
-                return f"{word} {name}{n} may come after it"
-    return None
+    with tempfile.NamedTemporaryFile(suffix=".report") as file:
+        file.write(report)
+        file.flush()
+        said = ended([program, "replay", source, file.name]).stdout
+    return None if said == b"ok\n" else f"replay says {said[:60]!r}"
 
 
-def main(program, follower, seconds=600, seed=1):
+def main(program, seconds=600, seed=1):
     runs = entries = failed = 0
     histories, longest, taken = set(), 0, 0.0
     seed, end = int(seed), time.monotonic() + float(seconds)
@@ -103,11 +90,7 @@ def main(program, follower, seconds=600, seed=1):
                 ran = ended([program, "run", file.name, *OPTIONS])
                 taken += time.monotonic() - begun
                 runs += 1
-                why = f"the status is {ran.returncode}" if ran.returncode else None
-                if not why and again == 0:
-                    why = fault(follower, file.name, ran.stdout)
-                elif not why and follow(follower, choices_of(ran.stdout), file.name).stdout != ran.stdout:
-                    why = "its choices make another report"
+                why = f"the status is {ran.returncode}" if ran.returncode else fault(program, file.name, ran.stdout)
                 if why:
                     failed += 1
                     print(f"seed {seed}, run {again}: {why}", flush=True)

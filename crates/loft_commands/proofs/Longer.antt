@@ -1,6 +1,5 @@
 -- The sink is blamed only for a text that has more bytes than it was known to take.
-use Rattle.std.proofs.Common.{◌≡◌, ℕ, ◌<◌, ◌≤◌, List, length, refl, Result, Err, arith}
-use Rattle.std.specs.Prelude.{IsErrOf}
+use Rattle.std.proofs.Common.{◌≡◌, ℕ, ◌<◌, List, length, refl, Result, Err}
 use Rattle.loft_base.specs.declared.writing.WriteError.{WriteError}
 use Rattle.loft_base.specs.declared.writing.WriteError.TheVariants as write
 use Rattle.loft_refusal.specs.declared.refusal.Stopped.{Stopped}

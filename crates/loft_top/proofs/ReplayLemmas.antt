@@ -1,10 +1,10 @@
 -- From what `replay` did to what the program promises of its answer.
-use Rattle.std.proofs.Common.{◌≡◌, ℕ, ◌⊎◌, inl, inr, List, [], ◌∷◌, ◌++◌, refl, sym, ◌∙◌, subst, Option, Some, None, Ok, Err, codes}
+use Rattle.std.proofs.Common.{◌≡◌, ℕ, ◌⊎◌, inl, inr, List, [], ◌∷◌, ◌++◌, refl, sym, ◌∙◌, subst, Option, Some, None, Ok, Err}
 use Rattle.std.specs.Prelude.{option_and_then}
 use Rattle.std.specs.Option.{option_map}
-use Rattle.loft_base.specs.Outside.{appended, GrowsByPrefix, Rose}
+use Rattle.loft_base.specs.Outside.{appended, GrowsByPrefix}
 use Rattle.loft_words.specs.Command.{Command, Replay}
-use Rattle.loft_commands.specs.Written.{Appends, IsLine, IsPrefix}
+use Rattle.loft_commands.specs.Written.{Appends, IsPrefix}
 use Rattle.loft_replay_command.specs.Refusals.{log_line}
 use Rattle.loft_replay_command.specs.Replay.{IsSourceStop, ReplayComesTo}
 use Rattle.loft_replay_command.specs.Command.{EndsBy, IsOfSource, IsSilent, Replays}
