@@ -41,25 +41,25 @@ source_is_silent stop.FileFault of = absurd of
 source_is_silent stop.SinkFault of = absurd of
 source_is_silent stop.NoMemory of = absurd of
 
-no_report_refused : {old new : Option (List ℕ)} (e : ReplayStop) (l : LogRefusal) → IsOfSource e → EndsBy old new (Err (stop.Log l)) (Err e) → ⊥
-no_report_refused (stop.Source r) l of (same, still) = absurd cc
-no_report_refused stop.UnknownScheduler l of (same, still) = absurd cc
-no_report_refused (stop.Log m) l of ends = of
-no_report_refused stop.FileFault l of ends = of
-no_report_refused stop.SinkFault l of ends = of
-no_report_refused stop.NoMemory l of ends = of
+no_report_refused : (old new : Option (List ℕ)) (e : ReplayStop) (l : LogRefusal) → IsOfSource e → EndsBy old new (Err (stop.Log l)) (Err e) → ⊥
+no_report_refused old new (stop.Source r) l of (same, still) = absurd cc
+no_report_refused old new stop.UnknownScheduler l of (same, still) = absurd cc
+no_report_refused old new (stop.Log m) l of ends = of
+no_report_refused old new stop.FileFault l of ends = of
+no_report_refused old new stop.SinkFault l of ends = of
+no_report_refused old new stop.NoMemory l of ends = of
 
-no_text : {old new : Option (List ℕ)} (e : ReplayStop) (text : List ℕ) → IsOfSource e → EndsBy old new (Ok text) (Err e) → ⊥
-no_text (stop.Source r) text of ends = ends
-no_text stop.UnknownScheduler text of ends = ends
-no_text (stop.Log m) text of ends = of
-no_text stop.FileFault text of ends = of
-no_text stop.SinkFault text of ends = of
-no_text stop.NoMemory text of ends = of
+no_text : (old new : Option (List ℕ)) (e : ReplayStop) (text : List ℕ) → IsOfSource e → EndsBy old new (Ok text) (Err e) → ⊥
+no_text old new (stop.Source r) text of ends = ends
+no_text old new stop.UnknownScheduler text of ends = ends
+no_text old new (stop.Log m) text of ends = of
+no_text old new stop.FileFault text of ends = of
+no_text old new stop.SinkFault text of ends = of
+no_text old new stop.NoMemory text of ends = of
 
 -- a report that is refused has a source that isn't
-no_source_refused : {old new : Option (List ℕ)} (only : Option (List ℕ)) (s : List ℕ) (e : ReplayStop) (l : LogRefusal) → IsSourceStop only s e → EndsBy old new (Err e) (Err (stop.Log l)) → ⊥
-no_source_refused only s e l refused (same, still) = subst (λ (x : ReplayStop). IsSourceStop only s x) (sym same) refused
+no_source_refused : (old new only : Option (List ℕ)) (s : List ℕ) (e : ReplayStop) (l : LogRefusal) → IsSourceStop only s e → EndsBy old new (Err e) (Err (stop.Log l)) → ⊥
+no_source_refused old new only s e l refused (same, still) = subst (λ (x : ReplayStop). IsSourceStop only s x) (sym same) refused
 
 module _ (a b : List ℕ) (only source report : Option (List ℕ)) (before after : ℕ) where
   -- the command
@@ -109,9 +109,9 @@ module _ (a b : List ℕ) (only source report : Option (List ℕ)) (before after
         log = λ contents k f. absurd cc;
         refused = λ contents line k x. subst IsRefused (sym is) tt;
         log_refused = λ contents line k x. of_two (λ all. RefusesLog c all line → IsLogRefused end) source report
-            (λ s r t u. λ (l, comes, named). absurd (no_report_refused e l of (w.ends s r (Err (stop.Log l)) t u comes))) contents k x;
+            (λ s r t u. λ (l, comes, named). absurd (no_report_refused old mid e l of (w.ends s r (Err (stop.Log l)) t u comes))) contents k x;
         accepted = λ contents k taken. of_two (λ all. AreTaken c all → IsAccepted end) source report
-            (λ s r t u. λ (text, comes). absurd (no_text e text of (w.ends s r (Ok text) t u comes))) contents k taken;
+            (λ s r t u. λ (text, comes). absurd (no_text old mid e text of (w.ends s r (Ok text) t u comes))) contents k taken;
         prefix = λ contents k f. absurd (elim f [ inl g ↦ cc | inr g ↦ cc ]);
         file_line = λ f. absurd cc;
         never_usage = λ f. cc;
@@ -145,7 +145,7 @@ module _ (a b : List ℕ) (only source report : Option (List ℕ)) (before after
             (subst (λ (o : Option (List ℕ)). new ≡ appended o (log_line l ++ 10 ∷ [])) still (grew is))
             (log_line l, (l, w.report_refused s r l t u refl, refl), refl)) contents k;
         refused = λ contents line k x. of_two (λ all. Refuses c all line → IsRefused end) source report
-            (λ s r t u. λ (e, refused, named). absurd (no_source_refused only s e l refused (w.source_ends s e t refused))) contents k x;
+            (λ s r t u. λ (e, refused, named). absurd (no_source_refused old mid only s e l refused (w.source_ends s e t refused))) contents k x;
         log_refused = λ contents line k x. subst IsLogRefused (sym is) tt;
         accepted = λ contents k taken. of_two (λ all. AreTaken c all → IsAccepted end) source report
             (λ s r t u. λ (text, comes). absurd (w.ends s r (Ok text) t u comes)) contents k taken;

@@ -1,4 +1,4 @@
-use Rattle.std.proofs.Common.{◌≡◌, ◌∙◌, ap, subst, Ok, Err, Result, inl, inr, refl}
+use Rattle.std.proofs.Common.{◌≡◌, ◌∙◌, ap, subst, Err, Result, inl, inr, refl}
 use Rattle.std.specs.Option.{option_copied}
 use Rattle.loft_replay_command.specs.declared.refusal.ReplayStop.{ReplayStop}
 use Rattle.loft_replay_command.specs.declared.refusal.ReplayStop.TheVariants as stop
@@ -52,10 +52,10 @@ returns-in-Err-FileFault-clause-answers g c =
     let source = g.F.Files.contents c.args.files.now c.args.source.now in
     let report = g.F.Files.contents c.args.files.now c.args.report.now in
     let is : c.replay.result ≡ Err stop.FileFault = c.in-Err-FileFault.is ∙ ap (λ (s : ReplayStop). Err s) c.in-Err-FileFault.field-0-is in
-    file_answers (Replay c.args.source.now c.args.report.now (option_copied c.args.only)) (two source report) c.tell.result
-    (g.S.Sink.written c.args.sink.now) (g.S.Sink.written c.replay.new.sink) (g.S.Sink.written c.tell.new.sink)
+    file_answers (Replay c.args.source.now c.args.report.now (option_copied c.args.only)) (two source report) c.tell-in-Err-FileFault.result
+    (g.S.Sink.written c.args.sink.now) (g.S.Sink.written c.replay.new.sink) (g.S.Sink.written c.tell-in-Err-FileFault.new.sink)
     (g.F.Files.faults c.args.files.now) (g.F.Files.faults c.replay.new.files) (c.replay.ensures.replays.silent stop.FileFault is tt) (c.replay.ensures.file_fault is)
-    c.tell.ensures.told (λ e. c.tell.ensures.written e (λ n. cc)) (λ e. c.tell.ensures.cut (λ n. cc) e)
+    c.tell-in-Err-FileFault.ensures.told (λ e. c.tell-in-Err-FileFault.ensures.written e (λ n. cc)) (λ e. c.tell-in-Err-FileFault.ensures.cut (λ n. cc) e)
 
 pub returns-in-Err-SinkFault-clause-answers : goal.returns-in-Err-SinkFault-clause-answers
 returns-in-Err-SinkFault-clause-answers g c =
