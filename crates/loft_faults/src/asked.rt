@@ -58,10 +58,20 @@ pub struct Contents {
     pub b: &'static [u8],
 }
 
-/// A file alone.
-const fn one(a: &'static [u8]) -> Contents {
-    Contents { a, b: b"" }
-}
+/// The source alone.
+const SOURCE: Contents = Contents {
+    a: TWO_PRINTS,
+    b: b"",
+};
+
+/// The listing alone.
+const LISTED: Contents = Contents { a: LISTING, b: b"" };
+
+/// The text with a lock alone.
+const LOCKED: Contents = Contents {
+    a: WITH_LOCK,
+    b: b"",
+};
 
 /// A source and a report.
 const REPLAYED: Contents = Contents {
@@ -71,13 +81,13 @@ const REPLAYED: Contents = Contents {
 
 /// Each command that reads files, with the contents of them.
 pub static COMMANDS: [(&str, Contents); 9] = [
-    ("run a", one(TWO_PRINTS)),
-    ("exec a", one(LISTING)),
-    ("show a", one(TWO_PRINTS)),
-    ("check a", one(TWO_PRINTS)),
-    ("compile a", one(TWO_PRINTS)),
-    ("bound a", one(TWO_PRINTS)),
-    ("expand a", one(WITH_LOCK)),
+    ("run a", SOURCE),
+    ("exec a", LISTED),
+    ("show a", SOURCE),
+    ("check a", SOURCE),
+    ("compile a", SOURCE),
+    ("bound a", SOURCE),
+    ("expand a", LOCKED),
     ("replay a b", REPLAYED),
     ("replay a b --only A", REPLAYED),
 ];
