@@ -1,0 +1,3 @@
+pub mod EngineLemmas
+pub mod CallerLemmas
+pub mod EndLemmas
