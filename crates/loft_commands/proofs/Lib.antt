@@ -1,4 +1,3 @@
 pub mod Written
 pub mod Doing
-pub mod Longer
 pub mod Reported

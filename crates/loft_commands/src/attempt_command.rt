@@ -1,12 +1,10 @@
 //! A command is done: its file is read, and what it says is made and written.
 
-ghost use Rattle.std.specs.Prelude.{◌≡◌, ◌≢◌, ◌≤◌, ℕ, List, Some, Err, IsTrue, IsErrOf};
+ghost use Rattle.std.specs.Prelude.{◌≢◌, ◌≤◌, Err, IsTrue, IsErrOf};
 ghost use Rattle.loft_base.specs.Outside.{Rose};
 ghost use Rattle.loft_words.specs.Command.{file_of};
 ghost use Rattle.loft_words.specs.Ranges.{KeepsRanges};
 ghost use Rattle.loft_words.specs.CommandView.{file_command_of};
-ghost use Rattle.loft_commands.specs.Written.{HasLonger};
-ghost use Rattle.loft_commands.specs.Promise.{IsFileAnswer};
 ghost use Rattle.loft_commands.specs.Doing.{Attempts};
 
 use crate::command::{check, exec, list_code, run, show_text, tell_bounds};
@@ -33,10 +31,6 @@ pub fn attempt<R: Threads + Wait + Sync, F: Files, S: Sink, G: Gate>(
         (S.written sink.old) (S.written sink.new) }
     ensures file_fault { IsErrOf result Stopped.FileFault → Rose (F.faults files.old) (F.faults files.new) }
     ensures sink_fault { IsErrOf result Stopped.SinkFault → Rose (S.faults sink.old) (S.faults sink.new) }
-    ensures no_room { (contents : List ℕ)
-        → F.contents files.old (file_of (file_command_of command.entry)) ≡ Some contents
-        → IsErrOf result Stopped.SinkFault
-        → HasLonger (S.room sink.old) (IsFileAnswer (file_command_of command.entry) contents) }
     ensures never_falls { S.faults sink.old ≤ S.faults sink.new }
     ensures files_never_fall { F.faults files.old ≤ F.faults files.new }
     ensures sure { IsTrue (F.never_fails files.old (file_of (file_command_of command.entry)))

@@ -5,7 +5,7 @@ ghost use Rattle.loft_base.specs.Outside.{Rose};
 ghost use Rattle.loft_code.specs.View.{automata_of};
 ghost use Rattle.loft_sense.specs.Machine.{Code as ByCode};
 ghost use Rattle.loft_base.specs.Options.{AreInRange};
-ghost use Rattle.loft_commands.specs.Written.{Appends, IsPrefix, HasLonger};
+ghost use Rattle.loft_commands.specs.Written.{Appends, IsPrefix};
 ghost use Rattle.loft_commands.specs.Promise.{IsReport};
 ghost use Rattle.loft_commands.specs.Options.{options_of};
 
@@ -85,8 +85,6 @@ pub fn run_code<R: Threads + Wait + Sync, S: Sink, G: Gate>(
     ensures failed { OnErr result (Appends (S.written sink.old) (S.written sink.new)
         (IsPrefix (IsReport (ByCode (automata_of c.now)) (options_of l workers)))) }
     ensures sink { IsErrOf result RunError.Sink → Rose (S.faults sink.old) (S.faults sink.new) }
-    ensures no_room { IsErrOf result RunError.Sink
-        → HasLonger (S.room sink.old) (IsReport (ByCode (automata_of c.now)) (options_of l workers)) }
     ensures never_falls { S.faults sink.old ≤ S.faults sink.new }
 {
     reports_of_worlds_are_of_histories();

@@ -11,9 +11,9 @@ ghost use Rattle.loft_translation.specs.Compiled.{compiled};
 ghost use Rattle.loft_listing.specs.Listing.{listing_text};
 ghost use Rattle.loft_words.specs.Command.{Run, Exec, Show, Check, Compile, Bound, Expand};
 ghost use Rattle.loft_base.specs.Options.{AreInRange};
-ghost use Rattle.loft_commands.specs.Written.{Appends, IsPrefix, HasLonger};
+ghost use Rattle.loft_commands.specs.Written.{Appends, IsPrefix};
 ghost use Rattle.loft_refusal.specs.Input.{ASource, AListing, AnExpansion};
-ghost use Rattle.loft_commands.specs.Promise.{IsReport, IsAnswerFor};
+ghost use Rattle.loft_commands.specs.Promise.{IsReport};
 ghost use Rattle.loft_commands.specs.Doing.{Does};
 
 use crate::code_run::{RunError, run_code};
@@ -46,8 +46,6 @@ fn run_program<R: Threads + Wait + Sync, S: Sink, G: Gate>(
     ensures failed { OnErr result (Appends (S.written sink.old) (S.written sink.new)
         (IsPrefix (IsReport (Tree (resolved_of (program_of placed.now))) options.now))) }
     ensures sink { IsErrOf result RunError.Sink → Rose (S.faults sink.old) (S.faults sink.new) }
-    ensures no_room { IsErrOf result RunError.Sink → HasLonger (S.room sink.old)
-        (IsReport (Tree (resolved_of (program_of placed.now))) options.now) }
     ensures never_falls { S.faults sink.old ≤ S.faults sink.new }
 {
     compiled_code_has_the_same_histories();
@@ -77,8 +75,6 @@ pub fn run<R: Threads + Wait + Sync, S: Sink, G: Gate>(
     ensures does { (file : List ℕ) → Does (Run file options.now) (ASource (source_of program)) result
         (S.written sink.old) (S.written sink.new) }
     ensures sink_fault { IsErrOf result Stopped.SinkFault → Rose (S.faults sink.old) (S.faults sink.new) }
-    ensures no_room { (file : List ℕ) → IsErrOf result Stopped.SinkFault
-        → HasLonger (S.room sink.old) (IsAnswerFor (Run file options.now) (ASource (source_of program))) }
     ensures never_falls { S.faults sink.old ≤ S.faults sink.new }
 {
     let placed = place_program(alloc, program)?;
@@ -99,8 +95,6 @@ pub fn exec<R: Threads + Wait + Sync, S: Sink, G: Gate>(
     ensures does { (file : List ℕ) → Does (Exec file options.now) (AListing (automata_of code.now)) result
         (S.written sink.old) (S.written sink.new) }
     ensures sink_fault { IsErrOf result Stopped.SinkFault → Rose (S.faults sink.old) (S.faults sink.new) }
-    ensures no_room { (file : List ℕ) → IsErrOf result Stopped.SinkFault
-        → HasLonger (S.room sink.old) (IsAnswerFor (Exec file options.now) (AListing (automata_of code.now))) }
     ensures never_falls { S.faults sink.old ≤ S.faults sink.new }
 {
     code.program();
@@ -113,8 +107,6 @@ pub fn check<S: Sink>(alloc: Global, program: Program, sink: &mut S) -> Result<(
     ensures does { (file : List ℕ) → Does (Check file) (ASource (source_of program)) result
         (S.written sink.old) (S.written sink.new) }
     ensures sink_fault { IsErrOf result Stopped.SinkFault → Rose (S.faults sink.old) (S.faults sink.new) }
-    ensures no_room { (file : List ℕ) → IsErrOf result Stopped.SinkFault
-        → HasLonger (S.room sink.old) (IsAnswerFor (Check file) (ASource (source_of program))) }
     ensures never_falls { S.faults sink.old ≤ S.faults sink.new }
 {
     place_program(alloc, program)?;
@@ -136,8 +128,6 @@ pub fn list_code<S: Sink>(alloc: Global, program: Program, sink: &mut S) -> Resu
     ensures does { (file : List ℕ) → Does (Compile file) (ASource (source_of program)) result
         (S.written sink.old) (S.written sink.new) }
     ensures sink_fault { IsErrOf result Stopped.SinkFault → Rose (S.faults sink.old) (S.faults sink.new) }
-    ensures no_room { (file : List ℕ) → IsErrOf result Stopped.SinkFault
-        → HasLonger (S.room sink.old) (IsAnswerFor (Compile file) (ASource (source_of program))) }
     ensures never_falls { S.faults sink.old ≤ S.faults sink.new }
 {
     let placed = place_program(alloc, program)?;
@@ -151,8 +141,6 @@ pub fn tell_bounds<S: Sink>(alloc: Global, program: Program, sink: &mut S) -> Re
     ensures does { (file : List ℕ) → Does (Bound file) (ASource (source_of program)) result
         (S.written sink.old) (S.written sink.new) }
     ensures sink_fault { IsErrOf result Stopped.SinkFault → Rose (S.faults sink.old) (S.faults sink.new) }
-    ensures no_room { (file : List ℕ) → IsErrOf result Stopped.SinkFault
-        → HasLonger (S.room sink.old) (IsAnswerFor (Bound file) (ASource (source_of program))) }
     ensures never_falls { S.faults sink.old ≤ S.faults sink.new }
 {
     let placed = place_program(alloc, program)?;
@@ -168,10 +156,6 @@ pub fn show_text<S: Sink>(alloc: Global, program: &Program, sink: &mut S) -> Res
     ensures expands { (file : List ℕ) → Does (Expand file) (AnExpansion (source_of program.now)) result
         (S.written sink.old) (S.written sink.new) }
     ensures sink_fault { IsErrOf result Stopped.SinkFault → Rose (S.faults sink.old) (S.faults sink.new) }
-    ensures no_room { (file : List ℕ) → IsErrOf result Stopped.SinkFault
-        → HasLonger (S.room sink.old) (IsAnswerFor (Show file) (ASource (source_of program.now))) }
-    ensures no_room_expanded { (file : List ℕ) → IsErrOf result Stopped.SinkFault
-        → HasLonger (S.room sink.old) (IsAnswerFor (Expand file) (AnExpansion (source_of program.now))) }
     ensures never_falls { S.faults sink.old ≤ S.faults sink.new }
 {
     let text = show(alloc, program)?;

@@ -112,22 +112,18 @@ pub fn loft_main<R: Threads + Wait + Sync, F: Files, S: Sink, G: Gate>(
     // The files of the command may be asked.
     requires { (c : PlainCommand) (file : List ℕ) → command (words_of words.now) ≡ Some c
         → Contains (files_of c) file → IsTrue (F.may_ask files.old file) }
-
-    // The promise of each command: the report of a run of a source or a listing, the canonical text, `ok`, the listing, the
-    // step bounds, the canonical text of what a text with locks stands for, `ok` or a block of a report that is replayed, the
-    // source of a number, or the summary of its run.
+    // The promise of each command: a report of a run, a canonical text, a listing, step bounds, `ok`, a block of a report that
+    // is replayed, the source of a number, or the summary of its run.
     ensures done { (c : PlainCommand) (contents : List (List ℕ)) → command (words_of words.now) ≡ Some c
         → contents_of (F.contents files.old) (files_of c) ≡ Some contents → result ≡ Status.Done
         → Appends (S.written sink.old) (S.written sink.new) (IsAnswer c contents) }
     ensures done_runs { result ≡ Status.Done → IsSome (command (words_of words.now)) }
-
     // Usage comes exactly where the words are no command, unless the sink fails.
     ensures usage { result ≡ Status.Usage → command (words_of words.now) ≡ None }
     ensures usage_line { result ≡ Status.Usage
         → Appends (S.written sink.old) (S.written sink.new) (IsLine (codes "loft: usage")) }
     ensures no_command { command (words_of words.now) ≡ None
         → result ≡ Status.Usage ⊎ result ≡ Status.SinkFault }
-
     // Source comes exactly where a source, a listing or a text with locks is refused, unless a file or the sink fails or the
     // program is out of memory.
     ensures source_runs { result ≡ Status.Source → IsSome (command (words_of words.now)) }
@@ -138,7 +134,6 @@ pub fn loft_main<R: Threads + Wait + Sync, F: Files, S: Sink, G: Gate>(
         → command (words_of words.now) ≡ Some c
         → contents_of (F.contents files.old) (files_of c) ≡ Some contents → Refuses c contents line
         → IsRefused result }
-
     // Log comes exactly where a report is refused, with the same exceptions, and so only of a command that reads one.
     ensures log_runs { result ≡ Status.Log → IsSome (command (words_of words.now)) }
     ensures log_reads { (c : PlainCommand) → command (words_of words.now) ≡ Some c → result ≡ Status.Log → ReadsReport c }
@@ -149,7 +144,6 @@ pub fn loft_main<R: Threads + Wait + Sync, F: Files, S: Sink, G: Gate>(
         → command (words_of words.now) ≡ Some c
         → contents_of (F.contents files.old) (files_of c) ≡ Some contents → RefusesLog c contents line
         → IsLogRefused result }
-
     // What a command takes is answered, with the same exceptions.
     ensures accepted { (c : PlainCommand) (contents : List (List ℕ))
         → command (words_of words.now) ≡ Some c

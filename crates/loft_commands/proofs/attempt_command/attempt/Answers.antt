@@ -1,14 +1,10 @@
-use Rattle.std.proofs.Common.{◌≡◌, ◌∙◌, ℕ, List, sym, ap, subst, [], Some, Result, Err}
+use Rattle.std.proofs.Common.{◌∙◌, sym, ap, subst, [], Result, Err}
 use Rattle.std.proofs.lemmas.Result.{err_from_is_err_and}
 use Rattle.loft_words.specs.Command.{FileCommand, Run, Exec, Show, Check, Compile, Bound, Expand, file_of}
 use Rattle.loft_words.specs.CommandView.{file_command_of}
 use Rattle.loft_refusal.specs.declared.refusal.Stopped.{Stopped}
-use Rattle.loft_refusal.specs.declared.refusal.Stopped.TheVariants as stopped
-use Rattle.loft_commands.specs.Written.{HasLonger}
-use Rattle.loft_commands.specs.Promise.{IsFileAnswer}
 use Rattle.loft_commands.specs.Doing.{Attempts}
 use Rattle.loft_commands.proofs.Doing.{does_attempts, unread_attempts, unlisted_attempts, unexpanded_attempts}
-use Rattle.loft_commands.proofs.Longer.{longer_answer}
 use Rattle.loft_commands.proofs.attempt_command.attempt.Goals as goal
 
 pub returns-in_ok-program-in-Run-clause-attempts : goal.returns-in_ok-program-in-Run-clause-attempts
@@ -150,38 +146,3 @@ returns-in_ok-program-in-Expand-clause-sure g c = λ never is. (c.show_text-in-E
 
 pub returns-in_ok-code-in-Exec-clause-sure : goal.returns-in_ok-code-in-Exec-clause-sure
 returns-in_ok-code-in-Exec-clause-sure g c = λ never is. (c.exec.ensures.does []).no_file is
-
-pub returns-in_ok-program-in-Run-clause-no_room : goal.returns-in_ok-program-in-Run-clause-no_room
-returns-in_ok-program-in-Run-clause-no_room g c =
-    subst (λ (k : FileCommand). (contents : List ℕ) → g.F.Files.contents c.args.files.now (file_of k) ≡ Some contents → c.run.result ≡ Err stopped.SinkFault → HasLonger (g.S.Sink.room c.args.sink.now) (IsFileAnswer k contents)) (sym (ap file_command_of c.in-Run.is))
-    (λ contents known fault. longer_answer (Run c.in-Run.file.now c.in-Run.options) contents _ (c.in_ok-program-in-Run.ensures.program contents known) (c.run.ensures.no_room c.in-Run.file.now fault))
-
-pub returns-in_ok-program-in-Show-clause-no_room : goal.returns-in_ok-program-in-Show-clause-no_room
-returns-in_ok-program-in-Show-clause-no_room g c =
-    subst (λ (k : FileCommand). (contents : List ℕ) → g.F.Files.contents c.args.files.now (file_of k) ≡ Some contents → c.show_text.result ≡ Err stopped.SinkFault → HasLonger (g.S.Sink.room c.args.sink.now) (IsFileAnswer k contents)) (sym (ap file_command_of c.in-Show.is))
-    (λ contents known fault. longer_answer (Show c.in-Show.file.now) contents _ (c.in_ok-program-in-Show.ensures.program contents known) (c.show_text.ensures.no_room c.in-Show.file.now fault))
-
-pub returns-in_ok-program-in-Check-clause-no_room : goal.returns-in_ok-program-in-Check-clause-no_room
-returns-in_ok-program-in-Check-clause-no_room g c =
-    subst (λ (k : FileCommand). (contents : List ℕ) → g.F.Files.contents c.args.files.now (file_of k) ≡ Some contents → c.check.result ≡ Err stopped.SinkFault → HasLonger (g.S.Sink.room c.args.sink.now) (IsFileAnswer k contents)) (sym (ap file_command_of c.in-Check.is))
-    (λ contents known fault. longer_answer (Check c.in-Check.file.now) contents _ (c.in_ok-program-in-Check.ensures.program contents known) (c.check.ensures.no_room c.in-Check.file.now fault))
-
-pub returns-in_ok-program-in-Compile-clause-no_room : goal.returns-in_ok-program-in-Compile-clause-no_room
-returns-in_ok-program-in-Compile-clause-no_room g c =
-    subst (λ (k : FileCommand). (contents : List ℕ) → g.F.Files.contents c.args.files.now (file_of k) ≡ Some contents → c.list_code.result ≡ Err stopped.SinkFault → HasLonger (g.S.Sink.room c.args.sink.now) (IsFileAnswer k contents)) (sym (ap file_command_of c.in-Compile.is))
-    (λ contents known fault. longer_answer (Compile c.in-Compile.file.now) contents _ (c.in_ok-program-in-Compile.ensures.program contents known) (c.list_code.ensures.no_room c.in-Compile.file.now fault))
-
-pub returns-in_ok-program-in-Bound-clause-no_room : goal.returns-in_ok-program-in-Bound-clause-no_room
-returns-in_ok-program-in-Bound-clause-no_room g c =
-    subst (λ (k : FileCommand). (contents : List ℕ) → g.F.Files.contents c.args.files.now (file_of k) ≡ Some contents → c.tell_bounds.result ≡ Err stopped.SinkFault → HasLonger (g.S.Sink.room c.args.sink.now) (IsFileAnswer k contents)) (sym (ap file_command_of c.in-Bound.is))
-    (λ contents known fault. longer_answer (Bound c.in-Bound.file.now) contents _ (c.in_ok-program-in-Bound.ensures.program contents known) (c.tell_bounds.ensures.no_room c.in-Bound.file.now fault))
-
-pub returns-in_ok-code-in-Exec-clause-no_room : goal.returns-in_ok-code-in-Exec-clause-no_room
-returns-in_ok-code-in-Exec-clause-no_room g c =
-    subst (λ (k : FileCommand). (contents : List ℕ) → g.F.Files.contents c.args.files.now (file_of k) ≡ Some contents → c.exec.result ≡ Err stopped.SinkFault → HasLonger (g.S.Sink.room c.args.sink.now) (IsFileAnswer k contents)) (sym (ap file_command_of c.in-Exec.is))
-    (λ contents known fault. longer_answer (Exec c.in-Exec.file.now c.in-Exec.options) contents _ (c.in_ok-code-in-Exec.ensures.code contents known) (c.exec.ensures.no_room c.in-Exec.file.now fault))
-
-pub returns-in_ok-program-in-Expand-clause-no_room : goal.returns-in_ok-program-in-Expand-clause-no_room
-returns-in_ok-program-in-Expand-clause-no_room g c =
-    subst (λ (k : FileCommand). (contents : List ℕ) → g.F.Files.contents c.args.files.now (file_of k) ≡ Some contents → c.show_text-in-Expand.result ≡ Err stopped.SinkFault → HasLonger (g.S.Sink.room c.args.sink.now) (IsFileAnswer k contents)) (sym (ap file_command_of c.in-Expand.is))
-    (λ contents known fault. longer_answer (Expand c.in-Expand.file.now) contents _ (c.in_ok-program-in-Expand.ensures.program contents known) (c.show_text-in-Expand.ensures.no_room_expanded c.in-Expand.file.now fault))

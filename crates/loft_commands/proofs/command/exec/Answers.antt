@@ -9,7 +9,6 @@ use Rattle.loft_refusal.specs.Input.{AListing}
 use Rattle.loft_commands.specs.Promise.{IsReport, IsAnswerFor}
 use Rattle.loft_commands.proofs.Doing.{failed_does, run_stops}
 use Rattle.loft_commands.proofs.Written.{part_of}
-use Rattle.loft_commands.proofs.Longer.{blamed_for_run}
 use Rattle.loft_commands.proofs.command.exec.Goals as goal
 
 pub returns-in_err-run_code-clause-does : goal.returns-in_err-run_code-clause-does
@@ -23,12 +22,3 @@ returns-in_err-run_code-clause-does g c = λ file.
     (part_of (IsReport (Code a) o) (IsAnswerFor (Exec file o) (AListing a))
     (λ text holds. (c.program.ensures.valid, holds))
     c.in_err-run_code.ensures.failed)
-
-pub returns-in_err-run_code-clause-no_room : goal.returns-in_err-run_code-clause-no_room
-returns-in_err-run_code-clause-no_room g c = λ file.
-    let e = c.in_err-run_code.field-0.0 in
-    let p = err_from_is_err_and c.from_residual.result c.from_residual.ensures.1 in
-    let is : c.from_residual.result ≡ Err (stop_of_run e) = p.1 ∙ ap (λ (s : Stopped). Err s) p.2 in
-    let a = automata_of c.args.code.now in
-    let o = c.args.options.now in
-    blamed_for_run (IsReport (Code a) o) (IsAnswerFor (Exec file o) (AListing a)) e is (λ text holds. (c.program.ensures.valid, holds)) c.in_err-run_code.ensures.no_room

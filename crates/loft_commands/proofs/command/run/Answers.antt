@@ -13,7 +13,6 @@ use Rattle.loft_refusal.specs.Input.{ASource}
 use Rattle.loft_commands.specs.Promise.{IsReport, IsAnswerFor}
 use Rattle.loft_commands.proofs.Doing.{failed_does, run_stops}
 use Rattle.loft_commands.proofs.Written.{part_of}
-use Rattle.loft_commands.proofs.Longer.{blamed_for_run}
 use Rattle.loft_commands.proofs.command.run.Goals as goal
 
 pub returns-in_err-run_program-clause-does : goal.returns-in_err-run_program-clause-does
@@ -28,15 +27,3 @@ returns-in_err-run_program-clause-does g c = λ file.
     (part_of (IsReport (Tree (resolved_of n)) o) (IsAnswerFor (Run file o) (ASource (source_of c.args.program)))
     (λ text holds. (c.in_ok-placed.ensures.well, subst (λ (m : NamedProgram). IsReport (Tree (resolved_of m)) o text) same holds))
     c.in_err-run_program.ensures.failed)
-
-pub returns-in_err-run_program-clause-no_room : goal.returns-in_err-run_program-clause-no_room
-returns-in_err-run_program-clause-no_room g c = λ file.
-    let e = c.in_err-run_program.field-0.0 in
-    let p = err_from_is_err_and c.from_residual-in_err-run_program.result c.from_residual-in_err-run_program.ensures.1 in
-    let is : c.from_residual-in_err-run_program.result ≡ Err (stop_of_run e) = p.1 ∙ ap (λ (s : Stopped). Err s) p.2 in
-    let n = program_of c.in_ok-placed.placed in
-    let same : n ≡ numbered (source_of c.args.program) = c.in_ok-placed.ensures.program in
-    let o = c.args.options.now in
-    blamed_for_run (IsReport (Tree (resolved_of n)) o) (IsAnswerFor (Run file o) (ASource (source_of c.args.program))) e is
-    (λ text holds. (c.in_ok-placed.ensures.well, subst (λ (m : NamedProgram). IsReport (Tree (resolved_of m)) o text) same holds))
-    c.in_err-run_program.ensures.no_room

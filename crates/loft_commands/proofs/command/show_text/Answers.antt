@@ -8,7 +8,6 @@ use Rattle.loft_refusal.specs.Input.{ASource, AnExpansion}
 use Rattle.loft_commands.specs.Promise.{IsAnswerFor}
 use Rattle.loft_commands.proofs.Doing.{failed_does, write_stops}
 use Rattle.loft_commands.proofs.Written.{begun}
-use Rattle.loft_commands.proofs.Longer.{blamed_for}
 use Rattle.loft_commands.proofs.command.show_text.Goals as goal
 
 pub returns-in_err-write_lines-clause-does : goal.returns-in_err-write_lines-clause-does
@@ -26,17 +25,3 @@ returns-in_err-write_lines-clause-expands g c = λ file.
     let is : c.from_residual-in_err-write_lines.result ≡ Err (stop_of_write w) = p.1 ∙ ap (λ (e : Stopped). Err e) p.2 in
     failed_does (write_stops w c.from_residual-in_err-write_lines.result is)
     (begun (IsAnswerFor (Expand file) (AnExpansion (source_of c.args.program.now))) c.as_slice.result.now c.in_err-write_lines.ensures.failed (tt, c.as_slice.ensures.value ∙ c.in_ok-text.ensures))
-
-pub returns-in_err-write_lines-clause-no_room : goal.returns-in_err-write_lines-clause-no_room
-returns-in_err-write_lines-clause-no_room g c = λ file.
-    let w = c.in_err-write_lines.field-0.0 in
-    let p = err_from_is_err_and c.from_residual-in_err-write_lines.result c.from_residual-in_err-write_lines.ensures.1 in
-    let is : c.from_residual-in_err-write_lines.result ≡ Err (stop_of_write w) = p.1 ∙ ap (λ (e : Stopped). Err e) p.2 in
-    blamed_for (IsAnswerFor (Show file) (ASource (source_of c.args.program.now))) c.as_slice.result.now w is c.in_err-write_lines.ensures.blamed (tt, c.as_slice.ensures.value ∙ c.in_ok-text.ensures)
-
-pub returns-in_err-write_lines-clause-no_room_expanded : goal.returns-in_err-write_lines-clause-no_room_expanded
-returns-in_err-write_lines-clause-no_room_expanded g c = λ file.
-    let w = c.in_err-write_lines.field-0.0 in
-    let p = err_from_is_err_and c.from_residual-in_err-write_lines.result c.from_residual-in_err-write_lines.ensures.1 in
-    let is : c.from_residual-in_err-write_lines.result ≡ Err (stop_of_write w) = p.1 ∙ ap (λ (e : Stopped). Err e) p.2 in
-    blamed_for (IsAnswerFor (Expand file) (AnExpansion (source_of c.args.program.now))) c.as_slice.result.now w is c.in_err-write_lines.ensures.blamed (tt, c.as_slice.ensures.value ∙ c.in_ok-text.ensures)

@@ -11,7 +11,6 @@ use Rattle.loft_refusal.specs.Input.{ASource}
 use Rattle.loft_commands.specs.Promise.{IsAnswerFor}
 use Rattle.loft_commands.proofs.Doing.{done_does, failed_does, write_stops}
 use Rattle.loft_commands.proofs.Written.{appends, begun}
-use Rattle.loft_commands.proofs.Longer.{blamed_for}
 use Rattle.loft_commands.proofs.command.tell_bounds.Goals as goal
 
 pub returns-in_err-write_lines-clause-does : goal.returns-in_err-write_lines-clause-does
@@ -28,11 +27,3 @@ returns-clause-does g c = λ file.
     let told = subst (λ (n : NamedProgram). IsBoundText n c.as_slice.result.now) c.in_ok-placed.ensures.program (subst (λ (t : List ℕ). IsBoundText (program_of c.in_ok-placed.placed) t) (sym c.as_slice.ensures.value) c.in_ok-text.ensures) in
     done_does refl c.in_ok-placed.ensures.well
     (appends c.as_slice.result.now c.in_ok-write_lines.ensures.ok (c.in_ok-placed.ensures.well, told))
-
-pub returns-in_err-write_lines-clause-no_room : goal.returns-in_err-write_lines-clause-no_room
-returns-in_err-write_lines-clause-no_room g c = λ file.
-    let w = c.in_err-write_lines.field-0.0 in
-    let p = err_from_is_err_and c.from_residual-in_err-write_lines.result c.from_residual-in_err-write_lines.ensures.1 in
-    let is : c.from_residual-in_err-write_lines.result ≡ Err (stop_of_write w) = p.1 ∙ ap (λ (e : Stopped). Err e) p.2 in
-    let told = subst (λ (n : NamedProgram). IsBoundText n c.as_slice.result.now) c.in_ok-placed.ensures.program (subst (λ (t : List ℕ). IsBoundText (program_of c.in_ok-placed.placed) t) (sym c.as_slice.ensures.value) c.in_ok-text.ensures) in
-    blamed_for (IsAnswerFor (Bound file) (ASource (source_of c.args.program))) c.as_slice.result.now w is c.in_err-write_lines.ensures.blamed (c.in_ok-placed.ensures.well, told)
