@@ -80,7 +80,8 @@ def fault(program, source, report):
 def main(program, seconds=600, seed=1):
     runs = entries = failed = 0
     histories, longest, taken = set(), 0, 0.0
-    seed, end = int(seed), time.monotonic() + float(seconds)
+    first = seed = int(seed)
+    end = time.monotonic() + float(seconds)
     while time.monotonic() < end:
         with tempfile.NamedTemporaryFile(suffix=".loft") as file:
             file.write(source_of(seed).encode())
@@ -100,7 +101,7 @@ def main(program, seconds=600, seed=1):
                 longest = max(longest, len(choices))
                 histories.add(hash((seed, b"".join(choices))))
         seed += 1
-    print(f"{runs} runs of {seed - 1} sources in {taken:.0f} seconds: {entries} entries, {longest} at most, {len(histories)} histories, {failed} failed")
+    print(f"{runs} runs of {seed - first} sources in {taken:.0f} seconds: {entries} entries, {longest} at most, {len(histories)} histories, {failed} failed")
     return 1 if failed else 0
 
 
