@@ -51,8 +51,8 @@ struct HeldGate {
     meeting: Meeting,
     /// How often the turn has passed.
     held: AtomicU64,
-    /// How often B's second instant has.
-    seconds: AtomicU64,
+    /// How often B's first instant has.
+    firsts: AtomicU64,
 }
 
 impl HeldGate {
@@ -62,7 +62,7 @@ impl HeldGate {
             is_block,
             meeting: Meeting::new(),
             held: AtomicU64::new(0),
-            seconds: AtomicU64::new(0),
+            firsts: AtomicU64::new(0),
         }
     }
 
@@ -73,20 +73,20 @@ impl HeldGate {
     }
 
     /// An instant of B.
-    fn pass_second(&self, number: u64) {
+    fn pass_of_b(&self, number: u64) {
         if number == 1 {
+            self.firsts.fetch_add(1, Ordering::SeqCst);
             self.meeting.wait_for(0, LOOKS);
         }
         if number == 2 {
-            self.seconds.fetch_add(1, Ordering::SeqCst);
             self.meeting.come(1, 1);
         }
     }
 
-    /// Whether each of the two turns has passed once, and they haven't met.
+    /// Whether the turn and B's first instant have passed once, and B's second hasn't met the turn.
     fn is_right(&self) -> bool {
         self.held.load(Ordering::SeqCst) == 1
-            && self.seconds.load(Ordering::SeqCst) == 1
+            && self.firsts.load(Ordering::SeqCst) == 1
             && !self.meeting.has_met()
     }
 }
@@ -104,7 +104,7 @@ impl Gate for HeldGate {
                 number,
             } => {
                 if s == 1 {
-                    self.pass_second(number);
+                    self.pass_of_b(number);
                 } else if !self.is_block && number == 1 {
                     self.hold();
                 }
