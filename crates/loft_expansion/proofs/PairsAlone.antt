@@ -1,10 +1,10 @@
 -- Whether a body breaks a rule of pairs doesn't depend on which modules leave.
-use Rattle.std.proofs.Common.{◌≡◌, ℕ, Bool, true, false, ◌||◌, List, [], ◌∷◌, ◌++◌, drop, Option, Some, None, refl, sym, ap, ◌∙◌}
+use Rattle.std.proofs.Common.{◌≡◌, ℕ, ◌+◌, ◌-◌, Bool, true, false, List, [], ◌∷◌, ◌++◌, drop, Option, Some, None, refl, sym, ap, ◌∙◌}
 use Rattle.std.specs.Prelude.{if◌then◌else◌}
 use Rattle.std.specs.Str.{bytes_eq}
 use Rattle.loft_base.specs.declared.ids.ModuleId.{ModuleId}
 use Rattle.loft_tree.specs.NamedTree.{NamedStatements, Assign, AssignCreate, Create, PrintText, PrintValue, Cooperate, Generate, Await, Select, Get, Join, ControlThread, Broadcast, Link, Unlink, Run, Halt, If, While, Repeat, Done, Then}
-use Rattle.loft_locks.specs.Outline.{Outline, Nothing, Takes, Gives, Goes, Within, goes_if, run_part, outline, is_first, closes, pair_fault}
+use Rattle.loft_locks.specs.Outline.{Outline, Nothing, Takes, Gives, Goes, Within, goes_if, run_part, outline, is_first, closes_at, pair_fault}
 use Rattle.loft_forms.specs.Marks.{Use, TakeOf, GiveOf, Mark, use_at}
 
 -- an outline without what leaves
@@ -15,17 +15,20 @@ stays (Gives l rest) = Gives l (stays rest)
 stays (Goes rest) = stays rest
 stays (Within first second rest) = Within (stays first) (stays second) (stays rest)
 
-same_closes : (l : List ℕ) (o : Outline) → closes l o ≡ closes l (stays o)
-same_closes l Nothing = refl
-same_closes l (Takes k rest) = same_closes l rest
-same_closes l (Gives k rest) = ap (λ b. bytes_eq l k || b) (same_closes l rest)
-same_closes l (Goes rest) = same_closes l rest
-same_closes l (Within first second rest) = same_closes l rest
+same_closes : (later : ℕ) (l : List ℕ) (o : Outline) → closes_at later l o ≡ closes_at later l (stays o)
+same_closes later l Nothing = refl
+same_closes later l (Takes k rest) = same_closes (if bytes_eq l k then later + 1 else later) l rest
+same_closes later l (Gives k rest) =
+    let a = same_closes (later - 1) l rest in
+    let b = same_closes later l rest in
+    rw (a, b) refl
+same_closes later l (Goes rest) = same_closes later l rest
+same_closes later l (Within first second rest) = same_closes later l rest
 
 same_fault : (outer own : List (List ℕ)) (o : Outline) → pair_fault outer own o ≡ pair_fault outer own (stays o)
 same_fault outer own Nothing = refl
 same_fault outer own (Takes l rest) =
-    let a = same_closes l rest in
+    let a = same_closes 0 l rest in
     let b = same_fault outer (l ∷ own) rest in
     rw (a, b) refl
 same_fault outer own (Gives l rest) = ap (λ x. if is_first l own then x else Some l) (same_fault outer (drop 1 own) rest)

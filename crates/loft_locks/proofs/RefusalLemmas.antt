@@ -8,7 +8,7 @@ use Rattle.loft_tree.specs.NamedTree.{NamedStatements, Assign, AssignCreate, Cre
 use Rattle.loft_tree.specs.Resolved.{Pause, Resolved, body_of}
 use Rattle.loft_sense.specs.Tree.{first_some}
 use Rattle.loft_locks.specs.Locks.{Lock, LockCall, Takes as TakesCall, Gives as GivesCall, Other, call_of, after_call, at_call, IsAway, Leaves, PauseStays, CallStays, CallPairs, BodyPairs}
-use Rattle.loft_locks.specs.Outline.{Outline, Takes, goes_if, run_part, outline, has, closes, pair_fault, outermost, leave_fault}
+use Rattle.loft_locks.specs.Outline.{Outline, Takes, Gives, goes_if, run_part, outline, has, closes, pair_fault, outermost, leave_fault}
 use Rattle.loft_forms.specs.Marks.{Use, TakeOf, GiveOf, Mark, use_at}
 use Rattle.loft_locks.specs.Marked.{BodyKeeps, UseAgrees, BodyMarked}
 
@@ -57,6 +57,13 @@ has_append l (x ∷ xs) ys = by (bytes_eq l x) (has_append l xs ys)
     by true e = refl
     by false e = e
 
+-- the statements of another lock don't count
+pub takes_other : (l k : List ℕ) (rest : Outline) → bytes_eq l k ≡ false → closes l (Takes k rest) ≡ closes l rest
+takes_other l k rest e = rw e refl
+
+pub gives_other : (l k : List ℕ) (rest : Outline) → bytes_eq l k ≡ false → closes l (Gives k rest) ≡ closes l rest
+gives_other l k rest e = rw e refl
+
 no_pairs : (pairs : List (List ℕ)) → outermost pairs ≡ None → pairs ≡ []
 no_pairs [] e = refl
 no_pairs (x ∷ []) e = absurd cc
@@ -71,6 +78,10 @@ goes_pairs outer own false rest = refl
 goes_closes : (l : List ℕ) (leaves : Bool) (rest : Outline) → closes l (goes_if leaves rest) ≡ closes l rest
 goes_closes l true rest = refl
 goes_closes l false rest = refl
+
+goes_gives : (l k : List ℕ) (leaves : Bool) (rest : Outline) → closes l (Gives k (goes_if leaves rest)) ≡ closes l (Gives k rest)
+goes_gives l k true rest = refl
+goes_gives l k false rest = refl
 
 -- it stands in no pair
 goes_free : (outer own : List (List ℕ)) (leaves : Bool) (rest : Outline) → leave_fault outer own (goes_if leaves rest) ≡ None → (leave_fault outer own rest ≡ None) × (leaves ≡ true → own ++ outer ≡ [])
@@ -119,7 +130,7 @@ module _ (p : Resolved) (l : Lock) (name : List ℕ) (marks : List Mark) (away :
 
   -- a lock is taken
   take_ok : (outer own : List (List ℕ)) (leaves : Bool) (call : LockCall) (k : List ℕ) (rest : Outline) → UseAgrees name call (Some (TakeOf k)) → pair_fault outer own (Takes k rest) ≡ None → leave_fault outer (k ∷ own) rest ≡ None
-      → (leaves ≡ true → own ++ outer ≡ []) → Once own outer → Closing own rest → RunOk outer own leaves call rest
+      → (leaves ≡ true → own ++ outer ≡ []) → Once own outer → Closing own (Takes k rest) → RunOk outer own leaves call rest
   take_ok outer own leaves TakesCall k rest agree e f free once c =
       let same : k ≡ name = cc in
       let parts = not_chosen (has k (own ++ outer) || not (closes k rest)) k (pair_fault outer (k ∷ own) rest) e in
@@ -147,14 +158,14 @@ module _ (p : Resolved) (l : Lock) (name : List ℕ) (marks : List Mark) (away :
         stays = λ is. none_has (own ++ outer) (free is);
         after = sym (ap (λ b. b || has name (own ++ outer)) no);
         once = (λ is. absurd (off is), once);
-        closing = λ is. c (sym (ap (λ b. b || has name own) no) ∙ is);
+        closing = λ is. sym (takes_other name k rest no) ∙ c (sym (ap (λ b. b || has name own) no) ∙ is);
         fault = parts.1;
         left = f;
       }
 
   -- a lock is given back
   give_ok : (outer : List (List ℕ)) (j : List ℕ) (own : List (List ℕ)) (leaves : Bool) (call : LockCall) (k : List ℕ) (rest : Outline) → UseAgrees name call (Some (GiveOf k)) → bytes_eq k j ≡ true
-      → pair_fault outer own rest ≡ None → leave_fault outer own rest ≡ None → (leaves ≡ true → own ++ outer ≡ []) → Once (j ∷ own) outer → (has name (j ∷ own) ≡ true → (bytes_eq name k || closes name rest) ≡ true) → RunOk outer (j ∷ own) leaves call rest
+      → pair_fault outer own rest ≡ None → leave_fault outer own rest ≡ None → (leaves ≡ true → own ++ outer ≡ []) → Once (j ∷ own) outer → Closing (j ∷ own) (Gives k rest) → RunOk outer (j ∷ own) leaves call rest
   give_ok outer j own leaves TakesCall k rest agree first e f free once c = absurd cc
   give_ok outer j own leaves GivesCall k rest agree first e f free once c =
       let same : k ≡ name = cc in
@@ -180,7 +191,7 @@ module _ (p : Resolved) (l : Lock) (name : List ℕ) (marks : List Mark) (away :
         stays = λ is. ap (λ b. b || has name (own ++ outer)) no ∙ none_has (own ++ outer) (free is);
         after = ap (λ b. b || has name (own ++ outer)) no;
         once = once.1;
-        closing = λ is. let more : has name (j ∷ own) ≡ true = ap (λ b. b || has name own) no ∙ is in sym (ap (λ b. b || closes name rest) not_this) ∙ c more;
+        closing = λ is. let more : has name (j ∷ own) ≡ true = ap (λ b. b || has name own) no ∙ is in sym (gives_other name k rest not_this) ∙ c more;
         fault = e;
         left = f;
       }
@@ -208,7 +219,7 @@ module _ (p : Resolved) (l : Lock) (name : List ℕ) (marks : List Mark) (away :
   run_ok outer (j ∷ own) leaves call (Some (GiveOf k)) rest agree e f once c =
       let parts = chosen (bytes_eq k j) k (pair_fault outer own (goes_if leaves rest)) e in
       let free = goes_free outer own leaves rest f in
-      give_ok outer j own leaves call k rest agree parts.0 (sym (goes_pairs outer own leaves rest) ∙ parts.1) free.0 free.1 once (λ is. ap (λ b. bytes_eq name k || b) (sym (goes_closes name leaves rest)) ∙ c is)
+      give_ok outer j own leaves call k rest agree parts.0 (sym (goes_pairs outer own leaves rest) ∙ parts.1) free.0 free.1 once (λ is. sym (goes_gives name k leaves rest) ∙ c is)
 
   -- ---- bodies
 

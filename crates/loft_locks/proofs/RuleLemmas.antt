@@ -5,7 +5,7 @@ use Rattle.std.specs.Str.{bytes_eq}
 use Rattle.loft_sense.specs.Tree.{first_some}
 use Rattle.loft_locks.specs.Outline.{Outline, Nothing, Takes, Gives, Goes, Within, has, closes, pair_fault}
 use Rattle.loft_locks.specs.Rules.{joined, Paired, nothing, goes, within, pair}
-use Rattle.loft_locks.proofs.RefusalLemmas.{none_first, not_chosen, chosen, or_parts, not_false, same_name, name_same}
+use Rattle.loft_locks.proofs.RefusalLemmas.{none_first, not_chosen, chosen, or_parts, not_false, same_name, name_same, takes_other, gives_other}
 
 joined_empty : (b : Outline) → joined b Nothing ≡ b
 joined_empty Nothing = refl
@@ -24,18 +24,36 @@ joined_twice (Within x y rest) b c = ap (λ (d : Outline). Within x y d) (joined
 same_lock : (l : List ℕ) → bytes_eq l l ≡ true
 same_lock l = name_same l l refl
 
+-- ---- where the rules hold there is no fault
+
 second_true : (p q : Bool) → q ≡ true → (p || q) ≡ true
 second_true true q e = refl
 second_true false q e = e
 
--- ---- where the rules hold there is no fault
+-- a lock of which a pair has begun is another than one of which none has
+begun_apart : (l k : List ℕ) (begun : List (List ℕ)) → has l begun ≡ true → has k begun ≡ false → bytes_eq l k ≡ false
+begun_apart l k begun e off = by (bytes_eq l k) refl
+  where
+    by : (b : Bool) → bytes_eq l k ≡ b → b ≡ false
+    by false f = refl
+    by true f = let none : has l begun ≡ false = ap (λ n. has n begun) (same_name l k f) ∙ off in cc
 
-closes_there : (l : List ℕ) (inner rest : Outline) → closes l (joined inner (Gives l rest)) ≡ true
-closes_there l Nothing rest = let e = same_lock l in rw e refl
-closes_there l (Takes k b) rest = closes_there l b rest
-closes_there l (Gives k b) rest = second_true (bytes_eq l k) _ (closes_there l b rest)
-closes_there l (Goes b) rest = closes_there l b rest
-closes_there l (Within x y b) rest = closes_there l b rest
+-- pairs inside a pair of a lock don't end it
+closes_after : {begun : List (List ℕ)} {b : Outline} → Paired begun b → (l : List ℕ) (after : Outline) → has l begun ≡ true → closes l (joined b after) ≡ closes l after
+closes_after (nothing begun) l after e = refl
+closes_after (goes begun rest p) l after e = closes_after p l after e
+closes_after (within begun x y rest f g p) l after e = closes_after p l after e
+closes_after (pair begun k inner rest off f p) l after e =
+    let apart = begun_apart l k begun e off in
+    let beyond = Gives k (joined rest after) in
+    takes_other l k (joined (joined inner (Gives k rest)) after) apart
+    ∙ ap (closes l) (joined_twice inner (Gives k rest) after)
+    ∙ closes_after f l beyond (second_true (bytes_eq l k) (has l begun) e)
+    ∙ gives_other l k (joined rest after) apart
+    ∙ closes_after p l after e
+
+closes_there : {begun : List (List ℕ)} {b : Outline} (l : List ℕ) → Paired (l ∷ begun) b → (rest : Outline) → closes l (joined b (Gives l rest)) ≡ true
+closes_there {begun} {b} l p rest = let e = same_lock l in closes_after p l (Gives l rest) (ap (λ b. b || has l begun) e) ∙ rw e refl
 
 passes : {begun : List (List ℕ)} {b : Outline} → Paired begun b → (outer own : List (List ℕ)) (after : Outline) → begun ≡ own ++ outer → pair_fault outer own (joined b after) ≡ pair_fault outer own after
 passes (nothing begun) outer own after e = refl
@@ -48,7 +66,7 @@ passes (pair begun l inner rest off f p) outer own after e =
     let beyond = Gives l (joined rest after) in
     let shape : joined (joined inner (Gives l rest)) after ≡ joined inner beyond = joined_twice inner (Gives l rest) after in
     let not_open : has l (own ++ outer) ≡ false = ap (has l) (sym e) ∙ off in
-    let there = closes_there l inner (joined rest after) in
+    let there = closes_there l f (joined rest after) in
     let one : pair_fault outer own (Takes l (joined inner beyond)) ≡ pair_fault outer (l ∷ own) (joined inner beyond) = rw (not_open, there) refl in
     let two = passes f outer (l ∷ own) beyond (ap (λ (k : List (List ℕ)). l ∷ k) e) in
     let same = same_lock l in
@@ -123,16 +141,19 @@ not_same k l e = by (bytes_eq l k) refl
     by false f = refl
     by true f = let same = same_name l k f in let back = name_same k l (sym same) in cc
 
-either_way : (p q : Bool) → p ≡ false → (p || q) ≡ true → q ≡ true
-either_way true q e f = cc
-either_way false q e f = f
+-- what ends after a `lock` of another lock ends after it
+begins_after : (own : List (List ℕ)) (k : List ℕ) (rest : Outline) → has k own ≡ false → AllEnd own (Takes k rest) → AllEnd own rest
+begins_after [] k rest off h = tt
+begins_after (l ∷ own) k rest off h =
+    let parts = or_parts (bytes_eq k l) (has k own) off in
+    (h.0, sym (takes_other l k rest (not_same k l parts.0)) ∙ h.1, begins_after own k rest parts.1 h.2)
 
--- what ends after an `unlock` of another lock ends after it
+-- and so after an `unlock`
 ends_after : (own : List (List ℕ)) (k : List ℕ) (rest : Outline) → has k own ≡ false → AllEnd own (Gives k rest) → AllEnd own rest
 ends_after [] k rest off h = tt
 ends_after (l ∷ own) k rest off h =
     let parts = or_parts (bytes_eq k l) (has k own) off in
-    (h.0, either_way (bytes_eq l k) (closes l rest) (not_same k l parts.0) h.1, ends_after own k rest parts.1 h.2)
+    (h.0, sym (gives_other l k rest (not_same k l parts.0)) ∙ h.1, ends_after own k rest parts.1 h.2)
 
 no_end : (outer own : List (List ℕ)) → AllEnd own Nothing → Parsed outer own Nothing
 no_end outer [] h = nothing outer
@@ -144,7 +165,8 @@ parsed (Goes rest) outer own fault ends = goes_front outer own rest (parsed rest
 parsed (Takes l rest) outer own fault ends =
     let both = not_chosen (has l (own ++ outer) || not (closes l rest)) l (pair_fault outer (l ∷ own) rest) fault in
     let parts = or_parts (has l (own ++ outer)) (not (closes l rest)) both.0 in
-    let p = parsed rest outer (l ∷ own) both.1 (left_has l own outer parts.0, not_false _ parts.1, all_end own (Takes l rest) rest (λ k c. c) ends) in
+    let apart = left_has l own outer parts.0 in
+    let p = parsed rest outer (l ∷ own) both.1 (apart, not_false _ parts.1, begins_after own l rest apart ends) in
     subst (λ (b : Outline). Parsed outer own (Takes l b)) (sym p.are) (pair_front outer own l p.inner p.rest parts.0 p.paired p.others)
 parsed (Gives l rest) outer [] fault ends = absurd cc
 parsed (Gives l rest) outer (k ∷ own) fault ends =

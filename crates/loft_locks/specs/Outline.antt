@@ -1,5 +1,5 @@
 -- What the rules of pairs see of a body, and which statement breaks a rule or leaves a pair first (docs/LOCKS.md, "Pairs").
-use Rattle.std.specs.Prelude.{ℕ, Bool, true, false, ◌||◌, not, List, [], ◌∷◌, ◌++◌, drop, Option, Some, None, if◌then◌else◌}
+use Rattle.std.specs.Prelude.{ℕ, ◌+◌, ◌-◌, ◌==◌, Bool, true, false, ◌||◌, not, List, [], ◌∷◌, ◌++◌, drop, Option, Some, None, if◌then◌else◌}
 use Rattle.std.specs.Str.{bytes_eq}
 use Rattle.loft_base.specs.declared.ids.ModuleId.{ModuleId}
 use Rattle.loft_tree.specs.NamedTree.{NamedStatement, NamedStatements, Assign, AssignCreate, Create, PrintText, PrintValue, Cooperate, Generate, Await, Select, Get, Join, ControlThread, Broadcast, Link, Unlink, Run, Halt, If, While, Repeat, Done, Then}
@@ -67,13 +67,18 @@ abbrev pub is_first : List ℕ → List (List ℕ) → Bool
 is_first l [] = false
 is_first l (k ∷ ks) = bytes_eq l k
 
--- the lock is given back among these statements themselves
+-- A lock that was taken is given back among these statements themselves, where so many pairs of it that began later are open:
+-- each `lock` of it opens one more, and each `unlock` closes the last one that is open.
+abbrev pub closes_at : ℕ → List ℕ → Outline → Bool
+closes_at later l Nothing = false
+closes_at later l (Takes k rest) = closes_at (if bytes_eq l k then later + 1 else later) l rest
+closes_at later l (Gives k rest) = if bytes_eq l k then later == 0 || closes_at (later - 1) l rest else closes_at later l rest
+closes_at later l (Goes rest) = closes_at later l rest
+closes_at later l (Within first second rest) = closes_at later l rest
+
+-- the lock that was taken just before these statements is given back among them
 abbrev pub closes : List ℕ → Outline → Bool
-closes l Nothing = false
-closes l (Takes k rest) = closes l rest
-closes l (Gives k rest) = bytes_eq l k || closes l rest
-closes l (Goes rest) = closes l rest
-closes l (Within first second rest) = closes l rest
+closes l o = closes_at 0 l o
 
 -- The lock of the first statement that breaks a rule, in a body that stands in the pairs of `outer` and has begun those of `own`,
 -- innermost first. A lock is taken only where no pair of it has begun and the same body gives it back; it is given back where

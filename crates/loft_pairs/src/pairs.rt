@@ -12,7 +12,7 @@ ghost use Rattle.loft_forms.specs.Seen.{marks_seen, names_seen, use_seen};
 ghost use Rattle.loft_locks.specs.Outline.{Outline, Takes, Gives, run_part, part, outline, has, closes, pair_fault};
 ghost use Rattle.loft_expansion.specs.Expansion.{first_unpaired};
 ghost use Rattle.loft_expansion.specs.Checks.{fault_in};
-ghost use Rattle.loft_pairs.specs.Seen.{lock_seen, fault_seen, is_give, gives_it};
+ghost use Rattle.loft_pairs.specs.Seen.{lock_seen, fault_seen, form_of};
 
 use crate::marks::use_at;
 use loft_base::{ModuleId, NoMemory, Room};
@@ -27,24 +27,14 @@ fn has(locks: &[&[u8]], lock: &[u8]) -> bool
     locks.iter().any(|other| lock == *other)
 }
 
-/// Whether a `run` stands for an `unlock` of this lock.
-fn is_give(used: Option<Use>, lock: &[u8]) -> bool
-    ensures { result ≡ is_give lock.now (option_map use_seen used.entry) }
-{
-    match used {
-        Some(Use::Give(other)) => lock == other,
-        Some(Use::Take(_)) | None => false,
-    }
-}
-
-/// Whether the statement is an `unlock` of this lock.
+/// What a statement stands for, if it stands in place of a form.
 #[tactic(auto, using(loft_tree::proofs::NamedTrees::named_statements))]
-fn gives(marks: &[Mark], lock: &[u8], statement: &NamedStmt) -> bool
+fn form_of<'a>(marks: &[Mark<'a>], statement: &NamedStmt) -> Option<Use<'a>>
     requires { AreRising 0 (marks_seen marks.now) }
-    ensures { result ≡ gives_it (marks_seen marks.now) lock.now (statement_of statement.now) }
+    ensures { option_map use_seen result ≡ form_of (marks_seen marks.now) (statement_of statement.now) }
 {
     match statement {
-        NamedStmt::Run { called, .. } => is_give(use_at(marks, *called as usize), lock),
+        NamedStmt::Run { called, .. } => use_at(marks, *called as usize),
         NamedStmt::Assign { .. }
         | NamedStmt::AssignCreate { .. }
         | NamedStmt::Create { .. }
@@ -63,18 +53,27 @@ fn gives(marks: &[Mark], lock: &[u8], statement: &NamedStmt) -> bool
         | NamedStmt::Unlink { .. }
         | NamedStmt::If { .. }
         | NamedStmt::While { .. }
-        | NamedStmt::Repeat { .. } => false,
+        | NamedStmt::Repeat { .. } => None,
     }
 }
 
-/// Whether the lock is given back among these statements themselves.
+/// Whether the lock that was taken just before these statements is given back among them: an
+/// `unlock` is that of the last `lock` that is open.
 fn closes(marks: &[Mark], lock: &[u8], statements: &[NamedStmt]) -> bool
     requires { AreRising 0 (marks_seen marks.now) }
     ensures { result ≡ closes lock.now (outline (marks_seen marks.now) (λ i. false) (statements_of statements.now)) }
 {
+    let mut later = 0usize;
     for statement in statements {
-        if gives(marks, lock, statement) {
-            return true;
+        match form_of(marks, statement) {
+            Some(Use::Take(other)) if lock == other => later += 1,
+            Some(Use::Give(other)) if lock == other => {
+                if later == 0 {
+                    return true;
+                }
+                later -= 1;
+            }
+            Some(_) | None => {}
         }
     }
     false
