@@ -34,7 +34,7 @@ begun_one (Ends end) n b s h = absurd cc
 pub begun_held : (n : Runner) (b : ℕ) (s : Standing) → linked_of n ≡ runner_of b s ∷ [] → is_held n.stop ≡ true
 begun_held n b s h = (begun_one n.stop n b s h).0
 
-held_standing : (r : Runner) → is_held r.stop ≡ true → standing_if r ≡ standing_of r ∷ []
+pub held_standing : (r : Runner) → is_held r.stop ≡ true → standing_if r ≡ standing_of r ∷ []
 held_standing r h = ap (λ (b : Bool). if b then standing_of r ∷ [] else []) h
 
 pub begun_standing : (n : Runner) (b : ℕ) (s : Standing) → linked_of n ≡ runner_of b s ∷ [] → standing_if n ≡ s ∷ []

@@ -24,7 +24,7 @@ pub many_threads : (l : Line) → IsIdle l → length l.ran.items ≡ length (ru
 many_threads l idle = idle.line.many ∙ sym (length_with l.slots.items l.waits.waits)
 
 -- what has to be shown of a line that differs in its threads
-record IsChanged (l new : Line) (rs : List Runner) (ran : List ℕ) : Type 0 where
+pub record IsChanged (l new : Line) (rs : List Runner) (ran : List ℕ) : Type 0 where
   pub runners : runners_in new ≡ rs
   pub waits : new.waits.waits ≡ map wait_of rs
   pub many : length new.ran.items ≡ length new.slots.items
@@ -33,7 +33,7 @@ record IsChanged (l new : Line) (rs : List Runner) (ran : List ℕ) : Type 0 whe
   pub held : new.held ≡ count_present rs ran
   pub unmarked : (i : ℕ) → is_marked ran i ≡ false
 
-idle_now : (l new : Line) (rs : List Runner) (ran : List ℕ) → IsChanged l new rs ran → IsIdle new
+pub idle_now : (l new : Line) (rs : List Runner) (ran : List ℕ) → IsChanged l new rs ran → IsIdle new
 idle_now l new rs ran c = record {
   line = record {
     waits = c.waits ∙ ap (map wait_of) (sym c.runners);

@@ -10,3 +10,5 @@ pub mod ClosingLemmas
 pub mod FirstLemmas
 pub mod RestLemmas
 pub mod StandingLemmas
+pub mod PackLemmas
+pub mod RoomLemmas

@@ -134,3 +134,8 @@ linked_last slots s0 s3 ws w0 w3 p x long at e0 f0 entered e3 =
 
 pub length_left : (s0 s1 : List Runner) (w0 : List (Option Wait)) (p : ℕ) → p < length s0 → ((r : Runner) → slice_get s0 p ≡ Some r → s1 ≡ slice_set s0 p (with_wait (get_or w0 p None) r)) → length s1 ≡ length s0
 length_left s0 s1 w0 p within left = let it = there_is s0 p within in ap (λ (l : List Runner). length l) (left it.0 it.1) ∙ length-set s0 p (with_wait (get_or w0 p None) it.0)
+
+pub get_there : (rs : List Runner) (p : ℕ) (d r : Runner) → slice_get rs p ≡ Some r → get_or rs p d ≡ r
+get_there [] p d r h = absurd cc
+get_there (x ∷ rs) zero d r h = cc h
+get_there (x ∷ rs) (suc p) d r h = get_there rs p d r h

@@ -1,5 +1,5 @@
 -- The linked threads of a scheduler whose waits are kept over its instants (docs/SEMANTICS.md, "Waiting lists").
-use Rattle.std.specs.Prelude.{◌≡◌, ℕ, ◌+◌, ◌<◌, ◌==◌, not, ◌&&◌, ◌||◌, Bool, true, false, List, [], ◌∷◌, map, filter, length, Option, Some, None, slice_get, slice_set, slice_index_or, if◌then◌else◌}
+use Rattle.std.specs.Prelude.{◌≡◌, ℕ, ◌+◌, ◌<◌, ◌≤◌, ◌==◌, not, ◌&&◌, ◌||◌, Bool, true, false, List, [], ◌∷◌, map, filter, length, Option, Some, None, slice_get, slice_set, slice_index_or, if◌then◌else◌}
 use Rattle.std.specs.List.{flat_map}
 use Rattle.loft_base.specs.declared.ids.ThreadId.{ThreadId}
 use Rattle.loft_orders.specs.declared.note.Standing.{Standing}
@@ -175,3 +175,28 @@ pub record HasClosed (old new : Line) : Type 0 where
 -- whoever waits for what doesn't end by itself waits for what isn't there
 abbrev pub IsQuiet : Line → Type 0
 IsQuiet l = (i : ℕ) (w : Wait) → wait_at l.waits i ≡ Some w → ends_alone w ≡ false → waits_for_ever w l.waits.ended ≡ true
+
+-- nobody is held from one position on and before another
+abbrev pub AreEmpty : ℕ → ℕ → List Runner → Type 0
+AreEmpty a b rs = (i : ℕ) (r : Runner) → a ≤ i → i < b → slice_get rs i ≡ Some r → is_held r.stop ≡ false
+
+-- everybody before a position is held
+abbrev pub AreFull : ℕ → List Runner → Type 0
+AreFull n rs = (i : ℕ) (r : Runner) → i < n → slice_get rs i ≡ Some r → is_held r.stop ≡ true
+
+-- the threads of two positions stand in each other's place, and nothing else has changed
+pub record HasMoved (to pos : ℕ) (old new : Line) : Type 0 where
+  pub idle : IsIdle new
+  pub told : KeepsTold old new
+  pub long : length new.slots.items ≡ length old.slots.items
+  pub runners : (h r : Runner) → slice_get (runners_in old) to ≡ Some h → slice_get (runners_in old) pos ≡ Some r → runners_in new ≡ slice_set (slice_set (runners_in old) pos h) to r
+
+-- those that stood before a position stand at the first places, in their order
+pub record IsPacked (next pos : ℕ) (old new : Line) : Type 0 where
+  pub idle : IsIdle new
+  pub told : KeepsTold old new
+  pub long : length new.slots.items ≡ length old.slots.items
+  pub linked : standings_in (runners_in new) ≡ standings_in (runners_in old)
+  pub order : next ≤ pos
+  pub full : AreFull next (runners_in new)
+  pub empty : AreEmpty next pos (runners_in new)

@@ -4,6 +4,7 @@
 mod close;
 mod line;
 mod marks;
+mod pack;
 mod run;
 mod slots;
 mod standings;

@@ -1,6 +1,6 @@
 //! The linked threads between two instants, and while a batch is applied.
 
-ghost use Rattle.std.specs.Prelude.{◌≡◌, ◌<◌, ◌++◌, ◌∷◌, [], Some, length, slice_set, IfOk, OnOk};
+ghost use Rattle.std.specs.Prelude.{◌≡◌, ◌+◌, ◌*◌, ◌<◌, ◌≤◌, ◌++◌, ◌∷◌, [], Some, length, slice_set, IfOk, OnOk};
 ghost use Rattle.loft_sense.specs.Apply.{is_linked, without_first, with_last, suspend as suspend_in};
 ghost use Rattle.loft_waits.specs.Told.{no_counts};
 
@@ -55,13 +55,14 @@ impl Line {
         self.held
     }
 
-    /// One more thread, the last in the list.
-    pub fn link(&mut self, thread: Thread) -> Result<(), NoMemory>
+    /// One more place, with a thread.
+    fn push(&mut self, thread: Thread) -> Result<(), NoMemory>
         requires idle { IsIdle self.old }
         ensures idle { OnOk result (IsIdle self.new) }
         ensures linked { OnOk result (standings_in (runners_in self.new)
             ≡ with_last thread (standings_in (runners_in self.old))) }
         ensures told { OnOk result (KeepsTold self.old self.new) }
+        ensures places { OnOk result (length self.new.slots.items ≡ length self.old.slots.items + 1) }
     {
         let pos = self.slots.len();
         let mut runner = Runner::new(thread);
@@ -72,6 +73,21 @@ impl Line {
         self.held += 1;
         enter(&mut self.slots, &mut self.waits, pos)?;
         Ok(())
+    }
+
+    /// One more thread, the last in the list. Where places of threads that have gone are too many,
+    /// they are given up before.
+    pub fn link(&mut self, thread: Thread) -> Result<(), NoMemory>
+        requires idle { IsIdle self.old }
+        ensures idle { OnOk result (IsIdle self.new) }
+        ensures linked { OnOk result (standings_in (runners_in self.new)
+            ≡ with_last thread (standings_in (runners_in self.old))) }
+        ensures told { OnOk result (KeepsTold self.old self.new) }
+        ensures places { OnOk result (length self.new.slots.items
+            ≤ 2 * length (standings_in (runners_in self.new)) + 64) }
+    {
+        self.make_room()?;
+        self.push(thread)
     }
 
     /// The first thread with this id isn't linked any more. Whether there was one.

@@ -84,6 +84,17 @@ pub(crate) fn enter(slots: &mut Vec<Runner>, waits: &mut Waits, pos: usize) -> R
     Ok(())
 }
 
+/// The threads of two positions stand in each other's place from now on.
+pub(crate) fn exchange(slots: &mut Vec<Runner>, pos: usize, to: usize)
+    requires within { pos < length slots.old.items }
+    requires inside { to < length slots.old.items }
+    ensures { (h r : ARunner) → slice_get slots.old.items to ≡ Some h
+        → slice_get slots.old.items pos ≡ Some r
+        → slots.new.items ≡ slice_set (slice_set slots.old.items pos h) to r }
+{
+    slots.swap(pos, to);
+}
+
 /// The place at a position is empty from now on. The answer is the thread that stood there.
 pub(crate) fn empty(alloc: Global, slots: &mut Vec<Runner>, pos: usize) -> Thread
     requires within { pos < length slots.old.items }

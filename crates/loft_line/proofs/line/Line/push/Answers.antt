@@ -11,7 +11,7 @@ use Rattle.loft_line.specs.Line.{runners_in}
 use Rattle.loft_line.proofs.ListLemmas.{length_line, length_with}
 use Rattle.loft_line.proofs.BatchLemmas.{few_held}
 use Rattle.loft_line.proofs.IdleLemmas.{linked_idle, linked_standings, linked_told}
-use Rattle.loft_line.proofs.line.Line.link.Goals as goal
+use Rattle.loft_line.proofs.line.Line.push.Goals as goal
 
 pub overflow_add-self : goal.overflow_add-self
 overflow_add-self c =
