@@ -19,8 +19,9 @@ use loft_sense::Engine;
 use loft_station::{Outsider, Station, Worker};
 use std::alloc::Global;
 
-/// The scheduler of this index, with a pass that the giving pass gives out.
-fn station_of<E: Engine>(
+/// The scheduler of this index, with an engine of the code that has made no instant, and a pass that the
+/// giving pass gives out. It takes no memory.
+pub fn station_of<E: Engine>(
     alloc: Global,
     b: &Baton,
     giver: &mut Pass,
@@ -71,8 +72,13 @@ pub(crate) fn stations_of<E: Engine>(
     Ok(stations)
 }
 
-/// The workers.
-pub(crate) fn workers_of(
+/// So many workers, in the order of their numbers, each with a pass that the giving pass gives out and
+/// this bound of a block's steps.
+///
+/// # Errors
+///
+/// Out of memory.
+pub fn workers_of(
     alloc: Global,
     b: &Baton,
     giver: &mut Pass,
@@ -95,8 +101,13 @@ pub(crate) fn workers_of(
     Ok(workers)
 }
 
-/// The clients of the source.
-pub(crate) fn outsiders_of(
+/// The clients of the source, in the order of their declarations, each with a pass that the giving pass
+/// gives out.
+///
+/// # Errors
+///
+/// Out of memory.
+pub fn outsiders_of(
     alloc: Global,
     b: &Baton,
     giver: &mut Pass,

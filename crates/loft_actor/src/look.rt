@@ -25,6 +25,8 @@ pub(crate) enum Found {
     Over,
     /// The scheduler of this index has a turn to make, and nobody else has anything to do.
     Lone(usize),
+    /// Threads wait for the workers, and nobody else has anything to do.
+    Jobs,
     /// Anything else.
     Several,
 }
@@ -127,20 +129,23 @@ fn found_in<E: Engine>(world: &World, b: &Baton, c: &Code, a: &Actors<E>) -> Fou
     ensures over { result ≡ Over → IsOver c.now world.now.history a.now.stations a.now.workers a.now.outsiders }
     ensures lone { (k : ℕ) → result ≡ Lone k → k < length a.now.stations }
 {
-    if world.jobs() > 0 || !have_given_all(b, c, a.outsiders.as_slice()) {
+    if !have_given_all(b, c, a.outsiders.as_slice()) {
         return Found::Several;
     }
+    let has_jobs = world.jobs() > 0;
     let stations = a.stations.as_slice();
     let Some(first) = first_due(world, b, c, stations, 0) else {
-        return if nobody_saw_more(world, a) {
+        return if has_jobs {
+            Found::Jobs
+        } else if nobody_saw_more(world, a) {
             Found::Over
         } else {
             Found::Several
         };
     };
     match first_due(world, b, c, stations, first + 1) {
-        None => Found::Lone(first),
-        Some(_) => Found::Several,
+        None if !has_jobs => Found::Lone(first),
+        _ => Found::Several,
     }
 }
 

@@ -19,7 +19,7 @@ use crate::look::{Found, look};
 use loft_base::{Gate, Limits, NoMemory, Sequence};
 use loft_baton::{Baton, Pass, closed_histories_are_legal};
 use loft_code::Code;
-use loft_phase::{Actors, go_alone, phase};
+use loft_phase::{Actors, go_alone, phase, work_alone};
 use loft_sense::Engine;
 use loft_world::{Notes, World};
 use std::alloc::Global;
@@ -29,13 +29,15 @@ use std::thread::Threads;
 /// The engines of a run, in the order of their schedulers.
 pub type Engines<E> = Sequence<E>;
 
-/// One phase, of all actors or of the one that has something to do.
+/// One phase, of all actors or of the one that has something to do; or a stage of the workers alone,
+/// where this look and the one before found that nobody else has anything to do.
 fn next_phase<R: Threads + Wait + Sync, E: Engine + Send, G: Gate>(
     rt: &R,
     alloc: Global,
     b: &Baton,
     c: &Code,
     l: Limits,
+    before: Found,
     found: Found,
     a: &mut Actors<E>,
     g: &G,
@@ -52,8 +54,9 @@ fn next_phase<R: Threads + Wait + Sync, E: Engine + Send, G: Gate>(
         × (length a.new.outsiders ≡ length a.old.outsiders) }
 {
     let _bounds = l;
-    match found {
-        Found::Lone(k) => go_alone(rt, alloc, b, c, a, k, g),
+    match (before, found) {
+        (_, Found::Lone(k)) => go_alone(rt, alloc, b, c, a, k, g),
+        (Found::Jobs, Found::Jobs) => work_alone(rt, alloc, b, c, a, g),
         _ => phase(rt, alloc, b, c, a, g),
     }
 }
@@ -83,12 +86,14 @@ fn phases<R: Threads + Wait + Sync, E: Engine + Send, G: Gate>(
     ensures over { OnOk result (IsOver c.now giver.new.knows.seen a.new.stations a.new.workers
         a.new.outsiders) }
 {
+    let mut before = Found::Several;
     'phases: for _ in rt.forever() {
         let found = look(rt, b, c, giver, a);
         if let Found::Over = found {
             return Ok(());
         }
-        next_phase(rt, alloc, b, c, l, found, a, g)?;
+        next_phase(rt, alloc, b, c, l, before, found, a, g)?;
+        before = found;
     }
     unreachable!()
 }

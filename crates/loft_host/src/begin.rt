@@ -5,8 +5,8 @@ ghost use Rattle.loft_base.specs.Options.{IsInRange};
 ghost use Rattle.loft_orders.specs.declared.entry.Actor.TheVariants as actor;
 ghost use Rattle.loft_sense.specs.Heads.{scheduler};
 ghost use Rattle.loft_baton.specs.Knowing.{among};
-ghost use Rattle.loft_actor.specs.Members.{AtIndex, IsGiver, IsStationOf, IsWorkerOf, IsOutsiderOf};
-ghost use Rattle.loft_actor.specs.Members.{names_of, station_member, worker_member, outsider_member};
+ghost use Rattle.loft_actor.specs.Members.{AtIndex, IsGiver, IsStationOf};
+ghost use Rattle.loft_actor.specs.Members.{names_of, station_member};
 ghost use Rattle.loft_host.specs.Callers.{IsCallerOf, callers_in};
 
 use crate::caller::{Caller, Next};
@@ -16,11 +16,10 @@ use loft_baton::{Baton, Pass};
 use loft_code::Code;
 use loft_engine::CodeEngine;
 use loft_orders::Actor;
-use loft_station::{Outsider, Station, Worker};
+use loft_station::Station;
 use std::alloc::Global;
 
-/// The scheduler of this index, with an engine that has made no instant and a pass that the giving
-/// pass gives out.
+/// The scheduler of this index, with an engine of its own.
 fn station_of<'a>(
     alloc: Global,
     b: &Baton,
@@ -38,10 +37,8 @@ fn station_of<'a>(
     ensures station { IfOk result (IsStationOf b.now c.now l k) }
 {
     let _program = c.program();
-    let s = SchedId(k as u32);
-    let engine = CodeEngine::new(alloc, c, s, l)?;
-    let pass = b.split(giver, Actor::Sched(s));
-    Ok(Station::new(alloc, engine, pass))
+    let engine = CodeEngine::new(alloc, c, SchedId(k as u32), l)?;
+    Ok(loft_actor::station_of(alloc, b, giver, c, l, k, engine))
 }
 
 /// The schedulers.
@@ -65,53 +62,6 @@ pub(crate) fn stations_of<'a>(
         stations.push(station)?;
     }
     Ok(stations)
-}
-
-/// The workers.
-pub(crate) fn workers_of(
-    alloc: Global,
-    b: &Baton,
-    giver: &mut Pass,
-    c: &Code,
-    block: u64,
-    count: u32,
-) -> Result<Sequence<Worker>, NoMemory>
-    requires giver { IsGiver b.now c.now giver.old.knows.given giver.old }
-    requires new { (w : ℕ) → among giver.old.knows.given (actor.Worker w) ≡ false }
-    ensures giver { IfOk result (λ ws. IsGiver b.now c.now
-        (giver.old.knows.given ++ names_of (map worker_member ws)) giver.new) }
-    ensures many { IfOk result (λ ws. length ws ≡ count) }
-    ensures workers { IfOk result (AtIndex (IsWorkerOf b.now c.now block)) }
-{
-    let mut workers = Sequence::new(alloc);
-    for w in 0..count {
-        let pass = b.split(giver, Actor::Worker(w));
-        workers.push(Worker::new(pass, block))?;
-    }
-    Ok(workers)
-}
-
-/// The clients of the source.
-pub(crate) fn outsiders_of(
-    alloc: Global,
-    b: &Baton,
-    giver: &mut Pass,
-    c: &Code,
-) -> Result<Sequence<Outsider>, NoMemory>
-    requires giver { IsGiver b.now c.now giver.old.knows.given giver.old }
-    requires new { (n : ℕ) → among giver.old.knows.given (actor.Client n) ≡ false }
-    ensures giver { IfOk result (λ os. IsGiver b.now c.now
-        (giver.old.knows.given ++ names_of (map outsider_member os)) giver.new) }
-    ensures many { IfOk result (λ os. length os ≡ length c.now.heads.clients) }
-    ensures outsiders { IfOk result (AtIndex (IsOutsiderOf b.now c.now)) }
-{
-    let mut outsiders = Sequence::new(alloc);
-    for k in 0..c.program().heads.clients.len() {
-        let client = k as u32;
-        let pass = b.split(giver, Actor::Client(client));
-        outsiders.push(Outsider::new(pass, client))?;
-    }
-    Ok(outsiders)
 }
 
 /// The caller of this index, whose number follows those of the clients of the source and of the

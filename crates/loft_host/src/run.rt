@@ -11,11 +11,12 @@ ghost use Rattle.loft_actor.specs.Members.{AtIndex, IsGiver, IsStationOf, IsWork
 ghost use Rattle.loft_host.specs.Callers.{IsCallerOf};
 ghost use Rattle.loft_host.specs.Gathered.{everyone};
 
-use crate::begin::{desks_of, outsiders_of, stations_of, workers_of};
+use crate::begin::{desks_of, stations_of};
 use crate::caller::Caller;
 use crate::desk::Desk;
 use crate::end::{end_desks, end_outsiders, end_stations, end_workers};
 use crate::engines::rounds_of_all;
+use loft_actor::{outsiders_of, workers_of};
 use loft_base::{Gate, NoMemory, RunOptions};
 use loft_baton::{Baton, Pass, closed_histories_are_legal};
 use loft_code::Code;

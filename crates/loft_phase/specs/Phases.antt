@@ -1,5 +1,5 @@
 -- What a phase leaves of all actors (docs/ACTORS.md, "Phases").
-use Rattle.std.specs.Prelude.{◌≡◌, ◌≢◌, ℕ, ◌<◌, List, length, slice_index_or}
+use Rattle.std.specs.Prelude.{◌≡◌, ◌≢◌, false, ℕ, ◌<◌, List, length, slice_index_or}
 use Rattle.atomic_table.specs.Seated.{TableId}
 use Rattle.loft_code.specs.declared.raw.CodeProgram.{CodeProgram}
 use Rattle.loft_station.specs.declared.worker.Worker.{Worker}
@@ -31,3 +31,9 @@ OutsiderStays b x old new = outsider.IsReady b x new × outsider.IsSame old new
 -- as many elements: R at this index, and the others as they were
 abbrev pub GoesOnAt : {A : Type 0} → (A → A → Type 0) → ℕ → List A → List A → Type 0
 GoesOnAt {A} R k xs ys = (length ys ≡ length xs) × ((i : ℕ) (d : A) → i < length xs → (i ≡ k → R (slice_index_or xs i d) (slice_index_or ys i d)) × (i ≢ k → slice_index_or ys i d ≡ slice_index_or xs i d))
+
+-- the same worker, with the entries that it has to make; where memory wasn't refused to it, it has no job in hand
+pub record WorkedOn (b : TableId) (x : CodeProgram) (old new : Worker) : Type 0 where
+  pub kept : worker.IsKept b x new
+  pub same : worker.IsSame old new
+  pub ready : new.refused ≡ false → worker.IsReady b x new

@@ -2,7 +2,9 @@
 #![tactic(auto)]
 
 mod alone;
+mod jobs;
 mod phases;
 
 pub use alone::go_alone;
+pub use jobs::work_alone;
 pub use phases::{Actors, phase};

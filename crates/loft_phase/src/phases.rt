@@ -169,7 +169,7 @@ fn stations_went_on<E: Engine>(stations: &[Station<E>]) -> bool
 }
 
 /// Whether memory was refused to none of these workers.
-fn workers_went_on(workers: &[Worker]) -> bool
+pub(crate) fn workers_went_on(workers: &[Worker]) -> bool
     ensures { IsTrue result → All (λ v. v.refused ≡ false) workers.now }
 {
     workers.iter().all(|worker| !worker.refused)
