@@ -4,5 +4,6 @@ pub mod PlanLemmas
 pub mod Reading
 pub mod StreamLemmas
 pub mod Walking
+pub mod WholeLines
 pub mod Wrapping
 pub mod WritesLemmas

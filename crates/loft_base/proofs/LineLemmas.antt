@@ -1,9 +1,13 @@
 -- Where the first line of a text ends.
-use Rattle.std.proofs.Common.{◌≡◌, ℕ, ◌+◌, ◌-◌, ◌≤◌, ◌==◌, List, [], ◌∷◌, length, take, Bool, true, false, if◌then◌else◌, Option, Some, None, refl, ap, ◌∙◌, arith}
+use Rattle.std.proofs.Common.{◌≡◌, ℕ, zero, suc, ◌+◌, ◌-◌, ◌<◌, ◌≤◌, ◌==◌, List, [], ◌∷◌, length, take, drop, Bool, true, false, if◌then◌else◌, Option, Some, None, refl, ap, subst, ◌∙◌, arith}
 use Rattle.std.proofs.lemmas.List.{take_all}
 use Rattle.std.proofs.lemmas.Grind.{common_steps}
+use Rattle.std.proofs.lemmas.Bool.Decides.{nat_tests}
+use Rattle.std.proofs.lemmas.Bool.{false≢true}
 use Rattle.std.specs.List.{position_from}
 use Rattle.std.specs.Io.BufRead.{take_through}
+use Rattle.loft_base.specs.Outside.{is_line}
+use Rattle.loft_base.specs.Writing.{are_lines}
 
 -- the index of the first line feed, where the first byte has the index k
 abbrev line_feed : ℕ → List ℕ → Option ℕ
@@ -36,3 +40,58 @@ open-from k (x ∷ xs) e = open-step (x == 10) k x xs (open-from (k + 1) xs) e
 -- a text without a line feed is one line
 pub open_line : (xs : List ℕ) → line_feed 0 xs ≡ None → take (length xs) xs ≡ take_through 10 xs
 open_line xs e = take_all (length xs) xs (omega arith) ∙ open-from 0 xs e
+
+-- ---- lines
+
+-- the first line of whole lines is a line
+first-step : (x : ℕ) (xs : List ℕ) (b : Bool) → (x == 10) ≡ b → is_line (take_through 10 xs) ≡ true → is_line (if b then x ∷ [] else x ∷ take_through 10 xs) ≡ true
+first-step x xs true is later = rw is refl
+first-step x xs false is later = rw is later
+
+last-step : (x : ℕ) (b : Bool) → (x == 10) ≡ b → b ≡ true → is_line (if b then x ∷ [] else x ∷ []) ≡ true
+last-step x true is all = rw is refl
+last-step x false is all = absurd (false≢true all)
+
+first_is_line : (xs : List ℕ) → 0 < length xs → are_lines xs ≡ true → is_line (take_through 10 xs) ≡ true
+first_is_line [] some all = absurd (omega (arith, some))
+first_is_line (x ∷ []) some all = last-step x (x == 10) refl all
+first_is_line (x ∷ y ∷ ys) some all = first-step x (y ∷ ys) (x == 10) refl (first_is_line (y ∷ ys) (omega arith) all)
+
+pub found_is_line : (xs : List ℕ) (i : ℕ) → 0 < length xs → are_lines xs ≡ true → line_feed 0 xs ≡ Some i → is_line (take (i + 1) xs) ≡ true
+found_is_line xs i some all e = ap is_line (found_line xs i e) ∙ first_is_line xs some all
+
+pub open_is_line : (xs : List ℕ) → 0 < length xs → are_lines xs ≡ true → line_feed 0 xs ≡ None → is_line (take (length xs) xs) ≡ true
+open_is_line xs some all e = ap is_line (open_line xs e) ∙ first_is_line xs some all
+
+-- what comes after some of them is made of lines, too
+pub rest_are_lines : (n : ℕ) (xs : List ℕ) → are_lines xs ≡ true → are_lines (drop n xs) ≡ true
+rest_are_lines zero xs all = all
+rest_are_lines (suc n) [] all = all
+rest_are_lines (suc n) (x ∷ []) all = rest_are_lines n [] refl
+rest_are_lines (suc n) (x ∷ y ∷ ys) all = rest_are_lines n (y ∷ ys) all
+
+-- a piece is a line exactly where its first line feed is its last byte
+at_last : (n k : ℕ) → (n == 0) ≡ (k + 1 == k + suc n)
+at_last n k = grind (arith, nat_tests)
+
+ended-step : (x k i : ℕ) (xs : List ℕ) (b : Bool) → (line_feed (k + 1) xs ≡ Some i → is_line xs ≡ (i + 1 == k + 1 + length xs)) → (if b then Some k else line_feed (k + 1) xs) ≡ Some i → (if b then length xs == 0 else is_line xs) ≡ (i + 1 == k + suc (length xs))
+ended-step x k i xs true later e = let is : k ≡ i = cc in subst (λ n. (length xs == 0) ≡ (n + 1 == k + suc (length xs))) is (at_last (length xs) k)
+ended-step x k i xs false later e = let n : k + 1 + length xs ≡ k + suc (length xs) = omega arith in later e ∙ ap (λ m. i + 1 == m) n
+
+ended-from : (k : ℕ) (xs : List ℕ) (i : ℕ) → line_feed k xs ≡ Some i → is_line xs ≡ (i + 1 == k + length xs)
+ended-from k [] i e = absurd cc
+ended-from k (x ∷ xs) i e = ended-step x k i xs (x == 10) (ended-from (k + 1) xs i) e
+
+pub ended_there : (xs : List ℕ) (i : ℕ) → line_feed 0 xs ≡ Some i → is_line xs ≡ (i + 1 == length xs)
+ended_there xs i e = let n : 0 + length xs ≡ length xs = omega arith in ended-from 0 xs i e ∙ ap (λ m. i + 1 == m) n
+
+not-step : (k : ℕ) (xs : List ℕ) (b : Bool) → (line_feed (k + 1) xs ≡ None → is_line xs ≡ false) → (if b then Some k else line_feed (k + 1) xs) ≡ None → (if b then length xs == 0 else is_line xs) ≡ false
+not-step k xs true later e = absurd cc
+not-step k xs false later e = later e
+
+not-from : (k : ℕ) (xs : List ℕ) → line_feed k xs ≡ None → is_line xs ≡ false
+not-from k [] e = refl
+not-from k (x ∷ xs) e = not-step k xs (x == 10) (not-from (k + 1) xs) e
+
+pub not_ended : (xs : List ℕ) → line_feed 0 xs ≡ None → is_line xs ≡ false
+not_ended xs e = not-from 0 xs e

@@ -1,5 +1,5 @@
 -- What the sink in memory holds, what it still takes, and which of its puts are planned to fail.
-use Rattle.std.specs.Prelude.{ℕ, ◌+◌, ◌-◌, ◌==◌, min, List, ◌++◌, length, drop, replicate, Option, Some, None, slice_get, slice_set, unwrap_or, if◌then◌else◌, vec_len}
+use Rattle.std.specs.Prelude.{ℕ, Bool, ◌+◌, ◌-◌, ◌==◌, min, List, ◌++◌, length, drop, replicate, Option, Some, None, slice_get, slice_set, unwrap_or, if◌then◌else◌, vec_len}
 use Rattle.loft_base.specs.Outside.{last_count}
 use Rattle.loft_base.specs.declared.in_memory.MemSink.{MemSink}
 
@@ -18,6 +18,10 @@ faults_of sink = sink.faults
 -- how many puts there were
 abbrev pub puts_of : MemSink → ℕ
 puts_of sink = sink.puts
+
+-- whether each piece that it took whole was a line
+abbrev pub by_lines_of : MemSink → Bool
+by_lines_of sink = sink.by_lines
 
 -- the number of the next put, counted from 1; a count stays at its last value
 abbrev pub next_put : MemSink → ℕ

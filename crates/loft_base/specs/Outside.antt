@@ -1,5 +1,5 @@
 -- What files and a sink may do.
-use Rattle.std.specs.Prelude.{◌≡◌, ℕ, ◌-◌, ◌^◌, ◌<◌, ◌≤◌, ◌⊎◌, List, ◌++◌, length, take, drop, Option, Some, None}
+use Rattle.std.specs.Prelude.{◌≡◌, ℕ, ◌-◌, ◌^◌, ◌<◌, ◌≤◌, ◌⊎◌, ◌==◌, Bool, false, List, [], ◌∷◌, ◌++◌, length, take, drop, Option, Some, None, if◌then◌else◌}
 use Rattle.std.proofs.Common.{refl, ap, append_assoc}
 
 -- the last value of a count of faults
@@ -32,3 +32,8 @@ GrowsByPrefix old new bytes = (n : ℕ) × (new ≡ appended old (take n bytes))
 pub appended-append : (known : Option (List ℕ)) (a b : List ℕ) → appended (appended known a) b ≡ appended known (a ++ b)
 appended-append None a b = refl
 appended-append (Some written) a b = ap (λ x. Some x) (append_assoc written a b)
+
+-- a piece is a line: its last byte is its only line feed
+abbrev pub is_line : List ℕ → Bool
+is_line [] = false
+is_line (x ∷ rest) = if x == 10 then length rest == 0 else is_line rest

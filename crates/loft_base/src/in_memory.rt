@@ -7,6 +7,7 @@ ghost use Rattle.loft_base.specs.MemFiles.{contents_of, is_planned};
 
 use crate::errors::{Failed, NoMemory};
 use crate::outside::{Files, Gate, Sink, Turn};
+use crate::writing::is_line;
 use std::alloc::Global;
 use std::collections::HashMap;
 use std::sync::Wait;
@@ -183,13 +184,14 @@ pub struct MemSink {
     capacity: usize,
     faults: u64,
     puts: usize,
+    by_lines: bool,
     plan: Vec<Option<usize>>,
     ghost reserved: { capacity ≤ vec_capacity bytes },
     ghost bounded: { vec_len bytes ≤ capacity },
 }
 
 impl MemSink {
-    ghost use Rattle.loft_base.specs.MemSink.{bytes_of, room_of, faults_of, puts_of, next_put, plan_of, planned_keep, planned_at};
+    ghost use Rattle.loft_base.specs.MemSink.{bytes_of, room_of, faults_of, puts_of, by_lines_of, next_put, plan_of, planned_keep, planned_at};
 
     /// An empty sink that takes `capacity` bytes; no fault is planned.
     pub fn new(alloc: Global, capacity: usize) -> Result<MemSink, NoMemory>
@@ -198,6 +200,7 @@ impl MemSink {
         ensures no_fault { IfOk result (λ sink. faults_of sink ≡ 0) }
         ensures no_put { IfOk result (λ sink. puts_of sink ≡ 0) }
         ensures unplanned { IfOk result (λ sink. plan_of sink ≡ []) }
+        ensures by_lines { IfOk result (λ sink. by_lines_of sink ≡ true) }
     {
         let bytes = Vec::with_capacity(alloc, capacity)?;
         Ok(MemSink {
@@ -205,6 +208,7 @@ impl MemSink {
             capacity,
             faults: 0,
             puts: 0,
+            by_lines: true,
             plan: Vec::new(alloc),
         })
     }
@@ -222,6 +226,7 @@ impl MemSink {
         ensures same_room { room_of self.new ≡ room_of self.old }
         ensures same_puts { puts_of self.new ≡ puts_of self.old }
         ensures same_faults { faults_of self.new ≡ faults_of self.old }
+        ensures same_lines { by_lines_of self.new ≡ by_lines_of self.old }
     {
         let Ok(call) = usize::try_from(call) else {
             return Err(NoMemory);
@@ -242,6 +247,13 @@ impl MemSink {
         self.bytes.as_slice()
     }
 
+    /// Whether each piece that it took whole was a line.
+    pub fn by_lines(&self) -> bool
+        ensures { result ≡ by_lines_of self.now }
+    {
+        self.by_lines
+    }
+
     /// Counts a put, and gives how many bytes of its piece it keeps, where it is planned to fail.
     fn next_plan(&mut self) -> Option<usize>
         ensures planned { result ≡ planned_keep self.old }
@@ -249,6 +261,7 @@ impl MemSink {
         ensures counted { puts_of self.new ≡ next_put self.old }
         ensures same_bytes { self.new.bytes ≡ self.old.bytes }
         ensures same_capacity { self.new.capacity ≡ self.old.capacity }
+        ensures same_lines { self.new.by_lines ≡ self.old.by_lines }
         ensures same_faults { faults_of self.new ≡ faults_of self.old }
     {
         let plan = self.plan.get(self.puts).copied().flatten();
@@ -263,6 +276,7 @@ impl MemSink {
         ensures never_falls { faults_of self.old ≤ faults_of self.new }
         ensures same_bytes { self.new.bytes ≡ self.old.bytes }
         ensures same_capacity { self.new.capacity ≡ self.old.capacity }
+        ensures same_lines { self.new.by_lines ≡ self.old.by_lines }
         ensures same_puts { puts_of self.new ≡ puts_of self.old }
         ensures same_plan { plan_of self.new ≡ plan_of self.old }
     {
@@ -272,15 +286,17 @@ impl MemSink {
 }
 
 impl Sink for MemSink {
-    ghost use Rattle.std.specs.Prelude.{IfNone};
-    ghost use Rattle.loft_base.specs.Outside.{GrowsByPrefix};
-    ghost use Rattle.loft_base.specs.MemSink.{bytes_of, room_of, faults_of, puts_of, next_put, plan_of, planned_keep, known_room};
+    ghost use Rattle.std.specs.Prelude.{IfNone, ◌&&◌};
+    ghost use Rattle.loft_base.specs.Outside.{GrowsByPrefix, is_line};
+    ghost use Rattle.loft_base.specs.MemSink.{bytes_of, room_of, faults_of, puts_of, by_lines_of, next_put, plan_of, planned_keep, known_room};
 
     ghost written = { λ sink. Some (bytes_of sink) };
 
     ghost faults = { faults_of };
 
     ghost room = { known_room };
+
+    ghost by_lines = { by_lines_of };
 
     /// Appends a piece exactly where it fits and no fault is planned for it. Else it is a fault: a
     /// piece that doesn't fit appends nothing, and one that is planned to fail its beginning.
@@ -310,12 +326,16 @@ impl Sink for MemSink {
         ensures no_fault { OnOk result (faults_of self.new ≡ faults_of self.old) }
         ensures cause { OnErr result (Rose (faults_of self.old) (faults_of self.new)) }
         ensures never_falls { faults_of self.old ≤ faults_of self.new }
+
+        ensures by_lines { OnOk result (by_lines_of self.new ≡ (by_lines_of self.old && is_line bytes.now)) }
+        ensures same_lines { OnErr result (by_lines_of self.new ≡ by_lines_of self.old) }
     {
         let planned = self.next_plan();
         if self.capacity - self.bytes.len() < bytes.len() {
             return self.fault();
         }
         let Some(keep) = planned else {
+            self.by_lines &= is_line(bytes);
             self.bytes.extend_from_slice(bytes).unwrap();
             return Ok(());
         };

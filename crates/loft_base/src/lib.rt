@@ -32,4 +32,4 @@ pub use outside::{Files, Gate, Sink, Turn};
 pub use room::Room;
 pub use walk::FileWalk;
 pub use whole::read_whole;
-pub use writing::{WriteError, write_lines, write_piece};
+pub use writing::{WriteError, write_lines};

@@ -2,8 +2,8 @@
 //! sink that takes its answer, and a gate that threads pass. What an implementation may do is said
 //! by meanings that only contracts see; a fault comes only where its count of faults rose.
 
-ghost use Rattle.std.specs.Prelude.{◌≡◌, ◌-◌, ◌+◌, ◌^◌, ◌<◌, ◌≤◌, ℕ, List, Option, Bool, false, length, IsTrue, IsOk, IsErr, IfOk, OnOk, OnErr, IfSome};
-ghost use Rattle.loft_base.specs.Outside.{Rose, IsNextPlace, IsPart, appended, GrowsByPrefix};
+ghost use Rattle.std.specs.Prelude.{◌≡◌, ◌-◌, ◌+◌, ◌^◌, ◌<◌, ◌≤◌, ℕ, List, Option, Bool, false, length, IsTrue, IsOk, IsErr, IfOk, OnOk, OnErr, IfSome, ◌&&◌};
+ghost use Rattle.loft_base.specs.Outside.{Rose, IsNextPlace, IsPart, appended, GrowsByPrefix, is_line};
 
 use crate::errors::Failed;
 use crate::ids::SchedId;
@@ -72,6 +72,9 @@ pub trait Sink {
     /// How many more bytes it is known to take without a fault.
     ghost room: { Self → ℕ } = { λ _. 0 };
 
+    /// Whether each piece that it took whole is known to have been a line.
+    ghost by_lines: { Self → Bool } = { λ _. false };
+
     /// Writes a piece. `Failed` comes only where the count of faults rose; a prefix of the piece
     /// was then written.
     fn put(&mut self, bytes: &[u8]) -> Result<(), Failed>
@@ -84,7 +87,10 @@ pub trait Sink {
 
         ensures sure { length bytes.now ≤ room self.old → IsOk result }
         ensures no_fault { length bytes.now ≤ room self.old → faults self.new ≡ faults self.old }
-        ensures room_left { OnOk result (room self.old ≤ room self.new + length bytes.now) };
+        ensures room_left { OnOk result (room self.old ≤ room self.new + length bytes.now) }
+
+        ensures by_lines { OnOk result (by_lines self.new ≡ (by_lines self.old && is_line bytes.now)) }
+        ensures same_lines { OnErr result (by_lines self.new ≡ by_lines self.old) };
 }
 
 /// What a thread passes through: an instant of a scheduler, with the instant's number from 1, or

@@ -1,3 +1,4 @@
 pub mod Written
 pub mod Doing
 pub mod Reported
+pub mod AnswerLines

@@ -3,7 +3,7 @@ use Rattle.std.proofs.Common.{◌≡◌, ℕ, List, [], ◌++◌, take, drop, in
 use Rattle.std.specs.Prelude.{OnOk, OnErr}
 use Rattle.std.proofs.lemmas.List.{take-append-drop}
 use Rattle.loft_base.specs.Outside.{appended, GrowsByPrefix}
-use Rattle.loft_commands.specs.Written.{Appends, IsPrefix}
+use Rattle.loft_commands.specs.Written.{Appends, IsPrefix, HasNoRoom}
 
 -- what was appended is a text of which P holds
 pub appends : {old new : Option (List ℕ)} {P : List ℕ → Type 0} (text : List ℕ) → new ≡ appended old text → P text → Appends old new P
@@ -29,6 +29,10 @@ part_of P Q f part = λ written known. let (text, grew, is) = part written known
 -- the same of a whole text
 pub whole_of : {old new : Option (List ℕ)} (P Q : List ℕ → Type 0) → ((text : List ℕ) → P text → Q text) → Appends old new P → Appends old new Q
 whole_of P Q f whole = λ written known. let (text, grew, is) = whole written known in (text, grew, f text is)
+
+-- the same of a text for which there is no room
+pub room_of : {room : ℕ} (P Q : List ℕ → Type 0) → ((text : List ℕ) → P text → Q text) → HasNoRoom room P → HasNoRoom room Q
+room_of P Q f (text, is, longer) = (text, f text is, longer)
 
 -- from where nothing was appended
 pub from_same : {old mid new : Option (List ℕ)} (P : List ℕ → Type 0) → mid ≡ old → Appends mid new P → Appends old new P

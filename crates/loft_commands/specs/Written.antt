@@ -1,5 +1,5 @@
 -- What a sink is given.
-use Rattle.std.specs.Prelude.{◌≡◌, ℕ, ◌⊎◌, List, [], ◌∷◌, ◌++◌, Option, Some}
+use Rattle.std.specs.Prelude.{◌≡◌, ℕ, ◌<◌, ◌⊎◌, List, [], ◌∷◌, ◌++◌, length, Option, Some}
 
 -- what a sink tells grew by a text of which P holds
 abbrev pub Appends : Option (List ℕ) → Option (List ℕ) → (List ℕ → Type 0) → Type 0
@@ -12,3 +12,7 @@ IsLine line text = text ≡ line ++ 10 ∷ []
 -- the text is empty, or a prefix of one of which P holds
 abbrev pub IsPrefix : (List ℕ → Type 0) → List ℕ → Type 0
 IsPrefix P text = (text ≡ []) ⊎ ((rest : List ℕ) × P (text ++ rest))
+
+-- a text of which P holds has more bytes than there is room for
+abbrev pub HasNoRoom : ℕ → (List ℕ → Type 0) → Type 0
+HasNoRoom room P = (text : List ℕ) × P text × (room < length text)

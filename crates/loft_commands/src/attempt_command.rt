@@ -5,7 +5,7 @@ ghost use Rattle.loft_base.specs.Outside.{Rose};
 ghost use Rattle.loft_words.specs.Command.{file_of};
 ghost use Rattle.loft_words.specs.Ranges.{KeepsRanges};
 ghost use Rattle.loft_words.specs.CommandView.{file_command_of};
-ghost use Rattle.loft_commands.specs.Doing.{Attempts};
+ghost use Rattle.loft_commands.specs.Doing.{AttemptsTo};
 
 use crate::command::{check, exec, list_code, run, show_text, tell_bounds};
 use loft_base::{Files, Gate, Sink};
@@ -26,9 +26,8 @@ pub fn attempt<R: Threads + Wait + Sync, F: Files, S: Sink, G: Gate>(
 ) -> Result<(), Stopped>
     requires file { IsTrue (F.may_ask files.old (file_of (file_command_of command))) }
     requires ranges { KeepsRanges (file_command_of command) }
-    ensures attempts { Attempts (file_command_of command.entry)
-        (F.contents files.old (file_of (file_command_of command.entry))) result
-        (S.written sink.old) (S.written sink.new) }
+    ensures attempts { AttemptsTo S.written S.room S.by_lines sink.old sink.new result
+        (file_command_of command.entry) (F.contents files.old (file_of (file_command_of command.entry))) }
     ensures file_fault { IsErrOf result Stopped.FileFault → Rose (F.faults files.old) (F.faults files.new) }
     ensures sink_fault { IsErrOf result Stopped.SinkFault → Rose (S.faults sink.old) (S.faults sink.new) }
     ensures never_falls { S.faults sink.old ≤ S.faults sink.new }

@@ -1,11 +1,11 @@
 //! Runs code, and writes the report.
 
-ghost use Rattle.std.specs.Prelude.{◌≤◌, IsErrOf, OnOk, OnErr};
+ghost use Rattle.std.specs.Prelude.{◌≤◌, IsErrOf, OnOk, OnErr, IsTrue};
 ghost use Rattle.loft_base.specs.Outside.{Rose};
 ghost use Rattle.loft_code.specs.View.{automata_of};
 ghost use Rattle.loft_sense.specs.Machine.{Code as ByCode};
 ghost use Rattle.loft_base.specs.Options.{AreInRange};
-ghost use Rattle.loft_commands.specs.Written.{Appends, IsPrefix};
+ghost use Rattle.loft_commands.specs.Written.{Appends, IsPrefix, HasNoRoom};
 ghost use Rattle.loft_commands.specs.Promise.{IsReport};
 ghost use Rattle.loft_commands.specs.Options.{options_of};
 
@@ -68,7 +68,7 @@ impl From<RunError> for Stopped {
 }
 
 /// Runs valid code within these limits and with 1 to `MAX_WORKERS` workers, and writes the report
-/// (docs/REPORT.md). `Sink` comes where the sink failed,
+/// (docs/REPORT.md), each line by a `put` of its own. `Sink` comes where the sink failed,
 /// and `NoMemory` where an allocation fails; then a prefix of a report was written.
 pub fn run_code<R: Threads + Wait + Sync, S: Sink, G: Gate>(
     rt: &R,
@@ -86,6 +86,9 @@ pub fn run_code<R: Threads + Wait + Sync, S: Sink, G: Gate>(
         (IsPrefix (IsReport (ByCode (automata_of c.now)) (options_of l workers)))) }
     ensures sink { IsErrOf result RunError.Sink → Rose (S.faults sink.old) (S.faults sink.new) }
     ensures never_falls { S.faults sink.old ≤ S.faults sink.new }
+    ensures no_room { IsErrOf result RunError.Sink
+        → HasNoRoom (S.room sink.old) (IsReport (ByCode (automata_of c.now)) (options_of l workers)) }
+    ensures by_lines { IsTrue (S.by_lines sink.old) → IsTrue (S.by_lines sink.new) }
 {
     reports_of_worlds_are_of_histories();
     made_histories_are_legal();

@@ -1,6 +1,6 @@
 //! What each command does with what it read.
 
-ghost use Rattle.std.specs.Prelude.{◌≡◌, ◌≤◌, ℕ, List, IfOk, IsErrOf, OnOk, OnErr};
+ghost use Rattle.std.specs.Prelude.{◌≡◌, ◌≤◌, ℕ, List, IfOk, IsErrOf, OnOk, OnErr, IsTrue};
 ghost use Rattle.loft_base.specs.Outside.{Rose};
 ghost use Rattle.loft_tree.specs.Resolved.{resolved_of};
 ghost use Rattle.loft_tree.specs.ProgramView.{program_of};
@@ -11,10 +11,10 @@ ghost use Rattle.loft_translation.specs.Compiled.{compiled};
 ghost use Rattle.loft_listing.specs.Listing.{listing_text};
 ghost use Rattle.loft_words.specs.Command.{Run, Exec, Show, Check, Compile, Bound, Expand};
 ghost use Rattle.loft_base.specs.Options.{AreInRange};
-ghost use Rattle.loft_commands.specs.Written.{Appends, IsPrefix};
+ghost use Rattle.loft_commands.specs.Written.{Appends, IsPrefix, HasNoRoom};
 ghost use Rattle.loft_refusal.specs.Input.{ASource, AListing, AnExpansion};
 ghost use Rattle.loft_commands.specs.Promise.{IsReport};
-ghost use Rattle.loft_commands.specs.Doing.{Does};
+ghost use Rattle.loft_commands.specs.Doing.{DoesTo};
 
 use crate::code_run::{RunError, run_code};
 use loft_base::{Gate, NoMemory, RunOptions, Sink, write_lines};
@@ -47,6 +47,9 @@ fn run_program<R: Threads + Wait + Sync, S: Sink, G: Gate>(
         (IsPrefix (IsReport (Tree (resolved_of (program_of placed.now))) options.now))) }
     ensures sink { IsErrOf result RunError.Sink → Rose (S.faults sink.old) (S.faults sink.new) }
     ensures never_falls { S.faults sink.old ≤ S.faults sink.new }
+    ensures no_room { IsErrOf result RunError.Sink
+        → HasNoRoom (S.room sink.old) (IsReport (Tree (resolved_of (program_of placed.now))) options.now) }
+    ensures by_lines { IsTrue (S.by_lines sink.old) → IsTrue (S.by_lines sink.new) }
 {
     compiled_code_has_the_same_histories();
     placed.program();
@@ -72,8 +75,8 @@ pub fn run<R: Threads + Wait + Sync, S: Sink, G: Gate>(
     gate: &G,
 ) -> Result<(), Stopped>
     requires range { AreInRange options.now }
-    ensures does { (file : List ℕ) → Does (Run file options.now) (ASource (source_of program)) result
-        (S.written sink.old) (S.written sink.new) }
+    ensures does { (file : List ℕ) → DoesTo S.written S.room S.by_lines sink.old sink.new result
+        (Run file options.now) (ASource (source_of program)) }
     ensures sink_fault { IsErrOf result Stopped.SinkFault → Rose (S.faults sink.old) (S.faults sink.new) }
     ensures never_falls { S.faults sink.old ≤ S.faults sink.new }
 {
@@ -92,8 +95,8 @@ pub fn exec<R: Threads + Wait + Sync, S: Sink, G: Gate>(
     gate: &G,
 ) -> Result<(), Stopped>
     requires range { AreInRange options.now }
-    ensures does { (file : List ℕ) → Does (Exec file options.now) (AListing (automata_of code.now)) result
-        (S.written sink.old) (S.written sink.new) }
+    ensures does { (file : List ℕ) → DoesTo S.written S.room S.by_lines sink.old sink.new result
+        (Exec file options.now) (AListing (automata_of code.now)) }
     ensures sink_fault { IsErrOf result Stopped.SinkFault → Rose (S.faults sink.old) (S.faults sink.new) }
     ensures never_falls { S.faults sink.old ≤ S.faults sink.new }
 {
@@ -104,8 +107,8 @@ pub fn exec<R: Threads + Wait + Sync, S: Sink, G: Gate>(
 
 /// `check`: `ok`, where names and links are correct.
 pub fn check<S: Sink>(alloc: Global, program: Program, sink: &mut S) -> Result<(), Stopped>
-    ensures does { (file : List ℕ) → Does (Check file) (ASource (source_of program)) result
-        (S.written sink.old) (S.written sink.new) }
+    ensures does { (file : List ℕ) → DoesTo S.written S.room S.by_lines sink.old sink.new result
+        (Check file) (ASource (source_of program)) }
     ensures sink_fault { IsErrOf result Stopped.SinkFault → Rose (S.faults sink.old) (S.faults sink.new) }
     ensures never_falls { S.faults sink.old ≤ S.faults sink.new }
 {
@@ -125,8 +128,8 @@ fn listing_of(alloc: Global, placed: &Placed) -> Result<Vec<u8>, NoMemory>
 
 /// `compile`: the listing of the program's code, where names and links are correct.
 pub fn list_code<S: Sink>(alloc: Global, program: Program, sink: &mut S) -> Result<(), Stopped>
-    ensures does { (file : List ℕ) → Does (Compile file) (ASource (source_of program)) result
-        (S.written sink.old) (S.written sink.new) }
+    ensures does { (file : List ℕ) → DoesTo S.written S.room S.by_lines sink.old sink.new result
+        (Compile file) (ASource (source_of program)) }
     ensures sink_fault { IsErrOf result Stopped.SinkFault → Rose (S.faults sink.old) (S.faults sink.new) }
     ensures never_falls { S.faults sink.old ≤ S.faults sink.new }
 {
@@ -138,8 +141,8 @@ pub fn list_code<S: Sink>(alloc: Global, program: Program, sink: &mut S) -> Resu
 
 /// `bound`: the step bounds of the modules, where names and links are correct.
 pub fn tell_bounds<S: Sink>(alloc: Global, program: Program, sink: &mut S) -> Result<(), Stopped>
-    ensures does { (file : List ℕ) → Does (Bound file) (ASource (source_of program)) result
-        (S.written sink.old) (S.written sink.new) }
+    ensures does { (file : List ℕ) → DoesTo S.written S.room S.by_lines sink.old sink.new result
+        (Bound file) (ASource (source_of program)) }
     ensures sink_fault { IsErrOf result Stopped.SinkFault → Rose (S.faults sink.old) (S.faults sink.new) }
     ensures never_falls { S.faults sink.old ≤ S.faults sink.new }
 {
@@ -151,10 +154,10 @@ pub fn tell_bounds<S: Sink>(alloc: Global, program: Program, sink: &mut S) -> Re
 
 /// `show`: the canonical text; and `expand`: that of the program that a text with locks stands for.
 pub fn show_text<S: Sink>(alloc: Global, program: &Program, sink: &mut S) -> Result<(), Stopped>
-    ensures does { (file : List ℕ) → Does (Show file) (ASource (source_of program.now)) result
-        (S.written sink.old) (S.written sink.new) }
-    ensures expands { (file : List ℕ) → Does (Expand file) (AnExpansion (source_of program.now)) result
-        (S.written sink.old) (S.written sink.new) }
+    ensures does { (file : List ℕ) → DoesTo S.written S.room S.by_lines sink.old sink.new result
+        (Show file) (ASource (source_of program.now)) }
+    ensures expands { (file : List ℕ) → DoesTo S.written S.room S.by_lines sink.old sink.new result
+        (Expand file) (AnExpansion (source_of program.now)) }
     ensures sink_fault { IsErrOf result Stopped.SinkFault → Rose (S.faults sink.old) (S.faults sink.new) }
     ensures never_falls { S.faults sink.old ≤ S.faults sink.new }
 {

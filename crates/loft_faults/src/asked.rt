@@ -111,7 +111,7 @@ pub fn files(alloc: Global, contents: Contents) -> Result<MemFiles, Fail> {
 
 /// A sink that is large enough for each answer, and no fault planned.
 pub fn sink(alloc: Global) -> Result<MemSink, Fail> {
-    Ok(MemSink::new(alloc, 1024)?)
+    Ok(MemSink::new(alloc, 65_536)?)
 }
 
 /// How the command ends.

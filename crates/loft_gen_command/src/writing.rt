@@ -21,7 +21,8 @@ pub fn write_source<S: Sink>(alloc: Global, k: u32, sink: &mut S) -> Result<(), 
     requires some { 1 ≤ k }
     requires few { k ≤ 1000 }
     ensures { WritesOneOf (λ text. text ≡ generated k) result (S.written sink.old) (S.written sink.new)
-        (S.faults sink.old) (S.faults sink.new) (S.room sink.old) (S.room sink.new) }
+        (S.faults sink.old) (S.faults sink.new) (S.room sink.old) (S.room sink.new)
+        (S.by_lines sink.old) (S.by_lines sink.new) }
 {
     let text = source_of(alloc, k)?;
     write_lines(text.as_slice(), sink)
@@ -43,7 +44,8 @@ pub fn write_summary<R: Threads + Wait + Sync, S: Sink, G: Gate>(
     requires some { 1 ≤ k }
     requires few { k ≤ 1000 }
     ensures { WritesOneOf (IsSummary k) result (S.written sink.old) (S.written sink.new)
-        (S.faults sink.old) (S.faults sink.new) (S.room sink.old) (S.room sink.new) }
+        (S.faults sink.old) (S.faults sink.new) (S.room sink.old) (S.room sink.new)
+        (S.by_lines sink.old) (S.by_lines sink.new) }
 {
     let text = summary_of(rt, alloc, k, gate)?;
     write_lines(text.as_slice(), sink)

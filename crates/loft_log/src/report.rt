@@ -5,7 +5,7 @@ mod instants;
 mod left;
 mod lines;
 
-ghost use Rattle.std.specs.Prelude.{◌≡◌, ◌≤◌, ◌++◌, [], ◌∷◌, ℕ, List, map, OnOk, OnErr, IfOk, IsErrOf};
+ghost use Rattle.std.specs.Prelude.{◌≡◌, ◌<◌, ◌≤◌, ◌++◌, [], ◌∷◌, ℕ, List, length, map, OnOk, OnErr, IfOk, IsErrOf, IsTrue};
 ghost use Rattle.std.specs.Fmt.{decimal};
 ghost use Rattle.loft_base.specs.Outside.{Rose, appended, GrowsByPrefix};
 ghost use Rattle.loft_sense.specs.Heads.{scheduler, shared_of};
@@ -21,7 +21,7 @@ use self::lines::{
     make_line, make_number_line, make_scheduler_line, make_standing_line, make_text_line,
     make_value_line,
 };
-use loft_base::{NoMemory, RunOptions, SchedId, Sink, WriteError, write_piece};
+use loft_base::{NoMemory, RunOptions, SchedId, Sink, WriteError, write_lines};
 use loft_instant_text::InOneLine;
 use loft_orders::{FinalState, InstantNote, Standing};
 use loft_text::LineBuffer;
@@ -34,7 +34,7 @@ use std::alloc::Global;
 ///
 /// `Sink` comes where the sink failed, and its count of faults rose. `NoMemory` comes where it is out of
 /// memory for a line, and where so many schedulers or orders would be. In both cases a prefix of the report was
-/// written.
+/// written. Each line is written by a `put` of its own.
 pub fn write_report<S: Sink>(
     alloc: Global,
     heads: &Heads,
@@ -51,6 +51,13 @@ pub fn write_report<S: Sink>(
         (world_report heads.now options.now world.now.history notes.now.of finals.now.of)) }
     ensures sink { IsErrOf result WriteError.Sink → Rose (S.faults sink.old) (S.faults sink.new) }
     ensures never_falls { S.faults sink.old ≤ S.faults sink.new }
+
+    // The sink is blamed only for a report that has more bytes than it was known to take.
+    ensures blamed { IsErrOf result WriteError.Sink → S.room sink.old < length
+        (world_report heads.now options.now world.now.history notes.now.of finals.now.of) }
+    ensures no_fault { length (world_report heads.now options.now world.now.history notes.now.of finals.now.of)
+        ≤ S.room sink.old → S.faults sink.new ≡ S.faults sink.old }
+    ensures by_lines { IsTrue (S.by_lines sink.old) → IsTrue (S.by_lines sink.new) }
 {
     let writer = ReportWriter { heads };
     let mut line = LineBuffer::new(alloc);
@@ -86,7 +93,7 @@ impl ReportWriter<'_> {
         sink: &mut S,
     ) -> Result<(), WriteError>
         requires heads { world.now.heads ≡ self.now.heads.now }
-        ensures { WritesTo S.written S.faults S.room sink.old sink.new result
+        ensures { WritesTo S.written S.faults S.room S.by_lines sink.old sink.new result
             (world_report self.now.heads.now options.now world.now.history notes.now.of finals.now.of) }
     {
         self.write_head(options, world, line, sink)?;
@@ -103,7 +110,7 @@ impl ReportWriter<'_> {
         line: &mut LineBuffer,
         sink: &mut S,
     ) -> Result<(), WriteError>
-        ensures { WritesTo S.written S.faults S.room sink.old sink.new result
+        ensures { WritesTo S.written S.faults S.room S.by_lines sink.old sink.new result
             (text_of (head_lines self.now.heads.now options.now (map choice_of world.now.history))) }
     {
         self.write_text("loft-report 1", line, sink)?;
@@ -124,7 +131,7 @@ impl ReportWriter<'_> {
         line: &mut LineBuffer,
         sink: &mut S,
     ) -> Result<(), WriteError>
-        ensures { WritesTo S.written S.faults S.room sink.old sink.new result
+        ensures { WritesTo S.written S.faults S.room S.by_lines sink.old sink.new result
             (text_of (world_blocks self.now.heads.now world.now.history
             (schedulers_from 0 self.now.heads.now.schedulers) notes.now finals.now)) }
     {
@@ -147,7 +154,7 @@ impl ReportWriter<'_> {
         line: &mut LineBuffer,
         sink: &mut S,
     ) -> Result<(), WriteError>
-        ensures { WritesTo S.written S.faults S.room sink.old sink.new result
+        ensures { WritesTo S.written S.faults S.room S.by_lines sink.old sink.new result
             (text_of (world_block self.now.heads.now world.now.history s notes.now last.now)) }
     {
         self.write_scheduler("scheduler ", s, line, sink)?;
@@ -163,7 +170,7 @@ impl ReportWriter<'_> {
         line: &mut LineBuffer,
         sink: &mut S,
     ) -> Result<(), WriteError>
-        ensures { WritesTo S.written S.faults S.room sink.old sink.new result
+        ensures { WritesTo S.written S.faults S.room S.by_lines sink.old sink.new result
             (text_of (final_lines self.now.heads.now s last.now.linked last.now.shared)) }
     {
         let linked = last.linked.as_slice();
@@ -180,7 +187,7 @@ impl ReportWriter<'_> {
         line: &mut LineBuffer,
         sink: &mut S,
     ) -> Result<(), WriteError>
-        ensures { WritesTo S.written S.faults S.room sink.old sink.new result
+        ensures { WritesTo S.written S.faults S.room S.by_lines sink.old sink.new result
             (text_of (shared_lines self.now.heads.now
             (shared_of self.now.heads.now s) values.now)) }
     {
@@ -205,7 +212,7 @@ impl ReportWriter<'_> {
         line: &mut LineBuffer,
         sink: &mut S,
     ) -> Result<(), WriteError>
-        ensures { WritesTo S.written S.faults S.room sink.old sink.new result
+        ensures { WritesTo S.written S.faults S.room S.by_lines sink.old sink.new result
             (text_of (map (T.text self.now.heads.now) items.now)) }
     {
         for item in items {
@@ -222,7 +229,7 @@ impl ReportWriter<'_> {
         line: &mut LineBuffer,
         sink: &mut S,
     ) -> Result<(), WriteError>
-        ensures { WritesTo S.written S.faults S.room sink.old sink.new result
+        ensures { WritesTo S.written S.faults S.room S.by_lines sink.old sink.new result
             (text_of (map (standing_line self.now.heads.now) linked.now)) }
     {
         for standing in linked {
@@ -239,7 +246,7 @@ impl ReportWriter<'_> {
         line: &mut LineBuffer,
         sink: &mut S,
     ) -> Result<(), WriteError>
-        ensures { WritesTo S.written S.faults S.room sink.old sink.new result
+        ensures { WritesTo S.written S.faults S.room S.by_lines sink.old sink.new result
             (text.now ++ 10 ∷ []) }
     {
         make_text_line(line, text);
@@ -254,7 +261,7 @@ impl ReportWriter<'_> {
         line: &mut LineBuffer,
         sink: &mut S,
     ) -> Result<(), WriteError>
-        ensures { WritesTo S.written S.faults S.room sink.old sink.new result
+        ensures { WritesTo S.written S.faults S.room S.by_lines sink.old sink.new result
             ((word.now ++ decimal number) ++ 10 ∷ []) }
     {
         make_number_line(line, word, number);
@@ -269,7 +276,7 @@ impl ReportWriter<'_> {
         line: &mut LineBuffer,
         sink: &mut S,
     ) -> Result<(), WriteError>
-        ensures { WritesTo S.written S.faults S.room sink.old sink.new result
+        ensures { WritesTo S.written S.faults S.room S.by_lines sink.old sink.new result
             ((word.now ++ scheduler_name self.now.heads.now s) ++ 10 ∷ []) }
     {
         make_scheduler_line(line, self.heads, word, s);
@@ -280,8 +287,8 @@ impl ReportWriter<'_> {
 /// Writes a line and its line feed, if memory was enough for the line.
 fn write_line<S: Sink>(line: &mut LineBuffer, sink: &mut S) -> Result<(), WriteError>
     ensures { (text : List ℕ) → Holds line.old text
-        → WritesTo S.written S.faults S.room sink.old sink.new result (text ++ 10 ∷ []) }
+        → WritesTo S.written S.faults S.room S.by_lines sink.old sink.new result (text ++ 10 ∷ []) }
 {
     line.byte(b'\n');
-    write_piece(line.whole()?, sink)
+    write_lines(line.whole()?, sink)
 }

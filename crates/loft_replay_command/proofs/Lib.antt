@@ -5,3 +5,4 @@ mod Checked
 mod Sources
 mod Outcomes
 mod Writing
+mod BlockLines

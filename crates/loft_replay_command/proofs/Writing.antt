@@ -1,5 +1,5 @@
 -- From what was found to what the command promises.
-use Rattle.std.proofs.Common.{◌≡◌, ℕ, inl, inr, List, [], Option, Some, None, Result, Ok, Err, refl, sym, ap, subst, append-nil}
+use Rattle.std.proofs.Common.{◌≡◌, ℕ, ◌<◌, Bool, inl, inr, List, [], length, Option, Some, None, Result, Ok, Err, IsTrue, refl, sym, ap, subst, append-nil}
 use Rattle.loft_base.specs.Outside.{appended, GrowsByPrefix}
 use Rattle.loft_base.specs.declared.writing.WriteError.{WriteError}
 use Rattle.loft_base.specs.declared.writing.WriteError.TheVariants as write
@@ -49,8 +49,9 @@ shown old stop.SinkFault some outcome shows = absurd (some refl)
 shown old stop.NoMemory some (Ok text) shows = none_yet old text
 shown old stop.NoMemory some (Err d) shows = refl
 
-pub stopped_replays : (only source report old : Contents) (e : ReplayStop) → (e ≡ stop.SinkFault → ⊥) → Finds only source report (Err e) → Replays only source report (Err e) old old
-stopped_replays only source report old e some finds = record {
+pub stopped_replays : (only source report old : Contents) (room : ℕ) (lines : Bool) (e : ReplayStop) → (e ≡ stop.SinkFault → ⊥) → Finds only source report (Err e)
+    → Replays only source report (Err e) old old room room lines lines
+stopped_replays only source report old room lines e some finds = record {
   done = λ s r k l is. absurd cc;
   source_refused = λ s d k is of_source. subst (λ (i : ReplayStop). IsOfSource i → IsSourceStop only s i) (same_stop d e (Err e) is refl) (stop_says only s e (finds.source_says s k)) of_source;
   report_refused = λ s r q k l is. let same : e ≡ stop.Log q = cc in subst (λ (i : ReplayStop). IsOutcome only s r (Err i)) same (finds.both_say s r k l);
@@ -58,12 +59,16 @@ stopped_replays only source report old e some finds = record {
   source_ends = λ s d k is. shown old e some (Err d) (finds.source_only s d k is);
   silent = λ d is quiet. refl;
   cut = λ s r k l is. not_begun (λ text. ReplayComesTo only s r (Ok text)) refl;
+  no_room = λ s r k l is. absurd (some (same_stop stop.SinkFault e (Err e) is refl));
+  same_room = λ d is quiet. refl;
+  by_lines = λ all. all;
 }
 
 -- ---- something is written
 
-pub written_replays : (only source report old new : Contents) (text : List ℕ) → Finds only source report (Ok text) → new ≡ appended old text → Replays only source report (Ok tt) old new
-written_replays only source report old new text finds grew = record {
+pub written_replays : (only source report old new : Contents) (room left : ℕ) (lines still : Bool) (text : List ℕ) → Finds only source report (Ok text) → new ≡ appended old text
+    → (IsTrue lines → IsTrue still) → Replays only source report (Ok tt) old new room left lines still
+written_replays only source report old new room left lines still text finds grew by_lines = record {
   done = λ s r k l is. appends {P = λ written. ReplayComesTo only s r (Ok written)} text grew (finds.both_say s r k l);
   source_refused = λ s d k is of_source. absurd cc;
   report_refused = λ s r q k l is. absurd cc;
@@ -71,6 +76,9 @@ written_replays only source report old new text finds grew = record {
   source_ends = λ s d k is. absurd (let same = finds.source_only s d k is in cc);
   silent = λ d is quiet. absurd cc;
   cut = λ s r k l is. absurd (elim is [ inl f ↦ cc | inr f ↦ cc ]);
+  no_room = λ s r k l is. absurd cc;
+  same_room = λ d is quiet. absurd cc;
+  by_lines = by_lines;
 }
 
 -- it breaks off
@@ -90,8 +98,13 @@ no_log : (w : WriteError) (q : LogRefusal) → stop_of_write w ≡ stop.Log q �
 no_log write.Sink q is = cc
 no_log write.NoMemory q is = cc
 
-pub cut_replays : (only source report old new : Contents) (text : List ℕ) (w : WriteError) → Finds only source report (Ok text) → GrowsByPrefix old new text → Replays only source report (Err (stop_of_write w)) old new
-cut_replays only source report old new text w finds part = record {
+of_sink : (w : WriteError) → stop_of_write w ≡ stop.SinkFault → w ≡ write.Sink
+of_sink write.Sink is = refl
+of_sink write.NoMemory is = absurd cc
+
+pub cut_replays : (only source report old new : Contents) (room left : ℕ) (lines still : Bool) (text : List ℕ) (w : WriteError) → Finds only source report (Ok text) → GrowsByPrefix old new text
+    → (w ≡ write.Sink → room < length text) → (IsTrue lines → IsTrue still) → Replays only source report (Err (stop_of_write w)) old new room left lines still
+cut_replays only source report old new room left lines still text w finds part blamed by_lines = record {
   done = λ s r k l is. absurd cc;
   source_refused = λ s d k is of_source. absurd (no_source w (subst IsOfSource (same_stop (stop_of_write w) d (Err (stop_of_write w)) refl is) of_source));
   report_refused = λ s r q k l is. absurd (no_log w q (same_stop (stop.Log q) (stop_of_write w) (Err (stop_of_write w)) is refl));
@@ -99,4 +112,7 @@ cut_replays only source report old new text w finds part = record {
   source_ends = λ s d k is. absurd (let same = finds.source_only s d k is in cc);
   silent = λ d is quiet. absurd (loud w (subst IsSilent (same_stop (stop_of_write w) d (Err (stop_of_write w)) refl is) quiet));
   cut = λ s r k l is. begun (λ written. ReplayComesTo only s r (Ok written)) text part (finds.both_say s r k l);
+  no_room = λ s r k l is. (text, finds.both_say s r k l, blamed (of_sink w (same_stop stop.SinkFault (stop_of_write w) (Err (stop_of_write w)) is refl)));
+  same_room = λ d is quiet. absurd (loud w (subst IsSilent (same_stop (stop_of_write w) d (Err (stop_of_write w)) refl is) quiet));
+  by_lines = by_lines;
 }

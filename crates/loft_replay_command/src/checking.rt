@@ -1,12 +1,13 @@
 //! A report is checked by a program.
 
-ghost use Rattle.std.specs.Prelude.{◌≢◌, ◌<◌, ◌≤◌, ℕ, List, length, Some, Err, IfSome, IfErr, IsTrue, IsErrOf, ◌≡◌};
+ghost use Rattle.std.specs.Prelude.{◌≢◌, ◌<◌, ◌≤◌, ℕ, List, length, Some, Err, IfSome, IfOk, IfErr, IsTrue, IsErrOf, true, ◌≡◌};
+ghost use Rattle.loft_base.specs.Writing.{are_lines};
 ghost use Rattle.loft_base.specs.Outside.{Rose};
 ghost use Rattle.loft_reader.specs.Answer.{report_in};
 ghost use Rattle.loft_standing.specs.Stops.{tree_of};
 ghost use Rattle.loft_replayed.specs.Replays.{Tells};
 ghost use Rattle.loft_replay_command.specs.Replay.{WholeComesTo, BlockComesTo};
-ghost use Rattle.loft_replay_command.specs.Finding.{seen, Found, CheckComesTo, IsOfCheck, IsOfReport};
+ghost use Rattle.loft_replay_command.specs.Finding.{seen, answer_text, Found, CheckComesTo, IsOfCheck, IsOfReport};
 
 use crate::answer::Answer;
 use crate::refusal::ReplayStop;
@@ -25,6 +26,7 @@ fn check_whole(alloc: Global, p: &Placed, r: &RawReport) -> Result<Answer, Repla
     ensures found { (text : List ℕ) → Tells text (report_in r.now)
         → Found (WholeComesTo (tree_of p.now) text) (seen result) }
     ensures stops { IfErr result IsOfCheck }
+    ensures lines { IfOk result (λ answer. are_lines (answer_text answer) ≡ true) }
 {
     reports_have_one_text();
     texts_are_one_report_or_stop();
@@ -43,6 +45,7 @@ fn check_block(alloc: Global, p: &Placed, r: &RawReport, s: SchedId) -> Result<A
     ensures found { (text : List ℕ) → Tells text (report_in r.now)
         → Found (BlockComesTo (tree_of p.now) s.0 text) (seen result) }
     ensures stops { IfErr result IsOfCheck }
+    ensures lines { IfOk result (λ answer. are_lines (answer_text answer) ≡ true) }
 {
     reports_have_one_text();
     texts_are_one_report_or_stop();
@@ -63,6 +66,7 @@ fn check(
     ensures found { (text : List ℕ) → Tells text (report_in r.now)
         → Found (CheckComesTo (tree_of p.now) only text) (seen result) }
     ensures stops { IfErr result IsOfCheck }
+    ensures lines { IfOk result (λ answer. are_lines (answer_text answer) ≡ true) }
 {
     match only {
         Some(s) => check_block(alloc, p, r, s),
@@ -83,6 +87,7 @@ pub(crate) fn check_file<F: Files>(
     ensures found { (text : List ℕ) → F.contents files.old name.now ≡ Some text
         → Found (CheckComesTo (tree_of p.now) only text) (seen result) }
     ensures stops { IfErr result IsOfReport }
+    ensures lines { IfOk result (λ answer. are_lines (answer_text answer) ≡ true) }
     ensures file_fault { IsErrOf result ReplayStop.FileFault → Rose (F.faults files.old) (F.faults files.new) }
     ensures never_falls { F.faults files.old ≤ F.faults files.new }
     ensures sure { IsTrue (F.never_fails files.old name.now) → result ≢ Err ReplayStop.FileFault }

@@ -1,6 +1,7 @@
 //! What the command answers, before anything is written.
 
-ghost use Rattle.std.specs.Prelude.{◌≡◌, ◌≢◌, ◌<◌, ◌≤◌, ℕ, List, length, Some, Err, IfSome, IfOk, IfErr, IsTrue, IsErrOf};
+ghost use Rattle.std.specs.Prelude.{◌≡◌, ◌≢◌, ◌<◌, ◌≤◌, ℕ, List, length, Some, Err, IfSome, IfOk, IfErr, IsTrue, IsErrOf, true};
+ghost use Rattle.loft_base.specs.Writing.{are_lines};
 ghost use Rattle.std.specs.Option.{option_copied};
 ghost use Rattle.loft_base.specs.Outside.{Rose};
 ghost use Rattle.loft_tree.specs.Source.{Source};
@@ -8,7 +9,7 @@ ghost use Rattle.loft_tree.specs.ProgramView.{program_of};
 ghost use Rattle.loft_numbers.specs.Numbers.{numbered};
 ghost use Rattle.loft_replay.specs.Named.{scheduler_named};
 ghost use Rattle.loft_replay_command.specs.Replay.{IsWellSourceOf, HasNoScheduler, IsSourceStop};
-ghost use Rattle.loft_replay_command.specs.Finding.{seen, IsNamed, IsUnsound, Finds};
+ghost use Rattle.loft_replay_command.specs.Finding.{seen, answer_text, IsNamed, IsUnsound, Finds};
 
 use crate::answer::Answer;
 use crate::checking::check_file;
@@ -77,6 +78,7 @@ pub(crate) fn find<F: Files>(
     requires report { IsTrue (F.may_ask files.old report.now) }
     ensures finds { Finds (option_copied only.entry) (F.contents files.old source.now)
         (F.contents files.old report.now) (seen result) }
+    ensures lines { IfOk result (λ answer. are_lines (answer_text answer) ≡ true) }
     ensures no_sink { IfErr result (λ e. e ≡ ReplayStop.SinkFault → ⊥) }
     ensures file_fault { IsErrOf result ReplayStop.FileFault → Rose (F.faults files.old) (F.faults files.new) }
     ensures never_falls { F.faults files.old ≤ F.faults files.new }

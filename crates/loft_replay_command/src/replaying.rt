@@ -13,7 +13,8 @@ use std::alloc::Global;
 
 /// Checks the report in a file by the source in another one: the whole report, or the block of the scheduler that is
 /// named. Writes the line `ok`, or the block (docs/COMMANDS.md, "replay"). The source is read and checked whole, and the
-/// scheduler is looked up, before the report is opened. Nothing is written before the report has been checked.
+/// scheduler is looked up, before the report is opened. Nothing is written before the report has been checked, and each
+/// line is written by a `put` of its own.
 ///
 /// # Errors
 ///
@@ -33,7 +34,8 @@ pub fn replay<F: Files, S: Sink>(
 
     ensures replays { Replays (option_copied only.entry)
         (F.contents files.old source.now) (F.contents files.old report.now) result
-        (S.written sink.old) (S.written sink.new) }
+        (S.written sink.old) (S.written sink.new) (S.room sink.old) (S.room sink.new)
+        (S.by_lines sink.old) (S.by_lines sink.new) }
 
     // A failure has its cause in this call.
     ensures file_fault { IsErrOf result ReplayStop.FileFault → Rose (F.faults files.old) (F.faults files.new) }

@@ -2,3 +2,4 @@ pub mod Deciding
 pub mod AnswerLemmas
 pub mod TextLemmas
 pub mod ReplayLemmas
+mod TellLemmas

@@ -1,10 +1,10 @@
 -- From what `replay` did to what the program promises of its answer.
-use Rattle.std.proofs.Common.{◌≡◌, ℕ, ◌⊎◌, inl, inr, List, [], ◌∷◌, ◌++◌, refl, sym, ◌∙◌, subst, Option, Some, None, Ok, Err}
+use Rattle.std.proofs.Common.{◌≡◌, ℕ, ◌⊎◌, inl, inr, Bool, List, [], ◌∷◌, ◌++◌, refl, sym, subst, Option, Some, None, Ok, Err, IsTrue}
 use Rattle.std.specs.Prelude.{option_and_then}
 use Rattle.std.specs.Option.{option_map}
 use Rattle.loft_base.specs.Outside.{appended, GrowsByPrefix}
 use Rattle.loft_words.specs.Command.{Command, Replay}
-use Rattle.loft_commands.specs.Written.{Appends, IsPrefix}
+use Rattle.loft_commands.specs.Written.{Appends, IsPrefix, HasNoRoom}
 use Rattle.loft_replay_command.specs.Refusals.{log_line}
 use Rattle.loft_replay_command.specs.Replay.{IsSourceStop, ReplayComesTo}
 use Rattle.loft_replay_command.specs.Command.{EndsBy, IsOfSource, IsSilent, Replays}
@@ -16,8 +16,9 @@ use Rattle.loft_top.specs.declared.status.Status.TheVariants as status
 use Rattle.loft_top.specs.Status.{IsRefused, IsLogRefused, IsAccepted}
 use Rattle.loft_top.specs.Reports.{source_stop_line}
 use Rattle.loft_top.specs.Answer.{IsAnswer, Refuses, RefusesLog, IsRefusal, IsLogRefusal, AreTaken, IsText, Answers}
-use Rattle.loft_top.proofs.AnswerLemmas.{one, cut_answers}
-use Rattle.loft_commands.proofs.Written.{appends, begun, not_begun, part_of}
+use Rattle.loft_top.specs.Telling.{Tells}
+use Rattle.loft_top.proofs.AnswerLemmas.{one, cut_answers, told_no_room}
+use Rattle.loft_commands.proofs.Written.{appends, begun, part_of, room_of}
 
 -- the contents of two files, where they are known
 abbrev pub two : Option (List ℕ) → Option (List ℕ) → Option (List (List ℕ))
@@ -67,7 +68,8 @@ module _ (a b : List ℕ) (only source report : Option (List ℕ)) (before after
   c = Replay a b only
 
   -- the answer is whole
-  pub replay_done : {old new : Option (List ℕ)} → Replays only source report (Ok tt) old new → Answers c (two source report) status.Done old new before after
+  pub replay_done : {old new : Option (List ℕ)} {room left : ℕ} {lines still : Bool} → Replays only source report (Ok tt) old new room left lines still
+      → Answers c (two source report) status.Done old new before after room lines still
   replay_done {old = old} {new = new} w = record {
     done = λ contents k e. of_two (λ all. Appends old new (IsAnswer c all)) source report (λ s r t u. w.done s r t u refl) contents k;
     source = λ contents k e. absurd cc;
@@ -80,31 +82,35 @@ module _ (a b : List ℕ) (only source report : Option (List ℕ)) (before after
     file_line = λ e. absurd cc;
     never_usage = λ e. cc;
     log_reads = λ e. tt;
+    no_room = λ contents k e. absurd cc;
+    by_lines = w.by_lines;
   }
 
   -- what the command wrote breaks off
-  pub replay_broken : (end : Status) (old new : Option (List ℕ)) → end ≡ status.SinkFault ⊎ end ≡ status.NoMemory
+  pub replay_broken : (end : Status) (old new : Option (List ℕ)) (room : ℕ) (lines still : Bool) → end ≡ status.SinkFault ⊎ end ≡ status.NoMemory
       → ((s r : List ℕ) → source ≡ Some s → report ≡ Some r → Appends old new (IsPrefix (λ text. ReplayComesTo only s r (Ok text))))
-      → Answers c (two source report) end old new before after
-  replay_broken end old new is part = cut_answers c (two source report) end old new before after is
+      → ((s r : List ℕ) → source ≡ Some s → report ≡ Some r → end ≡ status.SinkFault → HasNoRoom room (λ text. ReplayComesTo only s r (Ok text)))
+      → (IsTrue lines → IsTrue still) → Answers c (two source report) end old new before after room lines still
+  replay_broken end old new room lines still is part no_room by_lines = cut_answers c (two source report) end old new before after room lines still is
       (of_two (λ all. Appends old new (IsPrefix (IsText c all before after))) source report
       (λ s r t u. part_of (λ text. ReplayComesTo only s r (Ok text)) (IsText c (s ∷ r ∷ []) before after) (λ text holds. inl holds) (part s r t u)))
+      (of_two (λ all. end ≡ status.SinkFault → HasNoRoom room (IsText c all before after)) source report
+      (λ s r t u e. room_of (λ text. ReplayComesTo only s r (Ok text)) (IsText c (s ∷ r ∷ []) before after) (λ text holds. inl holds) (no_room s r t u e)))
+      by_lines
 
   -- the line of a refusal of the source is written, or the sink fails, or the program is out of memory
-  pub source_answers : {old mid : Option (List ℕ)} (e : ReplayStop) (end : Status) (new : Option (List ℕ))
-      → IsOfSource e → Replays only source report (Err e) old mid
+  pub source_answers : {old mid : Option (List ℕ)} {room left : ℕ} {lines still : Bool} (e : ReplayStop) (end : Status) (new : Option (List ℕ)) (f g : ℕ) (last : Bool)
+      → IsOfSource e → Replays only source report (Err e) old mid room left lines still
+      → Tells status.Source end mid new f g left still last (source_stop_line e ++ 10 ∷ [])
       → end ≡ status.Source ⊎ (end ≡ status.SinkFault ⊎ end ≡ status.NoMemory)
-      → (end ≡ status.Source → new ≡ appended mid (source_stop_line e ++ 10 ∷ []))
-      → (end ≡ status.SinkFault → GrowsByPrefix mid new (source_stop_line e ++ 10 ∷ []))
-      → (end ≡ status.NoMemory → new ≡ mid)
-      → Answers c (two source report) end old new before after
-  source_answers {old = old} {mid = mid} e end new of w (inl is) grew cut same =
-      let still : mid ≡ old = w.silent e refl (source_is_silent e of) in
+      → Answers c (two source report) end old new before after room lines last
+  source_answers {old = old} {mid = mid} e end new f g last of w told (inl is) =
+      let quiet : mid ≡ old = w.silent e refl (source_is_silent e of) in
       record {
         done = λ contents k f. absurd cc;
         source = λ contents k f. of_two (λ all. Appends old new (IsRefusal c all)) source report
             (λ s r t u. appends {P = IsRefusal c (s ∷ r ∷ [])} (source_stop_line e ++ 10 ∷ [])
-            (subst (λ (o : Option (List ℕ)). new ≡ appended o (source_stop_line e ++ 10 ∷ [])) still (grew is))
+            (subst (λ (o : Option (List ℕ)). new ≡ appended o (source_stop_line e ++ 10 ∷ [])) quiet (told.written is))
             (source_stop_line e, (e, w.source_refused s e t refl of, refl), refl)) contents k;
         log = λ contents k f. absurd cc;
         refused = λ contents line k x. subst IsRefused (sym is) tt;
@@ -116,33 +122,35 @@ module _ (a b : List ℕ) (only source report : Option (List ℕ)) (before after
         file_line = λ f. absurd cc;
         never_usage = λ f. cc;
         log_reads = λ f. tt;
+        no_room = λ contents k f. absurd cc;
+        by_lines = λ all. told.by_lines (w.by_lines all);
       }
-  source_answers {old = old} {mid = mid} e end new of w (inr (inl is)) grew cut same =
-      cut_answers c (two source report) end old new before after (inl is)
+  source_answers {old = old} {mid = mid} {room = room} {lines = lines} e end new f g last of w told (inr stops) =
+      let line = source_stop_line e ++ 10 ∷ [] in
+      cut_answers c (two source report) end old new before after room lines last stops
       (of_two (λ all. Appends old new (IsPrefix (IsText c all before after))) source report
-      (λ s r t u. begun (IsText c (s ∷ r ∷ []) before after) (source_stop_line e ++ 10 ∷ [])
-      (subst (λ (o : Option (List ℕ)). GrowsByPrefix o new (source_stop_line e ++ 10 ∷ [])) (w.silent e refl (source_is_silent e of)) (cut is))
+      (λ s r t u. begun (IsText c (s ∷ r ∷ []) before after) line
+      (subst (λ (o : Option (List ℕ)). GrowsByPrefix o new line) (w.silent e refl (source_is_silent e of)) (told.cut stops))
       (inr (inl (source_stop_line e, (e, w.source_refused s e t refl of, refl), refl)))))
-  source_answers {old = old} {mid = mid} e end new of w (inr (inr is)) grew cut same =
-      cut_answers c (two source report) end old new before after (inr is)
-      (λ contents k. not_begun (IsText c contents before after) (same is ∙ w.silent e refl (source_is_silent e of)))
+      (of_two (λ all. end ≡ status.SinkFault → HasNoRoom room (IsText c all before after)) source report
+      (λ s r t u h. told_no_room (IsText c (s ∷ r ∷ []) before after) line (inr (inl (source_stop_line e, (e, w.source_refused s e t refl of, refl), refl)))
+      (w.same_room e refl (source_is_silent e of)) told h))
+      (λ all. told.by_lines (w.by_lines all))
 
   -- the line of a refusal of the report is written, or the sink fails, or the program is out of memory
-  pub log_answers : {old mid : Option (List ℕ)} (l : LogRefusal) (end : Status) (new : Option (List ℕ))
-      → Replays only source report (Err (stop.Log l)) old mid
+  pub log_answers : {old mid : Option (List ℕ)} {room left : ℕ} {lines still : Bool} (l : LogRefusal) (end : Status) (new : Option (List ℕ)) (f g : ℕ) (last : Bool)
+      → Replays only source report (Err (stop.Log l)) old mid room left lines still
+      → Tells status.Log end mid new f g left still last (log_line l ++ 10 ∷ [])
       → end ≡ status.Log ⊎ (end ≡ status.SinkFault ⊎ end ≡ status.NoMemory)
-      → (end ≡ status.Log → new ≡ appended mid (log_line l ++ 10 ∷ []))
-      → (end ≡ status.SinkFault → GrowsByPrefix mid new (log_line l ++ 10 ∷ []))
-      → (end ≡ status.NoMemory → new ≡ mid)
-      → Answers c (two source report) end old new before after
-  log_answers {old = old} {mid = mid} l end new w (inl is) grew cut same =
-      let still : mid ≡ old = w.silent (stop.Log l) refl tt in
+      → Answers c (two source report) end old new before after room lines last
+  log_answers {old = old} {mid = mid} l end new f g last w told (inl is) =
+      let quiet : mid ≡ old = w.silent (stop.Log l) refl tt in
       record {
         done = λ contents k f. absurd cc;
         source = λ contents k f. absurd cc;
         log = λ contents k f. of_two (λ all. Appends old new (IsLogRefusal c all)) source report
             (λ s r t u. appends {P = IsLogRefusal c (s ∷ r ∷ [])} (log_line l ++ 10 ∷ [])
-            (subst (λ (o : Option (List ℕ)). new ≡ appended o (log_line l ++ 10 ∷ [])) still (grew is))
+            (subst (λ (o : Option (List ℕ)). new ≡ appended o (log_line l ++ 10 ∷ [])) quiet (told.written is))
             (log_line l, (l, w.report_refused s r l t u refl, refl), refl)) contents k;
         refused = λ contents line k x. of_two (λ all. Refuses c all line → IsRefused end) source report
             (λ s r t u. λ (e, refused, named). absurd (no_source_refused old mid only s e l refused (w.source_ends s e t refused))) contents k x;
@@ -153,13 +161,17 @@ module _ (a b : List ℕ) (only source report : Option (List ℕ)) (before after
         file_line = λ f. absurd cc;
         never_usage = λ f. cc;
         log_reads = λ f. tt;
+        no_room = λ contents k f. absurd cc;
+        by_lines = λ all. told.by_lines (w.by_lines all);
       }
-  log_answers {old = old} {mid = mid} l end new w (inr (inl is)) grew cut same =
-      cut_answers c (two source report) end old new before after (inl is)
+  log_answers {old = old} {mid = mid} {room = room} {lines = lines} l end new f g last w told (inr stops) =
+      let line = log_line l ++ 10 ∷ [] in
+      cut_answers c (two source report) end old new before after room lines last stops
       (of_two (λ all. Appends old new (IsPrefix (IsText c all before after))) source report
-      (λ s r t u. begun (IsText c (s ∷ r ∷ []) before after) (log_line l ++ 10 ∷ [])
-      (subst (λ (o : Option (List ℕ)). GrowsByPrefix o new (log_line l ++ 10 ∷ [])) (w.silent (stop.Log l) refl tt) (cut is))
+      (λ s r t u. begun (IsText c (s ∷ r ∷ []) before after) line
+      (subst (λ (o : Option (List ℕ)). GrowsByPrefix o new line) (w.silent (stop.Log l) refl tt) (told.cut stops))
       (inr (inr (inl (log_line l, (l, w.report_refused s r l t u refl, refl), refl))))))
-  log_answers {old = old} {mid = mid} l end new w (inr (inr is)) grew cut same =
-      cut_answers c (two source report) end old new before after (inr is)
-      (λ contents k. not_begun (IsText c contents before after) (same is ∙ w.silent (stop.Log l) refl tt))
+      (of_two (λ all. end ≡ status.SinkFault → HasNoRoom room (IsText c all before after)) source report
+      (λ s r t u h. told_no_room (IsText c (s ∷ r ∷ []) before after) line (inr (inr (inl (log_line l, (l, w.report_refused s r l t u refl, refl), refl))))
+      (w.same_room (stop.Log l) refl tt) told h))
+      (λ all. told.by_lines (w.by_lines all))

@@ -1,10 +1,10 @@
 -- From how a text was written to what a command that reads no file promises of its answer.
-use Rattle.std.proofs.Common.{◌≡◌, ℕ, ◌≤◌, arith, inl, inr, List, refl, Option, Result, Ok, Err}
+use Rattle.std.proofs.Common.{◌≡◌, ℕ, ◌≤◌, arith, Bool, inl, inr, List, refl, sym, subst, Option, Result, Ok, Err, IsTrue}
 use Rattle.loft_base.specs.Outside.{Rose}
 use Rattle.loft_base.specs.declared.writing.WriteError.{WriteError}
 use Rattle.loft_base.specs.declared.writing.WriteError.TheVariants as write
 use Rattle.loft_words.specs.Command.{Command}
-use Rattle.loft_commands.specs.Written.{Appends, IsPrefix}
+use Rattle.loft_commands.specs.Written.{Appends, IsPrefix, HasNoRoom}
 use Rattle.loft_gen_command.specs.Writes.{WritesOneOf}
 use Rattle.loft_top.specs.declared.status.Status.TheVariants as status
 use Rattle.loft_top.specs.Status.{status_of_write}
@@ -12,12 +12,18 @@ use Rattle.loft_top.specs.Answer.{IsAnswer, Refuses, RefusesLog, IsText, Answers
 use Rattle.loft_commands.proofs.Written.{appends, begun, not_begun}
 use Rattle.loft_top.proofs.AnswerLemmas.{cut_answers}
 
+-- the pieces of a text that was written are lines
+pub still_lines : {P : List ℕ → Type 0} (result : Result (Unit {0}) WriteError) (old new : Option (List ℕ)) (f g p q : ℕ) (i j : Bool) → WritesOneOf P result old new f g p q i j → IsTrue i → IsTrue j
+still_lines result old new f g p q i j (inl (text, holds, writes)) all = writes.by_lines all
+still_lines result old new f g p q i j (inr (is, same, counts, lines)) all = subst IsTrue (sym lines) all
+
 -- a command that refuses nothing, and answers each text of which P holds
 module _ (c : Command) (P : List ℕ → Type 0) (answers : (contents : List (List ℕ)) (text : List ℕ) → P text → IsAnswer c contents text)
     (never : (contents : List (List ℕ)) (line : List ℕ) → Refuses c contents line → ⊥)
     (never_log : (contents : List (List ℕ)) (line : List ℕ) → RefusesLog c contents line → ⊥) where
-  whole_answers : (known : Option (List (List ℕ))) (old new : Option (List ℕ)) (f g p q before after : ℕ) → WritesOneOf P (Ok tt) old new f g p q → Answers c known status.Done old new before after
-  whole_answers known old new f g p q before after (inl (text, holds, writes)) = record {
+  whole_answers : (known : Option (List (List ℕ))) (old new : Option (List ℕ)) (f g p q before after : ℕ) (i j : Bool) → WritesOneOf P (Ok tt) old new f g p q i j
+      → Answers c known status.Done old new before after p i j
+  whole_answers known old new f g p q before after i j (inl (text, holds, writes)) = record {
     done = λ contents k e. appends {P = IsAnswer c contents} text writes.ok (answers contents text holds);
     source = λ contents k e. absurd cc;
     log = λ contents k e. absurd cc;
@@ -28,38 +34,46 @@ module _ (c : Command) (P : List ℕ → Type 0) (answers : (contents : List (Li
     file_line = λ e. absurd cc;
     never_usage = λ e. cc;
     log_reads = λ e. absurd cc;
+    no_room = λ contents k e. absurd cc;
+    by_lines = writes.by_lines;
   }
-  whole_answers known old new f g p q before after (inr (is, same, still)) = absurd cc
+  whole_answers known old new f g p q before after i j (inr (is, same, counts, lines)) = absurd cc
 
-  part_of_answer : (e : WriteError) (old new : Option (List ℕ)) (f g p q before after : ℕ) (contents : List (List ℕ)) → WritesOneOf P (Err e) old new f g p q
+  part_of_answer : (e : WriteError) (old new : Option (List ℕ)) (f g p q before after : ℕ) (i j : Bool) (contents : List (List ℕ)) → WritesOneOf P (Err e) old new f g p q i j
       → Appends old new (IsPrefix (IsText c contents before after))
-  part_of_answer e old new f g p q before after contents (inl (text, holds, writes)) = begun (IsText c contents before after) text writes.failed (inl (answers contents text holds))
-  part_of_answer e old new f g p q before after contents (inr (is, same, still)) = not_begun (IsText c contents before after) same
+  part_of_answer e old new f g p q before after i j contents (inl (text, holds, writes)) = begun (IsText c contents before after) text writes.failed (inl (answers contents text holds))
+  part_of_answer e old new f g p q before after i j contents (inr (is, same, counts, lines)) = not_begun (IsText c contents before after) same
 
-  pub text_answers : (known : Option (List (List ℕ))) (result : Result (Unit {0}) WriteError) (old new : Option (List ℕ)) (f g p q before after : ℕ) → WritesOneOf P result old new f g p q
-      → Answers c known (status_of_write result) old new before after
-  text_answers known (Ok done) old new f g p q before after writes = whole_answers known old new f g p q before after writes
-  text_answers known (Err write.Sink) old new f g p q before after writes =
-      cut_answers c known status.SinkFault old new before after (inl refl) (λ contents k. part_of_answer write.Sink old new f g p q before after contents writes)
-  text_answers known (Err write.NoMemory) old new f g p q before after writes =
-      cut_answers c known status.NoMemory old new before after (inr refl) (λ contents k. part_of_answer write.NoMemory old new f g p q before after contents writes)
+  longer_answer : (old new : Option (List ℕ)) (f g p q before after : ℕ) (i j : Bool) (contents : List (List ℕ)) → WritesOneOf P (Err write.Sink) old new f g p q i j → HasNoRoom p (IsText c contents before after)
+  longer_answer old new f g p q before after i j contents (inl (text, holds, writes)) = (text, inl (answers contents text holds), writes.blamed refl)
+  longer_answer old new f g p q before after i j contents (inr (is, same, counts, lines)) = absurd cc
+
+  pub text_answers : (known : Option (List (List ℕ))) (result : Result (Unit {0}) WriteError) (old new : Option (List ℕ)) (f g p q before after : ℕ) (i j : Bool) → WritesOneOf P result old new f g p q i j
+      → Answers c known (status_of_write status.Done result) old new before after p i j
+  text_answers known (Ok done) old new f g p q before after i j writes = whole_answers known old new f g p q before after i j writes
+  text_answers known (Err write.Sink) old new f g p q before after i j writes =
+      cut_answers c known status.SinkFault old new before after p i j (inl refl) (λ contents k. part_of_answer write.Sink old new f g p q before after i j contents writes)
+      (λ contents k e. longer_answer old new f g p q before after i j contents writes) (still_lines (Err write.Sink) old new f g p q i j writes)
+  text_answers known (Err write.NoMemory) old new f g p q before after i j writes =
+      cut_answers c known status.NoMemory old new before after p i j (inr refl) (λ contents k. part_of_answer write.NoMemory old new f g p q before after i j contents writes)
+      (λ contents k e. absurd cc) (still_lines (Err write.NoMemory) old new f g p q i j writes)
 
 -- the sink is blamed only where it failed
-pub sink_blamed : {P : List ℕ → Type 0} (result : Result (Unit {0}) WriteError) (old new : Option (List ℕ)) (before after room left : ℕ) → WritesOneOf P result old new before after room left
-    → status_of_write result ≡ status.SinkFault → Rose before after
-sink_blamed (Ok done) old new before after room left writes is = absurd cc
-sink_blamed (Err write.Sink) old new before after room left (inl (text, holds, writes)) is = writes.cause refl
-sink_blamed (Err write.Sink) old new before after room left (inr (no_memory, same, still)) is = absurd cc
-sink_blamed (Err write.NoMemory) old new before after room left writes is = absurd cc
+pub sink_blamed : {P : List ℕ → Type 0} (result : Result (Unit {0}) WriteError) (old new : Option (List ℕ)) (before after room left : ℕ) (i j : Bool) → WritesOneOf P result old new before after room left i j
+    → status_of_write status.Done result ≡ status.SinkFault → Rose before after
+sink_blamed (Ok done) old new before after room left i j writes is = absurd cc
+sink_blamed (Err write.Sink) old new before after room left i j (inl (text, holds, writes)) is = writes.cause refl
+sink_blamed (Err write.Sink) old new before after room left i j (inr (no_memory, same, counts, lines)) is = absurd cc
+sink_blamed (Err write.NoMemory) old new before after room left i j writes is = absurd cc
 
 -- the count of its faults doesn't fall
-pub never_fell : {P : List ℕ → Type 0} (result : Result (Unit {0}) WriteError) (old new : Option (List ℕ)) (before after room left : ℕ) → WritesOneOf P result old new before after room left
+pub never_fell : {P : List ℕ → Type 0} (result : Result (Unit {0}) WriteError) (old new : Option (List ℕ)) (before after room left : ℕ) (i j : Bool) → WritesOneOf P result old new before after room left i j
     → before ≤ after
-never_fell result old new before after room left (inl (text, holds, writes)) = writes.never_falls
-never_fell result old new before after room left (inr (no_memory, same, still)) = omega (arith, still)
+never_fell result old new before after room left i j (inl (text, holds, writes)) = writes.never_falls
+never_fell result old new before after room left i j (inr (no_memory, same, counts, lines)) = omega (arith, counts)
 
 -- no file is
-pub no_file_blamed : (result : Result (Unit {0}) WriteError) → status_of_write result ≡ status.FileFault → ⊥
+pub no_file_blamed : (result : Result (Unit {0}) WriteError) → status_of_write status.Done result ≡ status.FileFault → ⊥
 no_file_blamed (Ok done) is = cc
 no_file_blamed (Err write.Sink) is = cc
 no_file_blamed (Err write.NoMemory) is = cc

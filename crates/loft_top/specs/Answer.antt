@@ -1,12 +1,12 @@
 -- What the program promises of its answer to a command.
-use Rattle.std.specs.Prelude.{◌≡◌, ◌≢◌, ℕ, ◌⊎◌, List, codes, Option, Some, Ok}
+use Rattle.std.specs.Prelude.{◌≡◌, ◌≢◌, ℕ, ◌⊎◌, Bool, List, codes, Option, Some, Ok, IsTrue}
 use Rattle.loft_base.specs.Outside.{Rose}
 use Rattle.loft_gen.specs.Generated.{generated}
 use Rattle.loft_generated_run.specs.Summary.{IsSummary}
 use Rattle.loft_refusal.specs.Input.{Input}
 use Rattle.loft_refusal.specs.Refusals.{IsTextOf}
 use Rattle.loft_words.specs.Command.{Command, OfFile, Replay, Gen, GenRun}
-use Rattle.loft_commands.specs.Written.{Appends, IsLine, IsPrefix}
+use Rattle.loft_commands.specs.Written.{Appends, IsLine, IsPrefix, HasNoRoom}
 use Rattle.loft_commands.specs.Asks.{RefusesFile, Takes}
 use Rattle.loft_commands.specs.Promise.{IsFileAnswer}
 use Rattle.loft_replay_command.specs.Replay.{ReplayComesTo}
@@ -65,8 +65,9 @@ IsText c contents before after text =
     IsAnswer c contents text ⊎ (IsRefusal c contents text ⊎ (IsLogRefusal c contents text ⊎ (IsLine (codes "files: fault") text × Rose before after)))
 
 -- A command ends so, where this is known of its files; the sink tells of `old` before it and of `new` after it, and the
--- count of the files' faults was `before`, and is `after`.
-pub record Answers (c : Command) (known : Option (List (List ℕ))) (end : Status) (old new : Option (List ℕ)) (before after : ℕ) : Type 0 where
+-- count of the files' faults was `before`, and is `after`. The sink was known to take `room` more bytes; whether each piece that it took was a
+-- line is known as `lines` before it, and as `still` after it.
+pub record Answers (c : Command) (known : Option (List (List ℕ))) (end : Status) (old new : Option (List ℕ)) (before after room : ℕ) (lines still : Bool) : Type 0 where
   pub done : (contents : List (List ℕ)) → known ≡ Some contents → end ≡ status.Done → Appends old new (IsAnswer c contents)
   pub source : (contents : List (List ℕ)) → known ≡ Some contents → end ≡ status.Source → Appends old new (IsRefusal c contents)
   pub log : (contents : List (List ℕ)) → known ≡ Some contents → end ≡ status.Log → Appends old new (IsLogRefusal c contents)
@@ -77,3 +78,5 @@ pub record Answers (c : Command) (known : Option (List (List ℕ))) (end : Statu
   pub file_line : end ≡ status.FileFault → Appends old new (IsLine (codes "files: fault"))
   pub never_usage : end ≢ status.Usage
   pub log_reads : end ≡ status.Log → ReadsReport c
+  pub no_room : (contents : List (List ℕ)) → known ≡ Some contents → end ≡ status.SinkFault → HasNoRoom room (IsText c contents before after)
+  pub by_lines : IsTrue lines → IsTrue still

@@ -2,3 +2,4 @@ pub mod Status
 pub mod Reads
 pub mod Reports
 pub mod Answer
+pub mod Telling

@@ -45,8 +45,8 @@ IsAccepted FileFault = Unit {0}
 IsAccepted SinkFault = Unit {0}
 IsAccepted NoMemory = Unit {0}
 
--- how a command ends whose answer was written so
-abbrev pub status_of_write : Result (Unit {0}) WriteError → Status
-status_of_write (Ok done) = Done
-status_of_write (Err write.Sink) = SinkFault
-status_of_write (Err write.NoMemory) = NoMemory
+-- how a command ends whose text was written so, where it ends with this status if the text is whole
+abbrev pub status_of_write : Status → Result (Unit {0}) WriteError → Status
+status_of_write whole (Ok done) = whole
+status_of_write whole (Err write.Sink) = SinkFault
+status_of_write whole (Err write.NoMemory) = NoMemory

@@ -3,38 +3,27 @@
 ghost use Rattle.std.specs.Prelude.{◌≡◌, ◌≢◌, ◌≤◌, ℕ, Some, []};
 ghost use Rattle.loft_base.specs.Outside.{Rose};
 ghost use Rattle.loft_words.specs.Command.{Gen, GenRun};
-ghost use Rattle.loft_top.specs.Status.{status_of_write};
 ghost use Rattle.loft_top.specs.Answer.{Answers};
 
-use crate::status::Status;
-use loft_base::{Gate, Sink, WriteError};
+use crate::status::{Status, status_of};
+use loft_base::{Gate, Sink};
 use loft_gen_command::{write_source, write_summary};
 use std::alloc::Global;
 use std::sync::Wait;
 use std::thread::Threads;
-
-/// How a command ends whose answer was written so.
-fn status_of(written: Result<(), WriteError>) -> Status
-    ensures { result ≡ status_of_write written }
-{
-    match written {
-        Ok(()) => Status::Done,
-        Err(WriteError::Sink) => Status::SinkFault,
-        Err(WriteError::NoMemory) => Status::NoMemory,
-    }
-}
 
 /// Writes the source of a number.
 pub(crate) fn generate<S: Sink>(alloc: Global, number: u32, sink: &mut S) -> Status
     requires some { 1 ≤ number }
     requires few { number ≤ 1000 }
     ensures answers { (before after : ℕ) → Answers (Gen number) (Some []) result
-        (S.written sink.old) (S.written sink.new) before after }
+        (S.written sink.old) (S.written sink.new) before after
+        (S.room sink.old) (S.by_lines sink.old) (S.by_lines sink.new) }
     ensures no_file { result ≢ Status.FileFault }
     ensures sink_fault { result ≡ Status.SinkFault → Rose (S.faults sink.old) (S.faults sink.new) }
     ensures never_falls { S.faults sink.old ≤ S.faults sink.new }
 {
-    status_of(write_source(alloc, number, sink))
+    status_of(write_source(alloc, number, sink), Status::Done)
 }
 
 /// Runs the source of a number, and writes the summary of the run.
@@ -48,10 +37,11 @@ pub(crate) fn summarize<R: Threads + Wait + Sync, S: Sink, G: Gate>(
     requires some { 1 ≤ number }
     requires few { number ≤ 1000 }
     ensures answers { (before after : ℕ) → Answers (GenRun number) (Some []) result
-        (S.written sink.old) (S.written sink.new) before after }
+        (S.written sink.old) (S.written sink.new) before after
+        (S.room sink.old) (S.by_lines sink.old) (S.by_lines sink.new) }
     ensures no_file { result ≢ Status.FileFault }
     ensures sink_fault { result ≡ Status.SinkFault → Rose (S.faults sink.old) (S.faults sink.new) }
     ensures never_falls { S.faults sink.old ≤ S.faults sink.new }
 {
-    status_of(write_summary(rt, alloc, number, sink, gate))
+    status_of(write_summary(rt, alloc, number, sink, gate), Status::Done)
 }

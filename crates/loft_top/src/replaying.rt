@@ -26,7 +26,8 @@ pub(crate) fn check_report<F: Files, S: Sink>(
     requires report { IsTrue (F.may_ask files.old report.now) }
     ensures answers { Answers (Replay source.now report.now (option_copied only.entry))
         (contents_of (F.contents files.old) (source.now ∷ report.now ∷ [])) result
-        (S.written sink.old) (S.written sink.new) (F.faults files.old) (F.faults files.new) }
+        (S.written sink.old) (S.written sink.new) (F.faults files.old) (F.faults files.new)
+        (S.room sink.old) (S.by_lines sink.old) (S.by_lines sink.new) }
     ensures file_fault { result ≡ Status.FileFault → Rose (F.faults files.old) (F.faults files.new) }
     ensures sink_fault { result ≡ Status.SinkFault → Rose (S.faults sink.old) (S.faults sink.new) }
     ensures files_never_fall { F.faults files.old ≤ F.faults files.new }

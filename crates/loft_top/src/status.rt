@@ -1,7 +1,9 @@
 //! How the program ends.
 
 ghost use Rattle.std.specs.Prelude.{◌≡◌};
-ghost use Rattle.loft_top.specs.Status.{code_of};
+ghost use Rattle.loft_top.specs.Status.{code_of, status_of_write};
+
+use loft_base::WriteError;
 
 /// How the program ends (docs/COMMANDS.md, "Statuses").
 #[derive(Clone, Copy, Debug, PartialEq, Eq)]
@@ -36,5 +38,16 @@ impl Status {
             Status::SinkFault => 6,
             Status::NoMemory => 7,
         }
+    }
+}
+
+/// How a command ends whose text was written so, where it ends with this status if the text is whole.
+pub(crate) fn status_of(written: Result<(), WriteError>, whole: Status) -> Status
+    ensures { result ≡ status_of_write whole written }
+{
+    match written {
+        Ok(()) => whole,
+        Err(WriteError::Sink) => Status::SinkFault,
+        Err(WriteError::NoMemory) => Status::NoMemory,
     }
 }

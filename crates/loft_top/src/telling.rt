@@ -1,27 +1,25 @@
 //! Lines that are written in place of an answer, each with its status.
 
-ghost use Rattle.std.specs.Prelude.{◌≡◌, ◌≢◌, ◌<◌, ◌≤◌, ◌⊎◌, ◌++◌, ◌∷◌, [], length};
-ghost use Rattle.loft_base.specs.Outside.{Rose, appended, GrowsByPrefix};
+ghost use Rattle.std.specs.Prelude.{◌≡◌, ◌≢◌, ◌<◌, ◌⊎◌, ◌++◌, ◌∷◌, [], length, true};
+ghost use Rattle.loft_base.specs.Outside.{is_line};
 ghost use Rattle.loft_refusal.specs.Refusals.{line_of};
 ghost use Rattle.loft_replay_command.specs.Refusals.{log_line};
+ghost use Rattle.loft_top.specs.Telling.{TellsTo};
 
-use crate::status::Status;
-use loft_base::Sink;
+use crate::status::{Status, status_of};
+use loft_base::{Sink, write_lines};
 use loft_refusal::Refusal;
 use loft_replay_command::LogRefusal;
 use std::alloc::Global;
 
 /// Writes a line, whose status is the answer unless the sink fails.
 pub(crate) fn tell<S: Sink>(sink: &mut S, line: &[u8], status: Status) -> Status
-    requires { 0 < length line.now }
+    requires some { 0 < length line.now }
+    requires line { is_line line.now ≡ true }
+    requires sink { status ≢ Status.SinkFault }
+    requires memory { status ≢ Status.NoMemory }
     ensures told { result ≡ status ⊎ result ≡ Status.SinkFault }
-    ensures written { result ≡ status → status ≢ Status.SinkFault
-        → S.written sink.new ≡ appended (S.written sink.old) line.now }
-    ensures cut { status ≢ Status.SinkFault → result ≡ Status.SinkFault
-        → GrowsByPrefix (S.written sink.old) (S.written sink.new) line.now }
-    ensures cause { status ≢ Status.SinkFault → result ≡ Status.SinkFault
-        → Rose (S.faults sink.old) (S.faults sink.new) }
-    ensures never_falls { S.faults sink.old ≤ S.faults sink.new }
+    ensures tells { TellsTo S.written S.faults S.room S.by_lines sink.old sink.new status result line.now }
 {
     match sink.put(line) {
         Ok(()) => status,
@@ -31,34 +29,22 @@ pub(crate) fn tell<S: Sink>(sink: &mut S, line: &[u8], status: Status) -> Status
 
 /// Writes the line of a refusal.
 pub(crate) fn refuse<S: Sink>(alloc: Global, sink: &mut S, refusal: &Refusal) -> Status
-    ensures told { result ≡ Status.Source ⊎ (result ≡ Status.SinkFault ⊎ result ≡ Status.NoMemory) }
-    ensures written { result ≡ Status.Source
-        → S.written sink.new ≡ appended (S.written sink.old) (line_of refusal.now ++ 10 ∷ []) }
-    ensures cut { result ≡ Status.SinkFault
-        → GrowsByPrefix (S.written sink.old) (S.written sink.new) (line_of refusal.now ++ 10 ∷ []) }
-    ensures no_memory { result ≡ Status.NoMemory → S.written sink.new ≡ S.written sink.old }
-    ensures cause { result ≡ Status.SinkFault → Rose (S.faults sink.old) (S.faults sink.new) }
-    ensures never_falls { S.faults sink.old ≤ S.faults sink.new }
+    ensures { TellsTo S.written S.faults S.room S.by_lines sink.old sink.new Status.Source result
+        (line_of refusal.now ++ 10 ∷ []) }
 {
     match refusal.line(alloc) {
-        Ok(line) => tell(sink, line.as_slice(), Status::Source),
+        Ok(line) => status_of(write_lines(line.as_slice(), sink), Status::Source),
         Err(_) => Status::NoMemory,
     }
 }
 
 /// Writes the line of a report that is refused.
 pub(crate) fn refuse_report<S: Sink>(alloc: Global, sink: &mut S, refusal: LogRefusal) -> Status
-    ensures told { result ≡ Status.Log ⊎ (result ≡ Status.SinkFault ⊎ result ≡ Status.NoMemory) }
-    ensures written { result ≡ Status.Log
-        → S.written sink.new ≡ appended (S.written sink.old) (log_line refusal ++ 10 ∷ []) }
-    ensures cut { result ≡ Status.SinkFault
-        → GrowsByPrefix (S.written sink.old) (S.written sink.new) (log_line refusal ++ 10 ∷ []) }
-    ensures no_memory { result ≡ Status.NoMemory → S.written sink.new ≡ S.written sink.old }
-    ensures cause { result ≡ Status.SinkFault → Rose (S.faults sink.old) (S.faults sink.new) }
-    ensures never_falls { S.faults sink.old ≤ S.faults sink.new }
+    ensures { TellsTo S.written S.faults S.room S.by_lines sink.old sink.new Status.Log result
+        (log_line refusal ++ 10 ∷ []) }
 {
     match refusal.line(alloc) {
-        Ok(line) => tell(sink, line.as_bytes(), Status::Log),
+        Ok(line) => status_of(write_lines(line.as_bytes(), sink), Status::Log),
         Err(_) => Status::NoMemory,
     }
 }

@@ -7,7 +7,7 @@ ghost use Rattle.loft_words.specs.Command.{Command as PlainCommand, OfFile, comm
 ghost use Rattle.loft_words.specs.Ranges.{KeepsRanges, IsInRanges};
 ghost use Rattle.loft_words.specs.Words.{words_of};
 ghost use Rattle.loft_words.specs.CommandView.{command_of, file_command_of};
-ghost use Rattle.loft_commands.specs.Written.{Appends, IsLine, IsPrefix};
+ghost use Rattle.loft_commands.specs.Written.{Appends, IsLine, IsPrefix, HasNoRoom};
 ghost use Rattle.loft_top.specs.Status.{IsRefused, IsLogRefused, IsAccepted};
 ghost use Rattle.loft_top.specs.Reads.{contents_of};
 ghost use Rattle.loft_top.specs.Answer.{IsAnswer, Refuses, RefusesLog, IsRefusal, IsLogRefusal, AreTaken, ReadsReport, IsText, Answers};
@@ -43,7 +43,8 @@ fn file_answer<R: Threads + Wait + Sync, F: Files, S: Sink, G: Gate>(
     requires ranges { KeepsRanges (file_command_of command) }
     ensures answers { Answers (OfFile (file_command_of command.entry))
         (contents_of (F.contents files.old) (file_of (file_command_of command.entry) ∷ [])) result
-        (S.written sink.old) (S.written sink.new) (F.faults files.old) (F.faults files.new) }
+        (S.written sink.old) (S.written sink.new) (F.faults files.old) (F.faults files.new)
+        (S.room sink.old) (S.by_lines sink.old) (S.by_lines sink.new) }
     ensures file_fault { result ≡ Status.FileFault → Rose (F.faults files.old) (F.faults files.new) }
     ensures sink_fault { result ≡ Status.SinkFault → Rose (S.faults sink.old) (S.faults sink.new) }
     ensures files_never_fall { F.faults files.old ≤ F.faults files.new }
@@ -80,7 +81,8 @@ fn answer<R: Threads + Wait + Sync, F: Files, S: Sink, G: Gate>(
     requires ranges { IsInRanges (command_of command) }
     ensures answers { Answers (command_of command.entry)
         (contents_of (F.contents files.old) (files_of (command_of command.entry))) result
-        (S.written sink.old) (S.written sink.new) (F.faults files.old) (F.faults files.new) }
+        (S.written sink.old) (S.written sink.new) (F.faults files.old) (F.faults files.new)
+        (S.room sink.old) (S.by_lines sink.old) (S.by_lines sink.new) }
     ensures file_fault { result ≡ Status.FileFault → Rose (F.faults files.old) (F.faults files.new) }
     ensures sink_fault { result ≡ Status.SinkFault → Rose (S.faults sink.old) (S.faults sink.new) }
     ensures files_never_fall { F.faults files.old ≤ F.faults files.new }
@@ -171,6 +173,15 @@ pub fn loft_main<R: Threads + Wait + Sync, F: Files, S: Sink, G: Gate>(
     ensures files_are_sure { (c : PlainCommand) → command (words_of words.now) ≡ Some c
         → ((file : List ℕ) → Contains (files_of c) file → IsTrue (F.never_fails files.old file))
         → result ≢ Status.FileFault }
+
+    // The sink fails only where a text that the command may write has more bytes than the sink was known to take.
+    ensures no_room { (c : PlainCommand) (contents : List (List ℕ)) → command (words_of words.now) ≡ Some c
+        → contents_of (F.contents files.old) (files_of c) ≡ Some contents → result ≡ Status.SinkFault
+        → HasNoRoom (S.room sink.old) (IsText c contents (F.faults files.old) (F.faults files.new)) }
+    ensures usage_no_room { command (words_of words.now) ≡ None → result ≡ Status.SinkFault
+        → HasNoRoom (S.room sink.old) (IsLine (codes "loft: usage")) }
+    // What is written goes out line by line, whatever the command and however it ends.
+    ensures by_lines { IsTrue (S.by_lines sink.old) → IsTrue (S.by_lines sink.new) }
 {
     match read_words(words) {
         Some(command) => answer(rt, alloc, command, files, sink, gate),

@@ -32,7 +32,7 @@ impl ReportWriter<'_> {
         line: &mut LineBuffer,
         sink: &mut S,
     ) -> Result<(), WriteError>
-        ensures { WritesTo S.written S.faults S.room sink.old sink.new result
+        ensures { WritesTo S.written S.faults S.room S.by_lines sink.old sink.new result
             (text_of (map (choice_line self.now.heads.now) (map choice_of world.now.history))) }
     {
         for index in 0..world.length() {
@@ -48,7 +48,7 @@ impl ReportWriter<'_> {
         line: &mut LineBuffer,
         sink: &mut S,
     ) -> Result<(), WriteError>
-        ensures { WritesTo S.written S.faults S.room sink.old sink.new result
+        ensures { WritesTo S.written S.faults S.room S.by_lines sink.old sink.new result
             (choice_line self.now.heads.now (choice_of entry.now) ++ 10 ∷ []) }
     {
         make_choice_line(line, self.heads, entry);

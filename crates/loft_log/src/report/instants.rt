@@ -26,7 +26,7 @@ impl ReportWriter<'_> {
         line: &mut LineBuffer,
         sink: &mut S,
     ) -> Result<(), WriteError>
-        ensures { WritesTo S.written S.faults S.room sink.old sink.new result
+        ensures { WritesTo S.written S.faults S.room S.by_lines sink.old sink.new result
             (text_of (instants_lines self.now.heads.now (log s world.now.history) notes.now)) }
     {
         let mut left = notes;
@@ -50,7 +50,7 @@ impl ReportWriter<'_> {
         line: &mut LineBuffer,
         sink: &mut S,
     ) -> Result<(), WriteError>
-        ensures { WritesTo S.written S.faults S.room sink.old sink.new result
+        ensures { WritesTo S.written S.faults S.room S.by_lines sink.old sink.new result
             (text_of (instant_lines self.now.heads.now batch.now note.now)) }
     {
         self.write_number("instant ", note.number, line, sink)?;
@@ -76,7 +76,7 @@ impl ReportWriter<'_> {
         line: &mut LineBuffer,
         sink: &mut S,
     ) -> Result<(), WriteError>
-        ensures { WritesTo S.written S.faults S.room sink.old sink.new result
+        ensures { WritesTo S.written S.faults S.room S.by_lines sink.old sink.new result
             (text_of (batch_lines self.now.heads.now stopped.now 0 batch.now marks.now)) }
     {
         let in_order = are_in_order(stopped);
@@ -99,7 +99,7 @@ impl ReportWriter<'_> {
         line: &mut LineBuffer,
         sink: &mut S,
     ) -> Result<(), WriteError>
-        ensures { WritesTo S.written S.faults S.room sink.old sink.new result
+        ensures { WritesTo S.written S.faults S.room S.by_lines sink.old sink.new result
             (text_of ((mark_word mark ++ order_text self.now.heads.now order.now) ∷ ends_at self.now.heads.now index ends.now)) }
     {
         make_order_line(line, self.heads, mark, order);
@@ -115,7 +115,7 @@ impl ReportWriter<'_> {
         line: &mut LineBuffer,
         sink: &mut S,
     ) -> Result<(), WriteError>
-        ensures { WritesTo S.written S.faults S.room sink.old sink.new result
+        ensures { WritesTo S.written S.faults S.room S.by_lines sink.old sink.new result
             (text_of (ends_at self.now.heads.now index ends.now)) }
     {
         for ended in ends {
@@ -132,7 +132,7 @@ impl ReportWriter<'_> {
         line: &mut LineBuffer,
         sink: &mut S,
     ) -> Result<(), WriteError>
-        ensures { WritesTo S.written S.faults S.room sink.old sink.new result
+        ensures { WritesTo S.written S.faults S.room S.by_lines sink.old sink.new result
             (text_of (ends_at self.now.heads.now index (ended ∷ []))) }
     {
         if ended.index == index {
@@ -150,7 +150,7 @@ impl ReportWriter<'_> {
         line: &mut LineBuffer,
         sink: &mut S,
     ) -> Result<(), WriteError>
-        ensures { WritesTo S.written S.faults S.room sink.old sink.new result
+        ensures { WritesTo S.written S.faults S.room S.by_lines sink.old sink.new result
             (text_of (leave_lines self.now.heads.now sents.now)) }
     {
         for sent in sents {
@@ -166,7 +166,7 @@ impl ReportWriter<'_> {
         line: &mut LineBuffer,
         sink: &mut S,
     ) -> Result<(), WriteError>
-        ensures { WritesTo S.written S.faults S.room sink.old sink.new result
+        ensures { WritesTo S.written S.faults S.room S.by_lines sink.old sink.new result
             (text_of (leave_line self.now.heads.now sent.now.to sent.now.order)) }
     {
         if let Order::Arrive(thread) = &sent.order {

@@ -22,7 +22,7 @@ impl ReportWriter<'_> {
         sink: &mut S,
     ) -> Result<(), WriteError>
         requires heads { world.now.heads ≡ self.now.heads.now }
-        ensures { WritesTo S.written S.faults S.room sink.old sink.new result
+        ensures { WritesTo S.written S.faults S.room S.by_lines sink.old sink.new result
             (text_of (left_part (world_left self.now.heads.now world.now.history))) }
     {
         let count = self.count_left(world)?;
@@ -51,7 +51,7 @@ impl ReportWriter<'_> {
         sink: &mut S,
     ) -> Result<(), WriteError>
         requires heads { world.now.heads ≡ self.now.heads.now }
-        ensures { WritesTo S.written S.faults S.room sink.old sink.new result
+        ensures { WritesTo S.written S.faults S.room S.by_lines sink.old sink.new result
             (text_of (world_left self.now.heads.now world.now.history)) }
     {
         for index in 0..self.heads.schedulers.len() {
@@ -69,7 +69,7 @@ impl ReportWriter<'_> {
         line: &mut LineBuffer,
         sink: &mut S,
     ) -> Result<(), WriteError>
-        ensures { WritesTo S.written S.faults S.room sink.old sink.new result
+        ensures { WritesTo S.written S.faults S.room S.by_lines sink.old sink.new result
             (text_of (map (left_line self.now.heads.now s) orders.now)) }
     {
         for order in orders {

@@ -1,6 +1,9 @@
 //! Writing texts to a sink.
 
-use loft_base::{Failed, MemSink, NoMemory, Sink, WriteError, write_lines, write_piece};
+ghost use Rattle.std.specs.Prelude.{◌≡◌, true};
+ghost use Rattle.loft_base.specs.Writing.{are_lines};
+
+use loft_base::{Failed, MemSink, NoMemory, Sink, WriteError, write_lines};
 use std::alloc::Global;
 
 /// A sink that keeps each piece apart, with a `|` after it, and fails at the piece `fails_at`,
@@ -60,7 +63,9 @@ fn is_written(
     fails_at: u64,
     want: Result<(), WriteError>,
     pieces: &str,
-) -> bool {
+) -> bool
+    requires { are_lines text.now ≡ true }
+{
     let mut sink = Pieces::new(alloc, fails_at);
     let ended = write_lines(text.as_bytes(), &mut sink);
     sink.marked.as_slice() == pieces.as_bytes() && ended == want
@@ -73,7 +78,7 @@ fn each_line_is_a_piece(rt: HostRuntime) {
     let written = [
         is_written(alloc, "", 0, Ok(()), ""),
         is_written(alloc, "one\n", 0, Ok(()), "one\n|"),
-        is_written(alloc, "one\ntwo", 0, Ok(()), "one\n|two|"),
+        is_written(alloc, "one\ntwo\n", 0, Ok(()), "one\n|two\n|"),
         is_written(alloc, "\n\nlast line\n", 0, Ok(()), "\n|\n|last line\n|"),
         is_written(
             alloc,
@@ -86,15 +91,32 @@ fn each_line_is_a_piece(rt: HostRuntime) {
     assert_eq!(rt; written, [true; 5]);
 }
 
-/// How two pieces of 2 bytes end that are written to a sink of 3, and the error of being out of memory.
+/// How two lines of 2 bytes end that are written to a sink of 3, and the error of being out of memory.
 fn write_two(alloc: Global) -> Result<[Result<(), WriteError>; 3], NoMemory> {
     let mut sink = MemSink::new(alloc, 3)?;
-    let (first, second) = (write_piece(b"ab", &mut sink), write_piece(b"cd", &mut sink));
+    let (first, second) = (
+        write_lines(b"a\n", &mut sink),
+        write_lines(b"b\n", &mut sink),
+    );
     Ok([first, second, Err(WriteError::from(NoMemory))])
 }
 
 #[test]
-fn a_piece_that_does_not_fit_is_a_fault(rt: HostRuntime) {
+fn a_line_that_does_not_fit_is_a_fault(rt: HostRuntime) {
     let want = [Ok(()), Err(WriteError::Sink), Err(WriteError::NoMemory)];
     assert_eq!(rt; write_two(rt.alloc()), Ok(want));
+}
+
+/// Whether a sink knows that each piece of it was a line: with no piece, after a line, and after half a line.
+fn by_lines(alloc: Global) -> Result<[bool; 3], NoMemory> {
+    let mut sink = MemSink::new(alloc, 9)?;
+    let empty = sink.by_lines();
+    let line = sink.put(b"line\n").is_ok() && sink.by_lines();
+    let half = sink.put(b"half").is_ok() && sink.by_lines();
+    Ok([empty, line, half])
+}
+
+#[test]
+fn half_a_line_is_no_line(rt: HostRuntime) {
+    assert_eq!(rt; by_lines(rt.alloc()), Ok([true, true, false]));
 }

@@ -7,12 +7,13 @@ use Rattle.loft_tree.specs.View.{source_of}
 use Rattle.loft_numbers.specs.Numbers.{numbered}
 use Rattle.loft_sense.specs.Machine.{Tree}
 use Rattle.loft_refusal.specs.declared.refusal.Stopped.{Stopped}
+use Rattle.loft_commands.specs.declared.code_run.RunError.{RunError}
 use Rattle.loft_commands.specs.RunStops.{stop_of_run}
 use Rattle.loft_words.specs.Command.{Run}
 use Rattle.loft_refusal.specs.Input.{ASource}
 use Rattle.loft_commands.specs.Promise.{IsReport, IsAnswerFor}
-use Rattle.loft_commands.proofs.Doing.{failed_does, run_stops}
-use Rattle.loft_commands.proofs.Written.{part_of}
+use Rattle.loft_commands.proofs.Doing.{failed_does, run_stops, run_blamed}
+use Rattle.loft_commands.proofs.Written.{part_of, room_of}
 use Rattle.loft_commands.proofs.command.run.Goals as goal
 
 pub returns-in_err-run_program-clause-does : goal.returns-in_err-run_program-clause-does
@@ -27,3 +28,7 @@ returns-in_err-run_program-clause-does g c = λ file.
     (part_of (IsReport (Tree (resolved_of n)) o) (IsAnswerFor (Run file o) (ASource (source_of c.args.program)))
     (λ text holds. (c.in_ok-placed.ensures.well, subst (λ (m : NamedProgram). IsReport (Tree (resolved_of m)) o text) same holds))
     c.in_err-run_program.ensures.failed)
+    (λ s. room_of (IsReport (Tree (resolved_of n)) o) (IsAnswerFor (Run file o) (ASource (source_of c.args.program)))
+    (λ text holds. (c.in_ok-placed.ensures.well, subst (λ (m : NamedProgram). IsReport (Tree (resolved_of m)) o text) same holds))
+    (c.in_err-run_program.ensures.no_room (ap (λ (d : RunError). Err d) (run_blamed e c.from_residual-in_err-run_program.result is s))))
+    c.in_err-run_program.ensures.by_lines

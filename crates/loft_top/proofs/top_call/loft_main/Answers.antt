@@ -1,8 +1,8 @@
-use Rattle.std.proofs.Common.{◌≡◌, ◌++◌, ◌∷◌, [], refl, sym, List, ℕ, Some}
+use Rattle.std.proofs.Common.{◌≡◌, ◌++◌, ◌∷◌, [], inl, refl, sym, List, ℕ, Some}
 use Rattle.std.specs.Prelude.{codes}
 use Rattle.loft_words.specs.Command.{files_of}
 use Rattle.loft_words.specs.CommandView.{command_of}
-use Rattle.loft_commands.specs.Written.{Appends, IsLine, IsPrefix}
+use Rattle.loft_commands.specs.Written.{Appends, IsLine, IsPrefix, HasNoRoom}
 use Rattle.loft_top.specs.declared.status.Status.TheVariants as status
 use Rattle.loft_top.specs.Status.{IsRefused, IsLogRefused}
 use Rattle.loft_top.specs.Reads.{contents_of}
@@ -58,9 +58,32 @@ returns-in-Some-clause-prefix g c = λ k contents is known cut.
 pub returns-in-None-clause-usage_line : goal.returns-in-None-clause-usage_line
 returns-in-None-clause-usage_line g c = λ is_usage.
     let line : List ℕ = codes "loft: usage" in
-    appends {P = IsLine line} (line ++ 10 ∷ []) (c.tell.ensures.written is_usage (λ e. cc)) refl
+    appends {P = IsLine line} (line ++ 10 ∷ []) (c.tell.ensures.tells.written is_usage) refl
 
 pub returns-in-None-clause-usage_prefix : goal.returns-in-None-clause-usage_prefix
 returns-in-None-clause-usage_prefix g c = λ none cut.
     let line : List ℕ = codes "loft: usage" in
-    begun (IsLine line) (line ++ 10 ∷ []) (c.tell.ensures.cut (λ e. cc) cut) refl
+    begun (IsLine line) (line ++ 10 ∷ []) (c.tell.ensures.tells.cut (inl cut)) refl
+
+pub returns-in-Some-clause-no_room : goal.returns-in-Some-clause-no_room
+returns-in-Some-clause-no_room g c = λ k contents is known fault.
+    of_found (λ k. contents_of (g.F.Files.contents c.args.files.now) (files_of k) ≡ Some contents
+    → HasNoRoom (g.S.Sink.room c.args.sink.now) (IsText k contents (g.F.Files.faults c.args.files.now) (g.F.Files.faults c.answer.new.files)))
+    c.in-Some.ensures.meant is (λ t. c.answer.ensures.answers.no_room contents t fault) known
+
+pub returns-in-None-clause-usage_no_room : goal.returns-in-None-clause-usage_no_room
+returns-in-None-clause-usage_no_room g c = λ none fault.
+    let line : List ℕ = codes "loft: usage" in
+    (line ++ 10 ∷ [], refl, c.tell.ensures.tells.no_room fault)
+
+pub returns-in-None-clause-sink_fault : goal.returns-in-None-clause-sink_fault
+returns-in-None-clause-sink_fault g c = c.tell.ensures.tells.cause
+
+pub returns-in-None-clause-sink_never_falls : goal.returns-in-None-clause-sink_never_falls
+returns-in-None-clause-sink_never_falls g c = c.tell.ensures.tells.never_falls
+
+pub returns-in-None-clause-by_lines : goal.returns-in-None-clause-by_lines
+returns-in-None-clause-by_lines g c = c.tell.ensures.tells.by_lines
+
+pub returns-in-Some-clause-by_lines : goal.returns-in-Some-clause-by_lines
+returns-in-Some-clause-by_lines g c = c.answer.ensures.answers.by_lines
