@@ -23,7 +23,8 @@ a source like the others, which is run.
 In the folder `replay` NAME.loft.report (or a rule, NAME.loft.report.rule) is the report that is replayed by
 NAME.loft. Where the answer is `ok`, it is replayed without its last choice too, and then the entry in the place of that
 isn't allowed. The table `changes.tsv` there has changes of one report: a text, what stands in its place,
-the answer, and that for the block of `A`, between tabs; `block` is the block as the report has it.
+the answer, and that for the block of `A`, between tabs; `block` is the block as the report has it. The same report is also
+cut at each length, and altered at each of its bytes.
 
 Each report of a run in `run`, `examples` and `docs/tutorial` is replayed by its source, which has to print `ok`; and so
 is each block of it, which has to be printed as it stands there.
@@ -261,28 +262,44 @@ class Unfinished(Replay):
         return self.shorter
 
 
-class Change(Replay):
-    """A row of the table of changes: a changed report, which is replayed whole or for the block of `A`."""
+class Altered(Replay):
+    """The report of two prints, altered: it is replayed whole or for the block of `A`."""
 
-    def __init__(self, number, line, only):
+    def __init__(self, name, altered, answer, only):
         super().__init__(CHANGED, "replay")
-        old, new, *answers = line.split(b"\t")
-        self.changed = super().report().replace(unescaped(old), unescaped(new), 1)
-        self.answer = answers[only]
+        self.altered, self.answer = altered, answer
         self.words = ["--only", "A"] if only else []
-        self.name = f"{CHANGES.relative_to(TOP)}, line {number}{', its block' if only else ''}"
+        self.name = f"{name}{', its block' if only else ''}"
 
     def wanted(self):
-        """The answer of the row."""
-        return block_of(self.changed, b"A") if self.answer == b"block" else self.answer + b"\n"
+        """The answer that goes with the alteration."""
+        return self.answer
 
     def report(self):
-        """The changed report."""
-        return self.changed
+        """The altered report."""
+        return self.altered
 
     def further(self):
-        """The option, where the row is for the block."""
+        """The option, where it is for the block."""
         return self.words
+
+
+def change(number, line, only):
+    """A row of the table of changes."""
+    old, new, *answers = line.split(b"\t")
+    changed = stored(CHANGED, ".report").replace(unescaped(old), unescaped(new), 1)
+    answer = block_of(changed, b"A") if answers[only] == b"block" else answers[only] + b"\n"
+    return Altered(f"{CHANGES.relative_to(TOP)}, line {number}", changed, answer, only)
+
+
+def cut_and_spoilt(only):
+    """The report cut at each length, and with each byte in turn replaced by one that no report has."""
+    report = stored(CHANGED, ".report")
+    for at in range(len(report)):
+        line = report[:at].count(b"\n") + 1
+        yield Altered(f"a report cut to {at} bytes", report[:at], b"log: ends at byte %d\n" % at, only)
+        spoilt = report[:at] + b"\x07" + report[at + 1 :]
+        yield Altered(f"a report with byte {at} spoilt", spoilt, b"log: line %d, byte %d\n" % (line, at), only)
 
 
 class Row:
@@ -327,7 +344,7 @@ def strays():
 
 
 def replays():
-    """The cases of `replay`: the stored ones, the changes of a report, and the reports of runs."""
+    """The cases of `replay`: the stored ones, the alterations of a report, and the reports of runs."""
     for source in sorted(TOP.glob("cases/replay/*.loft")):
         if source == CHANGED:
             continue
@@ -335,7 +352,8 @@ def replays():
         if stored_answer(source) == b"ok\n" and without_last_choice(stored(source, ".report")):
             yield Unfinished(source, "replay")
     for number, line in enumerate(CHANGES.read_bytes().split(b"\n")[:-1], 1):
-        yield from (Change(number, line, only) for only in (0, 1))
+        yield from (change(number, line, only) for only in (0, 1))
+    yield from (case for only in (0, 1) for case in cut_and_spoilt(only))
     runs = [it for folder, command in FOLDERS.items() if command == "run" for it in sorted(TOP.glob(f"{folder}/*.loft"))]
     for source in filter(has_report, runs):
         yield Replayed(source)

@@ -30,9 +30,17 @@ wrote() {
     fi
 }
 
-# Runs the program with these words; its answer goes into the room, or to an output that is full.
+# Runs the program with these words; its answer goes into the room, to an output that is full, or into a
+# pipe that nobody reads (its reader is closed before the program begins).
 answer() { timeout 60 "$program" "$@" > "$room/answer"; }
 full() { timeout 60 "$program" "$@" > /dev/full; }
+unread() {
+    (
+        trap '' PIPE
+        exec 5<> "$room/pipe" 6> "$room/pipe" 5>&-
+        timeout 60 "$program" "$@" >&6
+    )
+}
 
 # The same with the source in a pipe, without a name and with one.
 answer_of_input() { cat "$source" | answer run /dev/stdin; }
@@ -70,6 +78,7 @@ input_of() { if [ "$1" = exec ]; then echo "$room/listing"; else echo "$source";
 
 for command in run show check compile exec bound expand; do
     wants "$command, the output is full" 6 full "$command" "$(input_of "$command")"
+    wants "$command, nobody reads the output" 6 unread "$command" "$(input_of "$command")"
     wants "$command, a missing file" 5 answer "$command" "$room/missing"
     wrote "$command, a missing file" "$room/fault"
     wants "$command, a folder" 5 answer "$command" "$room"
@@ -79,6 +88,8 @@ wants "a refusal, the output is full" 6 full check "$room/refused"
 wants "a refusal of exec, the output is full" 6 full exec "$room/refused"
 wants "a missing file, the output is full" 6 full run "$room/missing"
 wants "no command, the output is full" 6 full
+wants "gen, the output is full" 6 full gen 1
+wants "a summary, the output is full" 6 full gen 1 --run
 
 # A report and its source: each of the two can fail.
 wants "replay" 0 answer replay "$source" "$report"
@@ -97,6 +108,16 @@ wants "replay of a block, the output is full" 6 full replay "$source" "$report" 
 wants "an unknown scheduler, the output is full" 6 full replay "$source" "$report" --only B
 wants "a refused report, the output is full" 6 full replay "$source" "$source"
 wants "a missing report, the output is full" 6 full replay "$source" "$room/missing"
+
+# A pipe that nobody reads is an output that fails, where SIGPIPE is ignored.
+wants "gen, nobody reads the output" 6 unread gen 1
+wants "a summary, nobody reads the output" 6 unread gen 1 --run
+wants "replay, nobody reads the output" 6 unread replay "$source" "$report"
+wants "replay of a block, nobody reads the output" 6 unread replay "$source" "$report" --only A
+wants "a refusal, nobody reads the output" 6 unread check "$room/refused"
+wants "a refused report, nobody reads the output" 6 unread replay "$source" "$source"
+wants "a missing file, nobody reads the output" 6 unread run "$room/missing"
+wants "no command, nobody reads the output" 6 unread
 
 wants "a pipe as standard input" 0 answer_of_input
 wrote "a pipe as standard input" "$report"
