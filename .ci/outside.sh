@@ -36,7 +36,6 @@ answer() { timeout 60 "$program" "$@" > "$room/answer"; }
 full() { timeout 60 "$program" "$@" > /dev/full; }
 unread() {
     (
-        trap '' PIPE
         exec 5<> "$room/pipe" 6> "$room/pipe" 5>&-
         timeout 60 "$program" "$@" >&6
     )
@@ -109,7 +108,7 @@ wants "an unknown scheduler, the output is full" 6 full replay "$source" "$repor
 wants "a refused report, the output is full" 6 full replay "$source" "$source"
 wants "a missing report, the output is full" 6 full replay "$source" "$room/missing"
 
-# A pipe that nobody reads is an output that fails, where SIGPIPE is ignored.
+# A pipe that nobody reads is an output that fails: no signal ends the program.
 wants "gen, nobody reads the output" 6 unread gen 1
 wants "a summary, nobody reads the output" 6 unread gen 1 --run
 wants "replay, nobody reads the output" 6 unread replay "$source" "$report"

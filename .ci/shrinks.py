@@ -6,6 +6,7 @@ and the program goes on. So no clock decides when it is cut. The answer has to b
 (docs/COMMANDS.md, "Words"). Each difference is told, and the status is 1 where there is one. Where the system lets nobody
 stop a program so, nothing is tried."""
 
+import contextlib
 import ctypes
 import os
 import pathlib
@@ -47,9 +48,10 @@ def start(words, output):
 def position(child, file):
     """How many bytes of the file the program has read; 0 where it isn't open."""
     for number in os.listdir(f"/proc/{child}/fd"):
-        if os.readlink(f"/proc/{child}/fd/{number}") == str(file):
-            told = pathlib.Path(f"/proc/{child}/fdinfo/{number}").read_text()
-            return int(re.search(r"^pos:\s*(\d+)", told, re.MULTILINE)[1])
+        with contextlib.suppress(FileNotFoundError):
+            if os.readlink(f"/proc/{child}/fd/{number}") == str(file):
+                told = pathlib.Path(f"/proc/{child}/fdinfo/{number}").read_text()
+                return int(re.search(r"^pos:\s*(\d+)", told, re.MULTILINE)[1])
     return 0
 
 
