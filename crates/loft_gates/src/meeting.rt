@@ -43,11 +43,11 @@ end
 start A.f();
 ";
 
-/// How often a turn that is held looks whether the other has come.
-const LOOKS: u64 = 10_000_000;
+/// How often all turns of a run together look whether another has come: a second or a few of waiting.
+const LOOKS: u64 = 1_000_000;
 
-/// How often a block that is held does.
-const LOOKS_OF_BLOCKS: u64 = 100_000;
+/// How often one block does, so that all 32 of a phase of one worker leave most of the looks to the next phase.
+const LOOKS_OF_A_BLOCK: u64 = 10_000;
 
 /// Turns that have come, and whether two were held at once.
 #[derive(Drop)]
@@ -55,6 +55,8 @@ pub(crate) struct Meeting {
     /// A bit for each that is held, 1 shifted by its number.
     here: AtomicU64,
     met: AtomicU64,
+    /// How many looks were made.
+    looks: AtomicU64,
 }
 
 impl Meeting {
@@ -63,7 +65,13 @@ impl Meeting {
         Meeting {
             here: AtomicU64::new(0),
             met: AtomicU64::new(0),
+            looks: AtomicU64::new(0),
         }
+    }
+
+    /// Makes one look more, if one is left.
+    fn may_look(&self) -> bool {
+        self.looks.fetch_add(1, Ordering::SeqCst) < LOOKS
     }
 
     /// Whether two were held at once.
@@ -71,7 +79,19 @@ impl Meeting {
         self.met.load(Ordering::SeqCst) > 0
     }
 
-    /// Comes as one of the numbers below 32, and stays until another number is here, but for so many looks at most.
+    /// An error where two were not held at once.
+    fn meets(&self) -> Result<(), Fail> {
+        if self.has_met() {
+            return Ok(());
+        }
+        if self.looks.load(Ordering::SeqCst) > LOOKS {
+            return Err(Fail::new("no two turns met in 1,000,000 looks"));
+        }
+        Err(Fail::new("no two turns met"))
+    }
+
+    /// Comes as one of the numbers below 32, and stays until another number is here, but for so many looks at most, and no
+    /// longer than looks are left.
     pub(crate) fn come(&self, number: u32, looks: u64) {
         let bit = 1u64 << (number % 32);
         self.here.fetch_or(bit, Ordering::SeqCst);
@@ -82,16 +102,19 @@ impl Meeting {
             if self.has_met() {
                 return;
             }
+            if !self.may_look() {
+                break;
+            }
             thread::yield_now();
         }
         self.here.fetch_and(!bit, Ordering::SeqCst);
     }
 
-    /// Waits until one of the numbers below 32 is here, for so many looks at most.
+    /// Waits until one of the numbers below 32 is here, for so many looks at most, and no longer than looks are left.
     pub(crate) fn wait_for(&self, number: u32, looks: u64) {
         let bit = 1u64 << (number % 32);
         for _ in 0..looks {
-            if self.here.load(Ordering::SeqCst) & bit > 0 {
+            if self.here.load(Ordering::SeqCst) & bit > 0 || !self.may_look() {
                 return;
             }
             thread::yield_now();
@@ -126,7 +149,7 @@ struct BlocksGate {
 impl Gate for BlocksGate {
     fn pass<R: Threads + Wait + Sync>(&self, _rt: &R, turn: Turn) {
         if let Turn::Block { w } = turn {
-            self.meeting.come(w, LOOKS_OF_BLOCKS);
+            self.meeting.come(w, LOOKS_OF_A_BLOCK);
         }
     }
 }
@@ -159,8 +182,7 @@ fn two_schedulers_meet(rt: HostRuntime) -> Result<(), Fail> {
         meeting: Meeting::new(),
     };
     run_listing(&rt, TWO, &gate)?;
-    assert!(rt; gate.meeting.has_met());
-    Ok(())
+    gate.meeting.meets()
 }
 
 /// Blocks of two workers are held at once.
@@ -170,6 +192,5 @@ fn two_workers_meet(rt: HostRuntime) -> Result<(), Fail> {
         meeting: Meeting::new(),
     };
     run_listing(&rt, JOBS, &gate)?;
-    assert!(rt; gate.meeting.has_met());
-    Ok(())
+    gate.meeting.meets()
 }
