@@ -58,7 +58,7 @@ pub end_found : (text : List ℕ) (k b : ℕ) (left after : List ℕ) → IsComp
 end_found text k b left after is next = record { within = is.within; after = subst (λ (l : List ℕ). head_is b l ≡ false) (sym (sym is.after ∙ next)) refl }
 
 -- a comparison that hasn't stopped has found nothing
-nothing_found : (f : Found) → is_stop f ≡ false → f ≡ found.Equal
+pub nothing_found : (f : Found) → is_stop f ≡ false → f ≡ found.Equal
 nothing_found found.Equal on = refl
 nothing_found (found.Other b) on = absurd (let e : true ≡ false = on in cc)
 nothing_found found.NoMemory on = absurd (let e : true ≡ false = on in cc)

@@ -1,3 +1,4 @@
 pub mod PlaceLemmas
 pub mod Differences
 pub mod Comparing
+pub mod Skipping

@@ -1,6 +1,6 @@
 //! A sink that compares.
 
-ghost use Rattle.std.specs.Prelude.{◌≡◌, [], IfOk, ℕ, List, true, false};
+ghost use Rattle.std.specs.Prelude.{◌≡◌, [], ◌++◌, IfOk, ℕ, List, true, false};
 ghost use Rattle.loft_shape.specs.Text.{text_of};
 ghost use Rattle.loft_reader.specs.Answer.{report_in};
 ghost use Rattle.loft_replay_error.specs.Difference.{IsDifference};
@@ -80,8 +80,8 @@ impl<'a, X: KnownText> Comparison<'a, X> {
         }
     }
 
-    /// Compares bytes until one differs.
-    fn compare_all(&mut self, bytes: &[u8])
+    /// Compares bytes one by one until one differs.
+    fn compare_each(&mut self, bytes: &[u8])
         ensures put { Follows self.old.written bytes.now self.new }
         ensures stays { self.old.stopped ≡ true → self.new.stopped ≡ true }
     {
@@ -91,6 +91,40 @@ impl<'a, X: KnownText> Comparison<'a, X> {
             }
             self.compare(*b);
         }
+    }
+
+    /// Goes over all bytes at once, if the text goes on with them in the piece at which its walk is. Answers whether it
+    /// does.
+    #[tactic(auto, using(crate::proofs::Skipping::skips_put, crate::proofs::Skipping::stays))]
+    fn skip(&mut self, bytes: &[u8]) -> bool
+        requires { self.old.stopped ≡ false }
+        ensures put { result ≡ true → self.new ≡ record self.old { written = self.old.written ++ bytes.now } }
+        ensures stays { result ≡ false → self.new ≡ self.old }
+    {
+        let Some(equal) = self.equal.checked_add(bytes.len() as u64) else {
+            return false;
+        };
+        if self.rest.skip(bytes) {
+            self.equal = equal;
+            true
+        } else {
+            false
+        }
+    }
+
+    /// Compares bytes until one differs: all at once where they are the same, as most lines are.
+    #[tactic(auto, using(crate::proofs::Skipping::all_follow, crate::proofs::Skipping::none_follows, crate::proofs::Skipping::same_follow))]
+    fn compare_all(&mut self, bytes: &[u8])
+        ensures put { Follows self.old.written bytes.now self.new }
+        ensures stays { self.old.stopped ≡ true → self.new.stopped ≡ true }
+    {
+        if self.has_stopped() {
+            return;
+        }
+        if self.skip(bytes) {
+            return;
+        }
+        self.compare_each(bytes);
     }
 
     /// After how many bytes the text of the report and the one that was put differ; none if they are the same.

@@ -1,6 +1,6 @@
 //! The bytes of a report, one after another.
 
-ghost use Rattle.std.specs.Prelude.{◌≡◌, [], ◌∷◌, OnOk, IfOk, MatchOption};
+ghost use Rattle.std.specs.Prelude.{◌≡◌, [], ◌∷◌, ◌++◌, true, false, OnOk, IfOk, IfSome, MatchOption};
 ghost use Rattle.loft_compared.specs.Places.{text_at};
 ghost use Rattle.loft_compared.specs.Walks.{here, left_of};
 
@@ -9,6 +9,14 @@ use crate::place::{Piece, Place};
 use loft_base::NoMemory;
 use loft_text::LineBuffer;
 use std::alloc::Global;
+
+/// What comes after these bytes in a text that begins with them; none if it doesn't.
+#[tactic(auto, using(crate::proofs::Skipping::stripped))]
+fn after<'a>(text: &'a [u8], bytes: &[u8]) -> Option<&'a [u8]>
+    ensures { IfSome result (λ more. text.now ≡ bytes.now ++ more.now) }
+{
+    text.strip_prefix(bytes)
+}
 
 /// A walk over the bytes of a text. It is at a piece of it, which is a line that it has made or bytes as they are kept,
 /// and knows the place after that.
@@ -84,5 +92,21 @@ impl<'a> Walk<'a> {
         }
         self.enter()?;
         Ok(self.next_here())
+    }
+
+    /// Goes over these bytes, if what is still to come of the piece begins with them. Answers whether it does.
+    #[tactic(auto, using(crate::proofs::Skipping::skipped))]
+    pub fn skip(&mut self, bytes: &[u8]) -> bool
+        ensures skipped { result ≡ true → left_of self.old ≡ bytes.now ++ left_of self.new }
+        ensures stays { result ≡ false → left_of self.new ≡ left_of self.old }
+    {
+        if self.at < self.line.text.len() {
+            return false;
+        }
+        let Some(more) = after(self.bytes, bytes) else {
+            return false;
+        };
+        self.bytes = more;
+        true
     }
 }

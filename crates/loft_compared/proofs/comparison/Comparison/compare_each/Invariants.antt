@@ -1,6 +1,6 @@
 use Rattle.std.specs.Prelude.{◌≡◌, true}
 use Rattle.loft_compared.proofs.Comparing.{Puts}
-use Rattle.loft_compared.proofs.comparison.Comparison.compare_all.Given as goal
+use Rattle.loft_compared.proofs.comparison.Comparison.compare_each.Given as goal
 
 -- the bytes so far were gone over
 abbrev pub invariant-loop-b : goal.invariant-loop-b
