@@ -4,7 +4,7 @@ use Rattle.loft_base.specs.declared.ids.SchedId.{SchedId}
 use Rattle.loft_code.specs.View.{automata_of}
 use Rattle.loft_base.specs.declared.options.Limits.{Limits}
 use Rattle.loft_sense.specs.Machine.{Prog, Code, Mach}
-use Rattle.loft_instant.specs.States as state
+use Rattle.loft_line_engine.specs.States as state
 use Rattle.loft_engine.specs.declared.engine.CodeEngine.{CodeEngine}
 
 abbrev pub code_of : CodeEngine → Prog

@@ -9,10 +9,12 @@ ghost use Rattle.loft_effect.specs.Outcomes.{outcome_of};
 
 use loft_base::NoMemory;
 use loft_code::Code;
+use loft_count::Steps;
+use loft_counted::CountedInterpreter;
 use loft_effect::Around;
 use loft_orders::{Stop, Thread};
 use loft_passes::Interpreter;
-use loft_step::{Steps, go};
+use loft_step::go;
 use loft_tree::Heads;
 use std::alloc::Global;
 use std::marker::Brand;
@@ -59,5 +61,17 @@ impl Interpreter for Stepper<'_> {
         around: &mut Around,
     ) -> Result<Stop, NoMemory> {
         run::<Brand>(alloc, self.code, thread, around, Blank::new(1))
+    }
+}
+
+impl CountedInterpreter for Stepper<'_> {
+    fn run_counted<L: Ledger>(
+        &self,
+        alloc: Global,
+        thread: &mut Thread,
+        around: &mut Around,
+        steps: &mut Steps<L>,
+    ) -> Result<Stop, NoMemory> {
+        go(alloc, self.code, thread, around, steps)
     }
 }

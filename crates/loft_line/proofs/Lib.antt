@@ -12,3 +12,4 @@ pub mod RestLemmas
 pub mod StandingLemmas
 pub mod PackLemmas
 pub mod RoomLemmas
+pub mod CountLemmas

@@ -1,2 +1,3 @@
 pub mod Batches
 pub mod States
+pub mod Counts

@@ -1,12 +1,13 @@
 //! The orders of a batch (docs/SEMANTICS.md, "Apply").
 
-ghost use Rattle.std.specs.Prelude.{◌≡◌, ◌<◌, ◌++◌, ◌∷◌, [], length, OnOk};
+ghost use Rattle.std.specs.Prelude.{◌≡◌, ◌+◌, ◌<◌, ◌≤◌, ◌++◌, ◌∷◌, [], length, OnOk};
 ghost use Rattle.loft_board.specs.Board.{generate as generate_on};
 ghost use Rattle.loft_orders.specs.declared.order.Mark.TheVariants as mark;
 ghost use Rattle.loft_sense.specs.Apply.{marked, with_last, ended_by, apply_order, apply_orders};
 
 use loft_base::{EventId, ModuleId, NoMemory, SchedId, Sequence, ThreadId, TryClone, Value};
 use loft_board::Board;
+use loft_count::Steps;
 use loft_instant::{new_thread, tell_end};
 use loft_line::Line;
 use loft_orders::{End, Ended, Ends, Mark, Marks, Order, Sents, Thread};
@@ -14,6 +15,7 @@ use loft_sense::MAX_LINKED;
 use loft_tree::Heads;
 use loft_waits::counts_follow_the_board;
 use std::alloc::Global;
+use std::sync::ledger::Ledger;
 
 /// A scheduler while it applies a batch.
 #[derive(Drop)]
@@ -267,21 +269,25 @@ impl Batch {
         }
     }
 
-    /// The orders of a batch, one after the other.
-    pub fn apply_all(
+    /// The orders of a batch, one after the other. Each is counted.
+    pub fn apply_all<L: Ledger>(
         &mut self,
         alloc: Global,
         heads: &Heads,
         scheduler: SchedId,
         orders: &[Order],
+        steps: &mut Steps<L>,
     ) -> Result<(), NoMemory>
         requires sound { IsSound self.old }
         ensures sound { OnOk result (IsSound self.new) }
         ensures keeps { OnOk result (KeepsLine self.old.line self.new.line) }
         ensures applied { OnOk result (applied_of self.new
             ≡ apply_orders heads.now scheduler (applied_of self.old) orders.now) }
+        ensures counted { OnOk result (steps.new ≡ steps.old + length orders.now) }
+        ensures within { steps.new ≤ steps.old + length orders.now }
     {
         for order in orders {
+            steps.tick();
             self.apply(alloc, heads, scheduler, order)?;
         }
         Ok(())

@@ -1,9 +1,10 @@
 //! One instant of a scheduler (docs/SEMANTICS.md, "Instant").
 
-ghost use Rattle.std.specs.Prelude.{◌≡◌, ◌+◌, ◌<◌, ◌≤◌, ◌^◌, ◌++◌, [], false, length, map, filter, IfOk, OnOk};
+ghost use Rattle.std.specs.Prelude.{◌≡◌, ◌+◌, ◌*◌, ◌<◌, ◌≤◌, ◌^◌, ◌++◌, [], false, length, map, filter, IfOk, OnOk};
 ghost use Rattle.loft_board.specs.Board.{no_events};
 ghost use Rattle.loft_effect.specs.View.{around_of};
 ghost use Rattle.loft_instant.specs.States.{machine_before, walk_from};
+ghost use Rattle.loft_line.specs.Counts.{runs_and_steps};
 ghost use Rattle.loft_line.specs.Line.{runners_in, standings_in, IsLine, IsIdle, IsTold, IsQuiet, KeepsRun};
 ghost use Rattle.loft_passes.specs.View.{runners_of, walk_of};
 ghost use Rattle.loft_sense.specs.Apply.{apply_orders};
@@ -16,12 +17,15 @@ ghost use Rattle.loft_sense.specs.Passes.{passes as passes_over};
 ghost use Rattle.loft_tree.specs.declared.heads.Place.TheVariants.{Sched as SchedPlace};
 ghost use Rattle.loft_waits.specs.Told.{counts_of, closed as closed_told, NobodyFrom};
 ghost use Rattle.loft_line_engine.specs.Batches.{applied_of, IsSound};
+ghost use Rattle.loft_line_engine.specs.Counts.{most_counted, least_counted};
 ghost use Rattle.loft_line_engine.specs.States.{machine_with, IsClosed};
 
 use crate::batch::Batch;
 use crate::state::State;
 use loft_base::{NoMemory, Sequence, ThreadId};
 use loft_board::Board;
+use loft_count::Steps;
+use loft_counted::CountedInterpreter;
 use loft_effect::Around;
 use loft_instant::{Setting, changes, fitted, keep_values, tell_all};
 use loft_line::Line;
@@ -32,15 +36,17 @@ use loft_tally::tally_after;
 use loft_tree::Place;
 use loft_waits::counts_follow_the_board;
 use std::alloc::Global;
+use std::sync::ledger::Ledger;
 
-/// The batch is applied to these threads.
-fn apply<I: Interpreter>(
+/// The batch is applied to these threads. Each order is counted.
+fn apply<I: CountedInterpreter, L: Ledger>(
     alloc: Global,
     setting: &Setting<I>,
     line: Line,
     known: Sequence<ThreadId>,
     board: Board,
     orders: &[Order],
+    steps: &mut Steps<L>,
 ) -> Result<Batch, NoMemory>
     requires idle { IsIdle line }
     requires counts { line.waits.counts ≡ counts_of board }
@@ -58,6 +64,8 @@ fn apply<I: Interpreter>(
           stopped = [];
           sent = [];
         }) orders.now) }
+    ensures counted { OnOk result (steps.new ≡ steps.old + length orders.now) }
+    ensures within { steps.new ≤ steps.old + length orders.now }
 {
     let mut batch = Batch::new(alloc, line, known, board);
     batch.apply_all(
@@ -65,13 +73,14 @@ fn apply<I: Interpreter>(
         setting.interpreter.heads(),
         setting.scheduler,
         orders,
+        steps,
     )?;
     Ok(batch)
 }
 
 /// What stands around the threads when they have run until nobody can go, where they find these
-/// values.
-fn run<I: Interpreter>(
+/// values. Each position at which a thread runs is counted, and each step.
+fn run<I: CountedInterpreter, L: Ledger>(
     alloc: Global,
     setting: &Setting<I>,
     line: &mut Line,
@@ -79,6 +88,7 @@ fn run<I: Interpreter>(
     shared: Numbers,
     known: Sequence<ThreadId>,
     made: u64,
+    steps: &mut Steps<L>,
 ) -> Result<Around, NoMemory>
     requires idle { IsIdle line.old }
     requires counts { line.old.waits.counts ≡ counts_of board }
@@ -100,6 +110,10 @@ fn run<I: Interpreter>(
     ensures over { OnOk result (NobodyFrom line.new.waits 0) }
     ensures told { IfOk result (λ around. IsTold line.new (around_of around)) }
     ensures keeps { OnOk result (KeepsRun line.old line.new) }
+    ensures counted { steps.new
+        ≤ steps.old + length (standings_in (runners_in line.old)) * (2 * line.old.budget + 2) }
+    ensures least { OnOk result (steps.old
+        + runs_and_steps line.old.budget (runners_of (runners_in line.new)) ≤ steps.new) }
 {
     let mut around = Around {
         place: Place::Sched(setting.scheduler),
@@ -112,7 +126,7 @@ fn run<I: Interpreter>(
         bound: 0,
         acts: Sequence::new(alloc),
     };
-    line.run(alloc, &setting.interpreter, &mut around)?;
+    line.run(alloc, &setting.interpreter, &mut around, steps)?;
     Ok(around)
 }
 
@@ -157,7 +171,7 @@ fn close<I: Interpreter>(
 
 /// What is left of an instant once its batch is applied: the passes, and the close. The shared
 /// values stand twice, as the instant finds them and as it changes them. The instant isn't told yet.
-fn after_batch<I: Interpreter>(
+fn after_batch<I: CountedInterpreter, L: Ledger>(
     alloc: Global,
     setting: &Setting<I>,
     batch: Batch,
@@ -165,6 +179,7 @@ fn after_batch<I: Interpreter>(
     before: Numbers,
     made: u64,
     tally: Tally,
+    steps: &mut Steps<L>,
 ) -> Result<(State, InstantNote), NoMemory>
     requires sound { IsSound batch }
     requires budget { batch.line.budget ≡ setting.now.limits.budget }
@@ -183,6 +198,13 @@ fn after_batch<I: Interpreter>(
         (walk_from (I.program setting.now.interpreter) setting.now.limits.budget m (applied_of batch))) }
     ensures closed { IfOk result (λ did.
         IsClosed setting.now.events setting.now.limits.budget (tally.number + 1) did.0) }
+    ensures counted { steps.new ≤ steps.old
+        + length (applied_of batch).linked * (2 * setting.now.limits.budget + 2) }
+    ensures least { OnOk result (
+        let m = machine_before setting.now.scheduler shared made tally in
+        steps.old + runs_and_steps setting.now.limits.budget
+        (walk_from (I.program setting.now.interpreter) setting.now.limits.budget m (applied_of batch)).runners
+        ≤ steps.new) }
 {
     let Batch {
         mut line,
@@ -192,7 +214,7 @@ fn after_batch<I: Interpreter>(
         stopped,
         mut sent,
     } = batch;
-    let around = run(alloc, setting, &mut line, board, shared, known, made)?;
+    let around = run(alloc, setting, &mut line, board, shared, known, made, steps)?;
     let (stands, changed) = close(
         alloc,
         setting,
@@ -233,12 +255,14 @@ fn after_batch<I: Interpreter>(
     Ok((state, note))
 }
 
-/// One instant of a scheduler in this state.
-pub fn instant<I: Interpreter>(
+/// One instant of a scheduler in this state. Each order is counted, each position at which a thread
+/// runs, and each step.
+pub fn instant<I: CountedInterpreter, L: Ledger>(
     alloc: Global,
     setting: &Setting<I>,
     state: State,
     orders: &Orders,
+    steps: &mut Steps<L>,
 ) -> Result<(State, InstantNote), NoMemory>
     requires closed { IsClosed setting.now.events setting.now.limits.budget state.tally.number state }
     requires made { state.made ≤ 2 ^ 63 }
@@ -251,6 +275,10 @@ pub fn instant<I: Interpreter>(
         (machine_with setting.now.scheduler state) orders.now).note) }
     ensures closed { IfOk result (λ did.
         IsClosed setting.now.events setting.now.limits.budget did.0.tally.number did.0) }
+    ensures counted { steps.new ≤ steps.old + most_counted (I.program setting.now.interpreter)
+        setting.now.limits (machine_with setting.now.scheduler state) orders.now }
+    ensures least { OnOk result (steps.old + least_counted (I.program setting.now.interpreter)
+        setting.now.limits (machine_with setting.now.scheduler state) orders.now ≤ steps.new) }
 {
     let State {
         line,
@@ -263,8 +291,8 @@ pub fn instant<I: Interpreter>(
     } = state;
     keep_values(&mut before, shared.as_slice())?;
     counts_follow_the_board();
-    let batch = apply(alloc, setting, line, known, board, orders.as_slice())?;
-    let (mut state, note) = after_batch(alloc, setting, batch, shared, before, made, tally)?;
+    let batch = apply(alloc, setting, line, known, board, orders.as_slice(), steps)?;
+    let (mut state, note) = after_batch(alloc, setting, batch, shared, before, made, tally, steps)?;
     let heads = setting.interpreter.heads();
     state.tally = tally_after(heads, setting.scheduler, tally, orders, &note);
     Ok((state, note))

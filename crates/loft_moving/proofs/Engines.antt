@@ -5,9 +5,7 @@ use denote.Ref.{NamedLft}
 use denote.Struct.Declared as declared
 use denote.Param.Send.{IsSend, struct_send, recorded_send, shr_send}
 use Rattle.loft_code.specs.contracts.valid.Code as Code
-use Rattle.loft_passes.specs.contracts.pass.WalkAll as WalkAll
-use Rattle.loft_passes.proofs.pass.WalkAll.TheSendSync as walk
-use Rattle.loft_instant.proofs.engine.InstantEngine.TheSendSync as instant
+use Rattle.loft_line_engine.proofs.engine.LineEngine.TheSendSync as line
 use Rattle.loft_sharing.proofs.Sharing.{code}
 use Rattle.loft_engine.specs.contracts.engine.CodeEngine as CodeEngine
 use Rattle.loft_engine.specs.contracts.stepper.Stepper as Stepper
@@ -17,4 +15,4 @@ pub stepper : (a : NamedLft) → IsSend (Stepper.the_row a)
 stepper a = recorded_send (Stepper.the_field a).row _ _ (Stepper.the_type a).to_one (struct_send (declared.shape (Stepper.the_type a)) (shr_send _ _ Code.the_row code, tt))
 
 pub engine : (a : NamedLft) → IsSend (CodeEngine.the_row a)
-engine a = recorded_send (CodeEngine.the_field a).row _ _ (CodeEngine.the_type a).to_one (struct_send (declared.shape (CodeEngine.the_type a)) (instant.the_field_send (Stepper.the_row a) WalkAll.the_row interpreter.ghosts (stepper a) walk.the_send, tt))
+engine a = recorded_send (CodeEngine.the_field a).row _ _ (CodeEngine.the_type a).to_one (struct_send (declared.shape (CodeEngine.the_type a)) (line.the_field_send (Stepper.the_row a) interpreter.ghosts (stepper a), tt))

@@ -8,14 +8,13 @@ mod operand;
 mod paused;
 mod running;
 mod step;
-mod steps;
 mod thread;
 mod value;
 mod walk;
 
+pub use loft_count::Steps;
 pub use loft_effect::{Around, Gone};
 pub use midst::{Paused, Progress};
 pub use paused::{begin, go_on};
-pub use steps::Steps;
 pub use thread::go;
 pub use value::eval;

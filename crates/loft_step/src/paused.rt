@@ -9,10 +9,10 @@ ghost use Rattle.loft_effect.specs.View.{around_of, steps_left};
 ghost use Rattle.loft_step.specs.Midst.{turn_with, IfGoes, paused_outcome, paused_left, progress_outcome, progress_left};
 
 use crate::midst::{Paused, Progress, Turn};
-use crate::steps::Steps;
 use crate::thread::{begin as begin_in, run};
 use loft_base::NoMemory;
 use loft_code::Code;
+use loft_count::Steps;
 use loft_effect::{Around, Beside, Gone};
 use loft_orders::Thread;
 use std::alloc::Global;

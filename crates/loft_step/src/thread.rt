@@ -19,10 +19,10 @@ ghost use Rattle.loft_step.specs.Midst.{turn_with, IfGoes};
 use crate::midst::{Stack, Turn};
 use crate::running::{Running, settle_all};
 use crate::step::Move;
-use crate::steps::Steps;
 use crate::walk::count;
 use loft_base::{ModuleId, NoMemory, Sequence, ThreadId, Values};
 use loft_code::Code;
+use loft_count::Steps;
 use loft_effect::{Around, Beside, Effect, Outcome, take_around};
 use loft_orders::{At, End, Frame, Frames, Stop, Thread, To, Wait};
 use loft_sense::MAX_FRAMES;
@@ -157,6 +157,7 @@ fn walk_frames<L: Ledger>(
     ensures grows { OnOk result (beside.old.around.steps ≤ beside.new.around.steps) }
     ensures counted { OnOk result
         (steps.new + beside.old.around.steps ≡ steps.old + beside.new.around.steps) }
+    ensures within { steps.new + beside.old.around.steps ≤ steps.old + beside.old.around.bound }
 {
     'going: loop {
         match top.walk(alloc, code, beside, pauses, steps)? {
@@ -199,6 +200,7 @@ pub fn run<L: Ledger>(
     ensures bound { OnOk result (beside.new.around.bound ≡ beside.old.around.bound) }
     ensures grows { OnOk result (beside.old.around.steps ≤ beside.new.around.steps) }
     ensures counted { OnOk result (steps.new + beside.old.around.steps ≡ steps.old + beside.new.around.steps) }
+    ensures within { steps.new + beside.old.around.steps ≤ steps.old + beside.old.around.bound }
 {
     let Stack { mut top, mut outer } = stack;
     match walk_frames(alloc, code, &mut top, &mut outer, beside, pauses, steps)? {
@@ -223,6 +225,7 @@ pub fn begin<L: Ledger>(
     ensures bound { OnOk result (beside.new.around.bound ≡ beside.old.around.bound) }
     ensures grows { OnOk result (beside.old.around.steps ≤ beside.new.around.steps) }
     ensures counted { OnOk result (steps.new + beside.old.around.steps ≡ steps.old + beside.new.around.steps) }
+    ensures within { steps.new + beside.old.around.steps ≤ steps.old + beside.old.around.bound }
 {
     if beside.around.steps == beside.around.bound {
         let cause = over(frames.as_slice());
@@ -252,6 +255,7 @@ fn whole<L: Ledger>(
     ensures bound { OnOk result (beside.new.around.bound ≡ beside.old.around.bound) }
     ensures grows { OnOk result (beside.old.around.steps ≤ beside.new.around.steps) }
     ensures counted { OnOk result (steps.new + beside.old.around.steps ≡ steps.old + beside.new.around.steps) }
+    ensures within { steps.new + beside.old.around.steps ≤ steps.old + beside.old.around.bound }
 {
     match begin(code, frames, wait, beside, steps)? {
         Turn::Stops(outcome) => Ok(outcome),
@@ -263,8 +267,8 @@ fn whole<L: Ledger>(
 }
 
 /// A thread that can go runs from where it stood to the stop that holds it or by which it leaves, or to its end, in as many
-/// steps as what stands around it still allows. Where it is out of memory, nothing is said of the thread and of what stands
-/// around it.
+/// steps as what stands around it still allows. Each of them is counted. Where it is out of memory, nothing is said of the
+/// thread and of what stands around it; no more steps are counted than it might have made.
 pub fn go<L: Ledger>(
     alloc: Global,
     c: &Code,
@@ -276,6 +280,7 @@ pub fn go<L: Ledger>(
         ≡ run_of (ByCode (automata_of c.now)) t.old (around_of around.old) (around.old.bound - around.old.steps)) }
     ensures bound { OnOk result (around.new.bound ≡ around.old.bound) }
     ensures counted { OnOk result (steps.new ≡ steps.old + (around.new.steps - around.old.steps)) }
+    ensures within { steps.new ≤ steps.old + (around.old.bound - around.old.steps) }
 {
     let frames = mem::replace(&mut t.frames, Sequence::new(alloc));
     let mut beside = Beside {

@@ -7,9 +7,9 @@ ghost use Rattle.loft_effect.specs.View.{around_of};
 use crate::jump::{ends_at, landing, lines_of};
 use crate::running::Running;
 use crate::step::Move;
-use crate::steps::Steps;
 use loft_base::NoMemory;
 use loft_code::Code;
+use loft_count::Steps;
 use loft_effect::{Around, Beside};
 use loft_orders::End;
 use std::alloc::Global;
@@ -46,6 +46,7 @@ impl Running {
         ensures bound { OnOk result (beside.new.around.bound ≡ beside.old.around.bound) }
         ensures grows { OnOk result (beside.old.around.steps ≤ beside.new.around.steps) }
         ensures counted { OnOk result (steps.new + beside.old.around.steps ≡ steps.old + beside.new.around.steps) }
+        ensures within { steps.new + beside.old.around.steps ≤ steps.old + beside.old.around.bound }
     {
         let heads = code.heads();
         let lines = lines_of(code, self.scope.at.module);

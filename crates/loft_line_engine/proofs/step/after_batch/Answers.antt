@@ -1,16 +1,18 @@
-use Rattle.std.proofs.Common.{ℕ, ◌+◌, ◌∙◌, ◌++◌, ap, map, refl, false, List, ℤ}
+use Rattle.std.proofs.Common.{ℕ, ◌+◌, ◌∙◌, ◌++◌, ap, map, refl, false, List, ℤ, arith, length}
 use Rattle.loft_tree.specs.declared.heads.Place.TheVariants.{Sched}
 use Rattle.loft_sense.specs.Machine.{heads}
 use Rattle.loft_sense.specs.Heads.{shared_of}
 use Rattle.loft_sense.specs.Instant.{around_of, runner_of, sent_by, changes}
-use Rattle.loft_sense.specs.Passes.{passes}
+use Rattle.loft_sense.specs.Passes.{Walk, passes}
 use Rattle.loft_passes.specs.View.{walk_of}
 use Rattle.loft_instant.specs.States.{machine_before, walk_from}
 use Rattle.loft_instant.proofs.InstantLemmas.{machine_so, note_so}
 use Rattle.loft_instant.proofs.EngineLemmas.{board_stays}
+use Rattle.loft_line.specs.Counts.{runs_and_steps}
 use Rattle.loft_line.specs.Line.{runners_in, standings_in}
 use Rattle.loft_waits.specs.Told.{Told}
 use Rattle.loft_line_engine.specs.Batches.{applied_of}
+use Rattle.loft_line_engine.proofs.CountLemmas.{with_budget}
 use Rattle.loft_line_engine.proofs.StateLemmas.{told_closed}
 use Rattle.loft_line_engine.proofs.step.after_batch.Goals as goal
 
@@ -54,3 +56,25 @@ returns-clause-closed g c =
       budget_is = c.in_ok-stands.ensures.budget ∙ (c.in_ok-around.ensures.keeps.budget ∙ c.requires.budget);
       no_event = board_stays x rs (around_of m a) w c.args.setting.now.events c.reset.new.self c.in_ok-around.ensures.passes c.requires.board c.reset.ensures;
     }
+
+pub returns-clause-counted : goal.returns-clause-counted
+returns-clause-counted g c =
+    with_budget (length (applied_of c.args.batch).linked) c.args.batch.line.budget c.args.setting.now.limits.budget c.args.steps.now c.run.new.steps c.requires.budget c.run.ensures.counted
+
+pub returns-clause-least : goal.returns-clause-least
+returns-clause-least g c =
+    let x = g.I.Interpreter.program c.args.setting.now.interpreter in
+    let m = machine_before c.args.setting.now.scheduler c.args.shared c.args.made c.args.tally in
+    let a = applied_of c.args.batch in
+    let budget = c.args.setting.now.limits.budget in
+    let ran = ap (λ (w : Walk). w.runners) (c.in_ok-around.ensures.passes ∙ ap (λ (b : ℕ). passes x (map (runner_of b) a.linked) (around_of m a)) c.requires.budget) in
+    let same = ap (runs_and_steps c.args.batch.line.budget) ran ∙ ap (λ (b : ℕ). runs_and_steps b (walk_from x budget m a).runners) c.requires.budget in
+    omega (arith, same, c.in_ok-around.ensures.least)
+
+pub returns-in_err-around-clause-counted : goal.returns-in_err-around-clause-counted
+returns-in_err-around-clause-counted g c =
+    with_budget (length (applied_of c.args.batch).linked) c.args.batch.line.budget c.args.setting.now.limits.budget c.args.steps.now c.run.new.steps c.requires.budget c.run.ensures.counted
+
+pub returns-in_err-stands-clause-counted : goal.returns-in_err-stands-clause-counted
+returns-in_err-stands-clause-counted g c =
+    with_budget (length (applied_of c.args.batch).linked) c.args.batch.line.budget c.args.setting.now.limits.budget c.args.steps.now c.run.new.steps c.requires.budget c.run.ensures.counted

@@ -1,13 +1,15 @@
-use Rattle.std.proofs.Common.{rules, ◌≡◌, ℕ, ◌+◌, ◌≤◌, ◌<◌, suc, refl, sym, ◌∙◌, ap, subst, arith, true, List, Option, Some, length}
+use Rattle.std.proofs.Common.{rules, ◌≡◌, ℕ, ◌+◌, ◌*◌, ◌≤◌, ◌<◌, suc, refl, sym, ◌∙◌, ap, subst, arith, true, List, Option, Some, length}
 use Rattle.std.proofs.lemmas.Option.{slice_get_within}
-use Rattle.loft_sense.specs.Passes.{Runner as Linked, passes}
+use Rattle.loft_sense.specs.Passes.{Runner as Linked, passes, steps_left}
 use Rattle.loft_effect.specs.View.{around_of}
 use Rattle.loft_passes.specs.declared.runner.Runner.{Runner}
 use Rattle.loft_passes.specs.View.{runners_of, can_run}
 use Rattle.loft_ready.specs.Entered.{IsEntered}
 use Rattle.loft_ready.proofs.PositionLemmas.{at, IsOn, Onward, runs_at, ready_runs, next_first, next_behind, length_set}
 use Rattle.loft_ready.proofs.RunLemmas.{fewer_steps}
-use Rattle.loft_line.specs.Line.{runners_in}
+use Rattle.loft_line.specs.Line.{runners_in, standings_in}
+use Rattle.loft_line.specs.Counts.{runs_and_steps}
+use Rattle.loft_line.proofs.CountLemmas.{begun_most, begun_least}
 use Rattle.loft_line.proofs.ListLemmas.{length_with}
 use Rattle.loft_line.proofs.RunLemmas.{IfNext, if_next, idle_rests, over_is}
 use Rattle.loft_line.proofs.line.Line.run.Goals as goal
@@ -28,6 +30,8 @@ runs-init g c =
       next = if_next l.waits 18446744073709551615 c.next_after-next.result c.next_after-next.ensures;
       onward = next_first x rs around l.waits 18446744073709551615 c.next_after-next.result entered few c.next_after-next.ensures;
       keeps = record { budget = refl; closes = refl };
+      counted = omega arith;
+      least = λ budget. omega arith;
     }
 
 pub runs-preserved : goal.runs-preserved
@@ -57,6 +61,11 @@ runs-preserved g c =
         budget = c.in_ok-run_at.ensures.keeps.budget ∙ c.runs.invariant.keeps.budget;
         closes = c.in_ok-run_at.ensures.keeps.closes ∙ c.runs.invariant.keeps.closes;
       };
+      counted = omega (arith, c.runs.invariant.counted, c.in_ok-run_at.ensures.counted);
+      least = λ budget.
+          let before = c.runs.invariant.least budget in
+          let one = c.in_ok-run_at.ensures.least budget in
+          omega (arith, before, one);
     }
 
 pub runs-smaller : goal.runs-smaller
@@ -77,3 +86,22 @@ returns-clause-passes g c =
     let a = around_of c.args.around.now in
     sym (over_is x (passes x (runners_of (runners_in l)) a) (runners_in c.runs.self) (around_of c.runs.around) c.runs.next c.in_default.is c.runs.invariant.onward)
     ∙ ap (λ (q : List Linked). passes x q a) (idle_rests l c.requires.idle)
+
+pub returns-clause-counted : goal.returns-clause-counted
+returns-clause-counted g c =
+    let l = c.args.self.now in
+    let begun = ap (λ (q : List Linked). 2 * steps_left q) (idle_rests l c.requires.idle) ∙ begun_most l.budget (standings_in (runners_in l)) in
+    omega (arith, begun, c.runs.invariant.counted)
+
+pub returns-clause-least : goal.returns-clause-least
+returns-clause-least g c =
+    let l = c.args.self.now in
+    let begun = ap (λ (q : List Linked). runs_and_steps l.budget q) (idle_rests l c.requires.idle) ∙ begun_least l.budget (standings_in (runners_in l)) in
+    let least = c.runs.invariant.least l.budget in
+    omega (arith, begun, least)
+
+pub returns-in_err-run_at-clause-counted : goal.returns-in_err-run_at-clause-counted
+returns-in_err-run_at-clause-counted g c =
+    let l = c.args.self.now in
+    let begun = ap (λ (q : List Linked). 2 * steps_left q) (idle_rests l c.requires.idle) ∙ begun_most l.budget (standings_in (runners_in l)) in
+    omega (arith, begun, c.runs.invariant.counted, c.run_at.ensures.within)

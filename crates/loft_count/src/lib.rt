@@ -1,0 +1,6 @@
+//! The count of what an engine does.
+#![tactic(auto)]
+
+mod steps;
+
+pub use steps::Steps;

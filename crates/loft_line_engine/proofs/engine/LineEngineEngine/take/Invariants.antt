@@ -1,0 +1,4 @@
+use Rattle.loft_line_engine.proofs.engine.LineEngineEngine.take.Given as goal
+
+abbrev pub ghosts-take_uncounted : goal.ghosts-take_uncounted
+ghosts-take_uncounted g a = record { name = a.blank.name; parts = a.blank.parts }
