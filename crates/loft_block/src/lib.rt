@@ -9,4 +9,4 @@ mod told;
 pub use block::Block;
 pub use laws::what_was_done_before_changes_nothing;
 pub use pieces::Pieces;
-pub use told::{alone, tell, tell_gone};
+pub use told::{alone, tell_gone};

@@ -10,10 +10,10 @@ ghost use Rattle.loft_sense.specs.Async.{alone as alone_in, block_sent};
 ghost use Rattle.loft_effect.specs.View.{around_of, steps_left};
 ghost use Rattle.loft_effect.specs.Outcomes.{gone_of};
 
-use loft_base::{NoMemory, Sequence, TryClone};
+use loft_base::{NoMemory, Sequence};
 use loft_board::Board;
-use loft_effect::{Around, Gone, Outcome};
-use loft_orders::{Act, Order, Sent, Sents, SharedThread, Thread, To};
+use loft_effect::{Around, Gone, Outcome, tell_all};
+use loft_orders::{Order, Sent, Sents, SharedThread, Thread, To};
 use loft_tree::{Heads, Place};
 use std::alloc::Global;
 
@@ -37,46 +37,11 @@ pub fn alone(alloc: Global, heads: &Heads, block: u64) -> Result<Around, NoMemor
     })
 }
 
-/// Adds what one act sends: an order, or to every scheduler the end of the thread.
-fn tell_act(alloc: Global, sent: &mut Sents, act: &Act) -> Result<(), NoMemory>
-    ensures { OnOk result (sent.new ≡ sent.old ++ sent_by Unlinked (act.now ∷ [])) }
-{
-    match act {
-        Act::Print { thread: _, line: _ } => Ok(()),
-        Act::Gen {
-            thread: _,
-            event: _,
-            value: _,
-        } => Ok(()),
-        Act::Out {
-            thread: _,
-            sent: boxed,
-        } => sent.push(boxed.as_sent().try_clone(alloc)?),
-        Act::End { thread, end } => sent.push(Sent {
-            to: To::All,
-            order: Order::Ended {
-                thread: *thread,
-                end: *end,
-            },
-        }),
-    }
-}
-
-/// Adds what acts of an unlinked thread send.
-pub fn tell(alloc: Global, sent: &mut Sents, acts: &[Act]) -> Result<(), NoMemory>
-    ensures { OnOk result (sent.new ≡ sent.old ++ sent_by Unlinked acts.now) }
-{
-    for act in acts {
-        tell_act(alloc, sent, act)?;
-    }
-    Ok(())
-}
-
 /// Adds what a run sends that leaves this around its thread.
 fn tell_acts(alloc: Global, sent: &mut Sents, around: Around) -> Result<(), NoMemory>
     ensures { OnOk result (sent.new ≡ sent.old ++ sent_by Unlinked (around_of around).acts) }
 {
-    tell(alloc, sent, around.acts.as_slice())
+    tell_all(alloc, Place::Unlinked, sent, around.acts.as_slice())
 }
 
 /// Adds the order that sends a thread on.

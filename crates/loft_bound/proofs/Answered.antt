@@ -102,7 +102,7 @@ pub few_modules : (p : ProgramInMemory) → NamedFits (program_of p) → length 
 few_modules p f =
     let long = long_modules p.modules.items in
     let many = same_many p.heads p.heads.modules (map module_of p.modules.items) f.bodies in
-    let few = f.heads.few_modules in
+    let few = f.heads.within.few_modules in
     omega (arith, long, many, few)
 
 pub few_verdicts : (p : ProgramInMemory) (vs : List Verdict) → NamedFits (program_of p) → length vs ≡ length (program_of p).modules → length vs < 2 ^ 32

@@ -1,7 +1,7 @@
 -- Code that keeps the limits of a listing (docs/CODE.md, "Limits").
 use Rattle.std.specs.Prelude.{◌≡◌, ◌≤◌, List, length, IsTrue}
 use Rattle.loft_lex.specs.Fits.{is_text}
-use Rattle.loft_tree.specs.declared.limits.TheConstants.{MAX_SCHEDULERS, MAX_EVENTS, MAX_SHARED, MAX_MODULES, MAX_STARTS, MAX_CLIENTS, MAX_OPERANDS, MAX_NESTING}
+use Rattle.loft_tree.specs.declared.limits.TheConstants.{MAX_OPERANDS, MAX_NESTING}
 use Rattle.loft_tree.specs.declared.heads.Start.{Start}
 use Rattle.loft_tree.specs.declared.heads.ClientOrder.{ClientOrder}
 use Rattle.loft_tree.specs.declared.heads.ClientOrder.TheVariants as order
@@ -10,7 +10,7 @@ use Rattle.loft_tree.specs.declared.heads.Heads.{Heads}
 use Rattle.loft_tree.specs.Fits.{Each, IfThere, NumberFits}
 use Rattle.loft_tree.specs.HeadsFit.{HeadsFit}
 use Rattle.loft_tree.specs.Levels.{Shape, Operand, Signed, Joined, shape_nesting, shape_operands}
-use Rattle.loft_tree.specs.NamedFits.{IsName, EventHolds, SharedHolds, SignatureHolds, StartHolds, ClientHolds, AreCounted, no_items, tally_of, NamesDiffer}
+use Rattle.loft_tree.specs.NamedFits.{HeadsWithinLimits, NamesDiffer}
 use Rattle.loft_tree.specs.Resolved.{Exp, Number, Slot, Shared, Special, Unary, Binary, Action, Assign, Make, PrintText, PrintValue, Generate, ControlThread, Broadcast, Pause, Cooperate, Await, Get, Join, Link, Unlink, Halt}
 use Rattle.loft_code.specs.declared.limits.TheConstants.{MAX_OPERATIONS}
 use Rattle.loft_code.specs.Operations.{Operation, Do, Hold, Call, Branch, Enter, Count, Turn, Jump, End, Line, Automata}
@@ -30,20 +30,7 @@ ClientFits h c = Each (OrderFits h) c.orders
 
 -- A listing may have no scheduler.
 pub record HeadsKeep (h : Heads) : Type 0 where
-  pub schedulers : Each IsName h.schedulers
-  pub few_schedulers : length h.schedulers ≤ MAX_SCHEDULERS
-  pub events : Each (EventHolds h) h.events
-  pub few_events : length h.events ≤ MAX_EVENTS
-  pub shared : Each (SharedHolds h) h.shared
-  pub few_shared : length h.shared ≤ MAX_SHARED
-  pub modules : Each (SignatureHolds h) h.modules
-  pub few_modules : length h.modules ≤ MAX_MODULES
-  pub starts : Each (StartHolds h) h.starts
-  pub few_starts : length h.starts ≤ MAX_STARTS
-  pub clients : Each (ClientHolds h) h.clients
-  pub few_clients : length h.clients ≤ MAX_CLIENTS
-  -- each declaration stands once in the order of the text
-  pub items : AreCounted no_items h.items (tally_of h)
+  pub within : HeadsWithinLimits h
   pub names : NamesDiffer h
   -- threads begin in the scheduler in which they are made
   pub starts_fit : Each (StartFits h) h.starts

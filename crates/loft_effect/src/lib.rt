@@ -11,6 +11,7 @@ mod scope;
 mod sight;
 mod stop;
 mod taken;
+mod told;
 mod value;
 
 pub use around::{Around, is_known, same_thread};
@@ -20,4 +21,5 @@ pub use gone::{Gone, Outcome};
 pub use scope::{Beside, Scope};
 pub use sight::Sight;
 pub use taken::{take_around, take_thread};
+pub use told::{tell_all, tell_end};
 pub use value::{is_true, number_of};

@@ -1,18 +1,18 @@
 //! What expressions see (docs/SEMANTICS.md, "Expressions").
 
-ghost use Rattle.std.specs.Prelude.{◌≡◌, Some, IfSome, filter, length};
+ghost use Rattle.std.specs.Prelude.{◌≡◌, Some, IfSome};
 ghost use Rattle.std.specs.Option.{option_map, option_and_then};
 ghost use Rattle.loft_base.specs.declared.ids.Value.TheVariants as value;
 ghost use Rattle.loft_tree.specs.NamedView.{term_of};
 ghost use Rattle.loft_tree.specs.Resolved.{exp_of};
-ghost use Rattle.loft_sense.specs.Heads.{is_at, rank as rank_of};
+ghost use Rattle.loft_sense.specs.Heads.{rank as rank_of};
 ghost use Rattle.loft_sense.specs.Around.{Around};
 ghost use Rattle.loft_sense.specs.Eval.{eval, number_of as number_in, same_value as same_value_as, binary_value as binary_value_of, slot_value, shared_value, special_value};
 ghost use Rattle.loft_effect.specs.View.{answer_of};
 
 use crate::value::{binary_value, number_of, same_value, truth, unary_value};
-use loft_base::{Div, SchedId, SharedId, ThreadId, Value};
-use loft_tree::{BinaryOperator, Builtin, Heads, NamedExpr, SharedHead};
+use loft_base::{Div, SharedId, ThreadId, Value};
+use loft_tree::{BinaryOperator, Builtin, Heads, NamedExpr};
 
 /// What the expressions of a thread see in one of its frames: nothing of it is moved or copied.
 #[derive(Clone, Copy)]
@@ -27,29 +27,11 @@ pub struct Sight<'a> {
     pub mask: i64,
 }
 
-/// How many of the variables are of this scheduler.
-fn how_many(scheduler: SchedId, shared: &[SharedHead]) -> usize
-    ensures { result ≡ length (filter (is_at scheduler) shared.now) }
-{
-    let mut count = 0;
-    for head in shared {
-        if scheduler.0 == head.scheduler.0 {
-            count += 1;
-        }
-    }
-    count
-}
-
 /// The index of a shared variable among those of its scheduler.
 pub fn rank(heads: &Heads, shared: SharedId) -> usize
     ensures { result ≡ rank_of heads.now shared }
 {
-    let all = heads.shared.as_slice();
-    let number = shared.0 as usize;
-    match all.get(number) {
-        Some(head) => how_many(head.scheduler, &all[..number]),
-        None => 0,
-    }
+    heads.shared.rank(shared.0 as usize)
 }
 
 impl Sight<'_> {

@@ -6,14 +6,13 @@ ghost use Rattle.loft_orders.specs.declared.order.Mark.TheVariants as mark;
 ghost use Rattle.loft_sense.specs.Apply.{marked, with_last, ended_by, apply_order, apply_orders, new_thread as new_thread_of};
 ghost use Rattle.loft_instant.specs.Positions.{IsPosition};
 
-use crate::told::tell_end;
 use loft_base::{EventId, ModuleId, NoMemory, SchedId, Sequence, ThreadId, TryClone, Value};
 use loft_board::Board;
-use loft_effect::{first_values, same_thread};
+use loft_effect::{first_values, same_thread, tell_end};
 use loft_orders::{End, Ended, Ends, Frame, Mark, Marks, Order, Sents, Thread, Wait};
 use loft_passes::Runner;
 use loft_sense::MAX_LINKED;
-use loft_tree::Heads;
+use loft_tree::{Heads, Place};
 use std::alloc::Global;
 
 /// A scheduler while it applies a batch.
@@ -138,7 +137,8 @@ impl Batch {
         self.known.push(thread)?;
         self.marks.push(mark)?;
         self.stopped.push(Ended { index, thread, end })?;
-        self.sent.push(tell_end(scheduler, thread, end))
+        self.sent
+            .push(tell_end(Place::Sched(scheduler), thread, end))
     }
 
     /// A thread is created, or has ended where too many are linked.

@@ -13,10 +13,9 @@ ghost use Rattle.loft_sense.specs.Instant.{sent_by, leavers, changes as changes_
 
 use crate::batch::Batch;
 use crate::shared::{changes, keep_values, shared_values};
-use crate::told::tell_all;
 use loft_base::{Limits, NoMemory, SchedId, Sequence, SharedId, ThreadId};
 use loft_board::Board;
-use loft_effect::Around;
+use loft_effect::{Around, tell_all};
 use loft_orders::{Changes, InstantNote, Numbers, Order, Orders, Sents, Threads};
 use loft_passes::{Interpreter, Passes, Runner, begin_all, close_all};
 use loft_sense::Tally;
@@ -204,7 +203,8 @@ impl<I: Interpreter> Setting<I> {
             (shared_of (heads_of (I.program self.now.interpreter)) self.now.scheduler)
             before.now around.now.shared) }
     {
-        tell_all(alloc, self.scheduler, sent, around.acts.as_slice())?;
+        let place = Place::Sched(self.scheduler);
+        tell_all(alloc, place, sent, around.acts.as_slice())?;
         let stands = close_all(alloc, linked, sent)?;
         let changed = changes(alloc, self.own.as_slice(), before, around.shared.as_slice())?;
         Ok((stands, changed))

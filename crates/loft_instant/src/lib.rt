@@ -6,10 +6,8 @@ mod engine;
 mod instant;
 mod rest;
 mod shared;
-mod told;
 
 pub use batch::new_thread;
 pub use engine::InstantEngine;
 pub use instant::{Setting, fitted};
 pub use shared::{changes, keep_values, own_of, shared_values};
-pub use told::{tell_all, tell_end};

@@ -1,7 +1,8 @@
 //! The shared variables of a scheduler (docs/SEMANTICS.md, "Instant").
 
 ghost use Rattle.std.specs.Prelude.{◌≡◌, ◌≤◌, ◌+◌, ◌^◌, ◌++◌, map, filter, length, IfOk, OnOk};
-ghost use Rattle.loft_sense.specs.Heads.{is_at, shared_from};
+ghost use Rattle.loft_sense.specs.Heads.{shared_from};
+ghost use Rattle.loft_tree.specs.Ranks.{is_at};
 ghost use Rattle.loft_sense.specs.Instant.{changes as changes_in};
 
 use loft_base::{NoMemory, SchedId, Sequence, SharedId};

@@ -10,10 +10,12 @@ ghost use Rattle.loft_block.specs.Blocks.{sent_if};
 ghost use Rattle.loft_job.specs.Job.{paused_sent};
 
 use loft_base::NoMemory;
-use loft_block::{Pieces, alone, tell, tell_gone};
+use loft_block::{Pieces, alone, tell_gone};
 use loft_code::Code;
+use loft_effect::tell_all;
 use loft_orders::{Sents, Thread};
 use loft_step::{Paused, Progress, begin, go_on};
+use loft_tree::Place;
 use std::alloc::Global;
 
 /// Runs unlinked threads by the operations of valid code.
@@ -30,7 +32,7 @@ fn gather(alloc: Global, progress: Progress, orders: &mut Sents) -> Result<Optio
 {
     match progress {
         Progress::Goes(mut run) => {
-            tell(alloc, orders, run.acts())?;
+            tell_all(alloc, Place::Unlinked, orders, run.acts())?;
             run.forget_acts();
             Ok(Some(run))
         }

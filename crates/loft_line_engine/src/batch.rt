@@ -8,11 +8,12 @@ ghost use Rattle.loft_sense.specs.Apply.{marked, with_last, ended_by, apply_orde
 use loft_base::{EventId, ModuleId, NoMemory, SchedId, Sequence, ThreadId, TryClone, Value};
 use loft_board::Board;
 use loft_count::Steps;
-use loft_instant::{new_thread, tell_end};
+use loft_effect::tell_end;
+use loft_instant::new_thread;
 use loft_line::Line;
 use loft_orders::{End, Ended, Ends, Mark, Marks, Order, Sents, Thread};
 use loft_sense::MAX_LINKED;
-use loft_tree::Heads;
+use loft_tree::{Heads, Place};
 use loft_waits::counts_follow_the_board;
 use std::alloc::Global;
 use std::sync::ledger::Ledger;
@@ -132,7 +133,8 @@ impl Batch {
         self.learn(alloc, thread)?;
         self.marks.push(mark)?;
         self.stopped.push(Ended { index, thread, end })?;
-        self.sent.push(tell_end(scheduler, thread, end))
+        self.sent
+            .push(tell_end(Place::Sched(scheduler), thread, end))
     }
 
     /// A thread is created, or has ended where too many are linked.

@@ -26,8 +26,8 @@ use loft_base::{NoMemory, Sequence, ThreadId};
 use loft_board::Board;
 use loft_count::Steps;
 use loft_counted::CountedInterpreter;
-use loft_effect::Around;
-use loft_instant::{Setting, changes, fitted, keep_values, tell_all};
+use loft_effect::{Around, tell_all};
+use loft_instant::{Setting, changes, fitted, keep_values};
 use loft_line::Line;
 use loft_orders::{Changes, InstantNote, Numbers, Order, Orders, Sents, Threads};
 use loft_passes::Interpreter;
@@ -158,7 +158,8 @@ fn close<I: Interpreter>(
     ensures budget { OnOk result (line.new.budget ≡ line.old.budget) }
     ensures quiet { OnOk result (IsQuiet line.new) }
 {
-    tell_all(alloc, setting.scheduler, sent, around.acts.as_slice())?;
+    let place = Place::Sched(setting.scheduler);
+    tell_all(alloc, place, sent, around.acts.as_slice())?;
     let stands = line.close(alloc, sent)?;
     let changed = changes(
         alloc,

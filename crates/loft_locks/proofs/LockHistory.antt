@@ -342,7 +342,7 @@ module _ (p : Resolved) (l : Lock) (is : IsExpanded p l) (well : IsPlacedTree p)
 -- the scheduler of a lock is declared
 lock_declared : (p : Resolved) (l : Lock) → IsPlacedTree p → IsExpanded p l → IsScheduler p.heads l.at
 lock_declared p l well is =
-    let shared : Each (SharedHolds p.heads) p.heads.shared = subst (λ (q : Resolved). Each (SharedHolds q.heads) q.heads.shared) well.same well.names.heads.shared in
+    let shared : Each (SharedHolds p.heads) p.heads.shared = subst (λ (q : Resolved). Each (SharedHolds q.heads) q.heads.shared) well.same well.names.heads.within.shared in
     subst (IsScheduler p.heads) is.there (each_at (SharedHolds p.heads) p.heads.shared l.held.0 is.variable shared is.declared).scheduler
 
 pub locks_kept : (p : Resolved) (l : Lock) → IsPlacedTree p → IsExpanded p l → (o : RunOptions) (es : List Entry) → IsLegal (Tree p) o es → HasNoCallers p.heads es → LockKept p l o es

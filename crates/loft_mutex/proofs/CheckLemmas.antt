@@ -47,7 +47,7 @@ same_many h (m ∷ ms) [] f = absurd f
 same_many h (m ∷ ms) (x ∷ xs) f = ap (λ (n : ℕ). suc n) (same_many h ms xs f.1)
 
 pub few_modules : (n : NamedProgram) → NamedFits n → length n.modules ≤ 256
-few_modules n fits = omega (arith, fits.heads.few_modules, same_many n.heads n.heads.modules n.modules fits.bodies)
+few_modules n fits = omega (arith, fits.heads.within.few_modules, same_many n.heads n.heads.modules n.modules fits.bodies)
 
 -- ---- its links
 

@@ -112,38 +112,23 @@ heads_kept p fits faultless =
     let has = each_declared_has p in
     let none : uses_from ds 0 p ≡ [] = none_right (twice_from [] ds) (uses_from ds 0 p) faultless in
     record {
-      schedulers = schedulers_hold p fits.each;
-      few_schedulers = omega (arith, schedulers-length p, fits.schedulers);
-      events = events_hold h ds has 0 p fits.each none;
-      few_events = omega (arith, events-length ds p, fits.events);
-      shared = shared_hold h ds has 0 p fits.each none;
-      few_shared = omega (arith, shared-length ds p, fits.shared);
-      modules = modules_hold h ds has 0 p fits.each none;
-      few_modules = omega (arith, modules-length ds 0 p, fits.modules);
-      starts = starts_hold h ds has 0 p fits.each none;
-      few_starts = omega (arith, starts-length ds p, fits.starts);
-      clients = clients_hold h ds has 0 p fits.each none;
-      few_clients = omega (arith, clients-length ds p, fits.clients);
-      items = items_counted ds p;
+      within = record {
+        schedulers = schedulers_hold p fits.each;
+        few_schedulers = omega (arith, schedulers-length p, fits.schedulers);
+        events = events_hold h ds has 0 p fits.each none;
+        few_events = omega (arith, events-length ds p, fits.events);
+        shared = shared_hold h ds has 0 p fits.each none;
+        few_shared = omega (arith, shared-length ds p, fits.shared);
+        modules = modules_hold h ds has 0 p fits.each none;
+        few_modules = omega (arith, modules-length ds 0 p, fits.modules);
+        starts = starts_hold h ds has 0 p fits.each none;
+        few_starts = omega (arith, starts-length ds p, fits.starts);
+        clients = clients_hold h ds has 0 p fits.each none;
+        few_clients = omega (arith, clients-length ds p, fits.clients);
+        items = items_counted ds p;
+      };
       names = names_differ p faultless;
     }
 
 pub heads_hold : (p : Source) → SourceFits p → NamesFit p → HeadsHold (heads_of (declared p) p)
-heads_hold p fits names =
-    let kept = heads_kept p fits names.faultless in
-    record {
-      schedulers = kept.schedulers;
-      some_scheduler = some_scheduler p names;
-      few_schedulers = kept.few_schedulers;
-      events = kept.events;
-      few_events = kept.few_events;
-      shared = kept.shared;
-      few_shared = kept.few_shared;
-      modules = kept.modules;
-      few_modules = kept.few_modules;
-      starts = kept.starts;
-      few_starts = kept.few_starts;
-      clients = kept.clients;
-      few_clients = kept.few_clients;
-      items = kept.items;
-    }
+heads_hold p fits names = record { within = (heads_kept p fits names.faultless).within; some_scheduler = some_scheduler p names }

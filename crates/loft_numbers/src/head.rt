@@ -10,7 +10,9 @@ use crate::name::{module, scheduler};
 use crate::part::{arguments, orders, signature, text, text_if};
 use loft_base::{NoMemory, Room, Sequence};
 use loft_scopes::{Scope, Table, next_module};
-use loft_tree::{Client, EventHead, HeadItem, Heads, Item, Names, SharedHead, Signature, Start};
+use loft_tree::{
+    Client, EventHead, HeadItem, Heads, Item, Names, SharedHead, SharedHeads, Signature, Start,
+};
 use std::alloc::Global;
 
 /// The names of the schedulers.
@@ -50,8 +52,8 @@ fn events(room: &mut Room, table: &Table, items: &[Item]) -> Sequence<EventHead>
     all
 }
 
-/// The shared variables.
-fn shared(room: &mut Room, table: &Table, items: &[Item]) -> Sequence<SharedHead>
+/// The shared variables as a list.
+fn shared_heads(room: &mut Room, table: &Table, items: &[Item]) -> Sequence<SharedHead>
     ensures before { room.new.is_whole ≡ true → room.old.is_whole ≡ true }
     ensures value { room.new.is_whole ≡ true → result ≡ shared_in table.now (source_of items.now) }
 {
@@ -72,6 +74,17 @@ fn shared(room: &mut Room, table: &Table, items: &[Item]) -> Sequence<SharedHead
         }
     }
     all
+}
+
+/// The shared variables.
+fn shared(room: &mut Room, table: &Table, items: &[Item]) -> SharedHeads
+    ensures before { room.new.is_whole ≡ true → room.old.is_whole ≡ true }
+    ensures value { room.new.is_whole ≡ true → result ≡ shared_in table.now (source_of items.now) }
+{
+    let heads = shared_heads(room, table, items);
+    let made = SharedHeads::new(room.alloc, heads);
+    let none = SharedHeads::none(room.alloc);
+    room.or(made, none)
 }
 
 /// The modules, without their bodies.

@@ -62,16 +62,16 @@ event_there h e p = let x = within_some h.events e.0 p in rw x.1 refl
 -- ---- names
 
 scheduler_is : (h : Heads) → OwnNames h → (s : SchedId) → s.0 < length h.schedulers → IsName (scheduler_name h s)
-scheduler_is h own s p = let x = within_some h.schedulers s.0 p in rw x.1 (each_at IsName h.schedulers s.0 x.0 own.hold.schedulers x.1)
+scheduler_is h own s p = let x = within_some h.schedulers s.0 p in rw x.1 (each_at IsName h.schedulers s.0 x.0 own.hold.within.schedulers x.1)
 
 client_is : (h : Heads) → OwnNames h → (c : ℕ) → c < length h.clients → IsName (client_name h c)
-client_is h own c p = let x = within_some h.clients c p in rw x.1 (each_at (ClientHolds h) h.clients c x.0 own.hold.clients x.1).name
+client_is h own c p = let x = within_some h.clients c p in rw x.1 (each_at (ClientHolds h) h.clients c x.0 own.hold.within.clients x.1).name
 
 pub module_is : (h : Heads) → OwnNames h → (m : ModuleId) → ModuleHasText h m → IsName (module_name h m)
-module_is h own m p = let x = within_some h.modules m.0 p in rw x.1 (each_at (SignatureHolds h) h.modules m.0 x.0 own.hold.modules x.1).name
+module_is h own m p = let x = within_some h.modules m.0 p in rw x.1 (each_at (SignatureHolds h) h.modules m.0 x.0 own.hold.within.modules x.1).name
 
 pub event_is : (h : Heads) → OwnNames h → (e : EventId) → EventHasText h e → IsName (event_name h e)
-event_is h own e p = let x = within_some h.events e.0 p in rw x.1 (each_at (EventHolds h) h.events e.0 x.0 own.hold.events x.1).name
+event_is h own e p = let x = within_some h.events e.0 p in rw x.1 (each_at (EventHolds h) h.events e.0 x.0 own.hold.within.events x.1).name
 
 pub maker_bytes : (h : Heads) → OwnNames h → (m : Maker) → MakerHasText h m → list_all is_name_byte (maker_name h m) ≡ true
 maker_bytes h own maker.Source p = refl

@@ -162,7 +162,7 @@ declared_goes h signature x declared body declared_is body_is goes =
 pub module_goes : (n : NamedProgram) (m : ModuleId) (signature : Signature) (x : NamedModule)
     → NamedFits n → IsPlaced n → IsModule n m signature x → Goes n.heads signature.begin x.body signature.end
 module_goes n m signature x fits placed is =
-    let listed = counted_module n.heads.items n.heads (IsCorrect n.heads n.modules) m.0 no_items (tally_of n.heads) fits.heads.items
+    let listed = counted_module n.heads.items n.heads (IsCorrect n.heads n.modules) m.0 no_items (tally_of n.heads) fits.heads.within.items
     (omega arith) (slice_get_within n.heads.modules m.0 signature is.head) (declarations_correct n fits placed) in
     declared_goes n.heads signature x (slice_get n.heads.modules m.0) (slice_get n.modules m.0) is.head is.body
     (subst (λ k. ModuleGoes n.heads (slice_get n.heads.modules k) (slice_get n.modules k)) listed.1 listed.2)
@@ -196,8 +196,8 @@ call_fits h s m arguments call begins = (call.scheduler, takes_in s (slice_get h
 pub start_fits : (n : NamedProgram) (number : ℕ) (t : Start) → NamedFits n → IsPlaced n → slice_get n.heads.starts number ≡ Some t
     → HeadsFit n.heads t.scheduler t.module t.arguments
 start_fits n number t fits placed at =
-    let holds : StartHolds n.heads t = each_at (StartHolds n.heads) n.heads.starts number t fits.heads.starts at in
-    let begins = counted_start n.heads.items n.heads (IsCorrect n.heads n.modules) number no_items (tally_of n.heads) fits.heads.items
+    let holds : StartHolds n.heads t = each_at (StartHolds n.heads) n.heads.starts number t fits.heads.within.starts at in
+    let begins = counted_start n.heads.items n.heads (IsCorrect n.heads n.modules) number no_items (tally_of n.heads) fits.heads.within.items
     (omega arith) (slice_get_within n.heads.starts number t at) (declarations_correct n fits placed) in
     call_fits n.heads t.scheduler t.module t.arguments holds.call (subst (StartBegins n.heads) at begins)
 
@@ -206,9 +206,9 @@ pub create_fits : (n : NamedProgram) (client : ℕ) (c : Client) (number : ℕ) 
     → NamedFits n → IsPlaced n → slice_get n.heads.clients client ≡ Some c → slice_get c.orders number ≡ Some (order.Create s m arguments)
     → HeadsFit n.heads s m arguments
 create_fits n client c number s m arguments fits placed at ordered =
-    let holds : ClientHolds n.heads c = each_at (ClientHolds n.heads) n.heads.clients client c fits.heads.clients at in
+    let holds : ClientHolds n.heads c = each_at (ClientHolds n.heads) n.heads.clients client c fits.heads.within.clients at in
     let call : CallHolds n.heads s m arguments = each_at (OrderHolds n.heads) c.orders number (order.Create s m arguments) holds.orders ordered in
-    let creates = counted_client n.heads.items n.heads (IsCorrect n.heads n.modules) client no_items (tally_of n.heads) fits.heads.items
+    let creates = counted_client n.heads.items n.heads (IsCorrect n.heads n.modules) client no_items (tally_of n.heads) fits.heads.within.items
     (omega arith) (slice_get_within n.heads.clients client c at) (declarations_correct n fits placed) in
     let listed = create_listed c.orders (IsCorrect n.heads n.modules) client 0 number s m arguments
     (subst (λ o. Each (IsCorrect n.heads n.modules) (creates_of client o)) at creates) ordered in

@@ -11,8 +11,10 @@ ghost use Rattle.loft_plain.specs.PlainJob.{paused_sent};
 
 use crate::walker::Walker;
 use loft_base::NoMemory;
-use loft_block::{Pieces, alone, tell, tell_gone};
+use loft_block::{Pieces, alone, tell_gone};
+use loft_effect::tell_all;
 use loft_orders::{Sents, Thread};
+use loft_tree::Place;
 use loft_walk::{Paused, Progress, begin, go_on};
 use std::alloc::Global;
 
@@ -28,7 +30,7 @@ fn gather<'a>(
 {
     match progress {
         Progress::Goes(run) => {
-            tell(alloc, orders, run.acts())?;
+            tell_all(alloc, Place::Unlinked, orders, run.acts())?;
             Ok(Some(run.forget_acts()))
         }
         Progress::Stops(gone) => {

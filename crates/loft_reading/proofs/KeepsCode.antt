@@ -68,19 +68,7 @@ heads_keep : (p : Source) → SourceFits p → faults p ≡ [] → flat_map (dec
 heads_keep p fits none placed =
     let kept = heads_kept p fits none in
     record {
-      schedulers = kept.schedulers;
-      few_schedulers = kept.few_schedulers;
-      events = kept.events;
-      few_events = kept.few_events;
-      shared = kept.shared;
-      few_shared = kept.few_shared;
-      modules = kept.modules;
-      few_modules = kept.few_modules;
-      starts = kept.starts;
-      few_starts = kept.few_starts;
-      clients = kept.clients;
-      few_clients = kept.few_clients;
-      items = kept.items;
+      within = kept.within;
       names = kept.names;
       starts_fit = starts_begin p fits none placed;
       clients_fit = clients_begin p fits none placed;

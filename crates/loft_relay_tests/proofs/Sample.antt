@@ -67,19 +67,21 @@ is_name_e = refl
 
 heads_keep : HeadsKeep sample_heads
 heads_keep = record {
-  schedulers = (is_name_a, tt);
-  few_schedulers = omega arith;
-  events = (record { name = is_name_e; scheduler = omega arith }, tt);
-  few_events = omega arith;
-  shared = tt;
-  few_shared = omega arith;
-  modules = tt;
-  few_modules = omega arith;
-  starts = tt;
-  few_starts = omega arith;
-  clients = tt;
-  few_clients = omega arith;
-  items = (refl, (refl, refl));
+  within = record {
+    schedulers = (is_name_a, tt);
+    few_schedulers = omega arith;
+    events = (record { name = is_name_e; scheduler = omega arith }, tt);
+    few_events = omega arith;
+    shared = tt;
+    few_shared = omega arith;
+    modules = tt;
+    few_modules = omega arith;
+    starts = tt;
+    few_starts = omega arith;
+    clients = tt;
+    few_clients = omega arith;
+    items = (refl, (refl, refl));
+  };
   names = names_differ;
   starts_fit = tt;
   clients_fit = tt;

@@ -202,7 +202,7 @@ collects h modules many n (item.Client c ∷ is) counted =
 
 pub put_together : (c : Automata) → RawFits c → together (parts_of c) ≡ c
 put_together c fits =
-    let all = collects c.heads c.modules fits.all_modules no_items c.heads.items fits.heads.items in
+    let all = collects c.heads c.modules fits.all_modules no_items c.heads.items fits.heads.within.items in
     (λ i. record {
       heads = record {
         schedulers = all.schedulers i;

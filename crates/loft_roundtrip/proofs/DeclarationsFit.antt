@@ -79,16 +79,16 @@ locals_length line (v ∷ vs) = ap suc (locals_length (line + 1) vs)
 
 module _ (h : Heads) (keeps : HeadsKeep h) where
   pub scheduler_fits : (s : SchedId) → IsScheduler h s → NameFits (called_scheduler h s)
-  scheduler_fits s less = name_there (λ x. x) IsName (λ x is. is) h.schedulers s.0 keeps.schedulers less
+  scheduler_fits s less = name_there (λ x. x) IsName (λ x is. is) h.schedulers s.0 keeps.within.schedulers less
 
   pub event_fits : (e : EventId) → e.0 < length h.events → NameFits (called_event h e).name
-  event_fits e less = name_there (λ x. x.name) (EventHolds h) (λ x is. is.name) h.events e.0 keeps.events less
+  event_fits e less = name_there (λ x. x.name) (EventHolds h) (λ x is. is.name) h.events e.0 keeps.within.events less
 
   pub shared_fits : (x : SharedId) → x.0 < length h.shared → NameFits (called_shared h x)
-  shared_fits x less = name_there (λ y. y.name) (SharedHolds h) (λ y is. is.name) h.shared x.0 keeps.shared less
+  shared_fits x less = name_there (λ y. y.name) (SharedHolds h) (λ y is. is.name) h.shared x.0 keeps.within.shared less
 
   pub module_fits : (m : ModuleId) → m.0 < length h.modules → NameFits (called_module h m)
-  module_fits m less = name_there (λ x. x.name) (SignatureHolds h) (λ x is. is.name) h.modules m.0 keeps.modules less
+  module_fits m less = name_there (λ x. x.name) (SignatureHolds h) (λ x is. is.name) h.modules m.0 keeps.within.modules less
 
   started : (o : Option Start) (name : List ℕ) → option_map (λ x. x.name) o ≡ Some (Some name) → ((t : Start) → o ≡ Some t → IfThere IsName t.name) → IsName (unwrap_or (option_map start_name o) [])
   started None name is holds = absurd cc
@@ -100,7 +100,7 @@ module _ (h : Heads) (keeps : HeadsKeep h) where
   thread_by : (by : Maker) (seq : ℕ) → by ≡ maker.Source → IsNamedThread h (record { maker = by; seq = seq }) → NameFits (called_thread h (record { maker = by; seq = seq }))
   thread_by by seq source named =
       subst (λ (m : Maker). NameFits (called_thread h (record { maker = m; seq = seq }))) (sym source)
-      (started (slice_get h.starts seq) named.0 named.1 (λ t is. (each_get (StartHolds h) h.starts seq t keeps.starts is).name))
+      (started (slice_get h.starts seq) named.0 named.1 (λ t is. (each_get (StartHolds h) h.starts seq t keeps.within.starts is).name))
 
   pub thread_fits : (t : ThreadId) → t.maker ≡ maker.Source → IsNamedThread h t → NameFits (called_thread h t)
   thread_fits t source named = thread_by t.maker t.seq source named
@@ -159,7 +159,7 @@ module _ (h : Heads) (keeps : HeadsKeep h) where
       let signature = signature_there (slice_get h.modules m.0) args holds.takes in
       let takes : TakesArguments (Some signature.0) args = subst (λ (o : Option Signature). TakesArguments o args) signature.1 holds.takes in
       let many : length (map (argument_at line) (map (called_argument h) args)) ≡ length signature.0.parameters = as_many line signature.0.parameters args takes in
-      let few : length signature.0.parameters ≤ MAX_PARAMETERS = (each_get (SignatureHolds h) h.modules m.0 signature.0 keeps.modules signature.1).few_parameters in
+      let few : length signature.0.parameters ≤ MAX_PARAMETERS = (each_get (SignatureHolds h) h.modules m.0 signature.0 keeps.within.modules signature.1).few_parameters in
       record {
         there = scheduler_fits s holds.scheduler;
         runs = module_fits m (slice_get_within h.modules m.0 signature.0 signature.1);

@@ -130,10 +130,10 @@ heads_again ds ps says keeps named line =
     heads_remade ds h line ps
     ∙ (λ i. record {
       schedulers = h.schedulers;
-      events = map_same (remade_event ds h) (EventHolds h) (event_again ds h says) h.events keeps.events i;
-      shared = map_same (remade_shared ds h) (SharedHolds h) (shared_again ds h says) h.shared keeps.shared i;
-      modules = modules_again ds h says 0 h.modules keeps.modules i;
-      starts = map_same2 (remade_start ds h) (StartHolds h) (StartNamed h) (start_again ds h says) h.starts keeps.starts named.starts i;
-      clients = map_same2 (remade_client ds h) (ClientHolds h) (ClientNamed h) (client_again ds h says) h.clients keeps.clients named.clients i;
+      events = map_same (remade_event ds h) (EventHolds h) (event_again ds h says) h.events keeps.within.events i;
+      shared = map_same (remade_shared ds h) (SharedHolds h) (shared_again ds h says) h.shared keeps.within.shared i;
+      modules = modules_again ds h says 0 h.modules keeps.within.modules i;
+      starts = map_same2 (remade_start ds h) (StartHolds h) (StartNamed h) (start_again ds h says) h.starts keeps.within.starts named.starts i;
+      clients = map_same2 (remade_client ds h) (ClientHolds h) (ClientNamed h) (client_again ds h says) h.clients keeps.within.clients named.clients i;
       items = h.items;
     })

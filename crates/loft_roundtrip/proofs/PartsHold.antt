@@ -144,19 +144,19 @@ client_keeps h (c ∷ cs) hold named fit = (record { holds = hold.0; named = nam
 
 -- each module of code that keeps its limits and is valid passes
 pub modules_pass : (ps : List Part) → RawFits (together ps) → Valid (together ps) → AllPass (heads_in ps) (lines_in ps)
-modules_pass ps fits valid = λ k m lines is has. all_pass (together ps) fits.heads.modules valid k m lines is has (each_get LinesFit (lines_in ps) k lines fits.each has).few
+modules_pass ps fits valid = λ k m lines is has. all_pass (together ps) fits.heads.within.modules valid k m lines is has (each_get LinesFit (lines_in ps) k lines fits.each has).few
 
 pub parts_keep : (ps : List Part) → RawFits (together ps) → Valid (together ps) → ThreadsNamed (heads_in ps) → Each (PartKeeps (heads_in ps)) ps
 parts_keep ps fits valid named =
     let h : Heads = heads_in ps in
     each_keeps h (lines_in ps) (modules_pass ps fits valid) 0 ps (record {
-      schedulers = fits.heads.schedulers;
-      events = fits.heads.events;
-      shared = fits.heads.shared;
-      heads = fits.heads.modules;
+      schedulers = fits.heads.within.schedulers;
+      events = fits.heads.within.events;
+      shared = fits.heads.within.shared;
+      heads = fits.heads.within.modules;
       lines = fits.each;
-      starts = start_keeps h h.starts fits.heads.starts named.starts fits.heads.starts_fit;
-      clients = client_keeps h h.clients fits.heads.clients named.clients fits.heads.clients_fit;
+      starts = start_keeps h h.starts fits.heads.within.starts named.starts fits.heads.starts_fit;
+      clients = client_keeps h h.clients fits.heads.within.clients named.clients fits.heads.clients_fit;
       at_heads = follows_all h.modules;
       at_lines = follows_all (lines_in ps);
     })

@@ -106,12 +106,12 @@ source_fits line ps keeps keep =
     let h : Heads = heads_in ps in
     record {
       each = each_fits h keeps line ps keep;
-      schedulers = subst (λ (n : ℕ). n ≤ MAX_SCHEDULERS) (sym (schedulers_counted h line ps)) keeps.few_schedulers;
-      events = subst (λ (n : ℕ). n ≤ MAX_EVENTS) (sym (events_counted h line ps)) keeps.few_events;
-      shared = subst (λ (n : ℕ). n ≤ MAX_SHARED) (sym (shared_counted h line ps)) keeps.few_shared;
-      modules = subst (λ (n : ℕ). n ≤ MAX_MODULES) (sym (modules_counted h line ps)) keeps.few_modules;
-      starts = subst (λ (n : ℕ). n ≤ MAX_STARTS) (sym (starts_counted h line ps)) keeps.few_starts;
-      clients = subst (λ (n : ℕ). n ≤ MAX_CLIENTS) (sym (clients_counted h line ps)) keeps.few_clients;
+      schedulers = subst (λ (n : ℕ). n ≤ MAX_SCHEDULERS) (sym (schedulers_counted h line ps)) keeps.within.few_schedulers;
+      events = subst (λ (n : ℕ). n ≤ MAX_EVENTS) (sym (events_counted h line ps)) keeps.within.few_events;
+      shared = subst (λ (n : ℕ). n ≤ MAX_SHARED) (sym (shared_counted h line ps)) keeps.within.few_shared;
+      modules = subst (λ (n : ℕ). n ≤ MAX_MODULES) (sym (modules_counted h line ps)) keeps.within.few_modules;
+      starts = subst (λ (n : ℕ). n ≤ MAX_STARTS) (sym (starts_counted h line ps)) keeps.within.few_starts;
+      clients = subst (λ (n : ℕ). n ≤ MAX_CLIENTS) (sym (clients_counted h line ps)) keeps.within.few_clients;
     }
 
 -- ---- names

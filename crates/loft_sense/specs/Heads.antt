@@ -13,6 +13,7 @@ use Rattle.loft_tree.specs.declared.kinds.Kind.TheVariants.{Int, Thread}
 use Rattle.loft_tree.specs.declared.heads.SharedHead.{SharedHead}
 use Rattle.loft_tree.specs.declared.heads.SlotHead.{SlotHead}
 use Rattle.loft_tree.specs.declared.heads.Heads.{Heads}
+use Rattle.loft_tree.specs.Ranks.{is_at, rank_in}
 
 -- the scheduler of this index
 abbrev pub scheduler : ℕ → SchedId
@@ -24,9 +25,6 @@ same_scheduler a b = a.0 == b.0
 -- the scheduler on whose board the event stands; that of an event without a declaration, which no program names, is the first
 abbrev pub home : Heads → EventId → SchedId
 home h e = option_map_or (λ x. x.scheduler) (slice_get h.events e.0) (scheduler 0)
-
-abbrev pub is_at : SchedId → SharedHead → Bool
-is_at s x = same_scheduler s x.scheduler
 
 -- the values of a scheduler's shared variables before its first instant, in the order of their declarations
 abbrev pub shared_values : Heads → SchedId → List ℤ
@@ -40,9 +38,9 @@ shared_from k s (x ∷ xs) = if is_at s x then record { 0 = k } ∷ shared_from 
 abbrev pub shared_of : Heads → SchedId → List SharedId
 shared_of h s = shared_from 0 s h.shared
 
--- the index of a shared variable among those of its scheduler: how many of them are declared before it
+-- the index of a shared variable among those of its scheduler
 abbrev pub rank : Heads → SharedId → ℕ
-rank h x = option_map_or (λ v. length (filter (is_at v.scheduler) (take x.0 h.shared))) (slice_get h.shared x.0) 0
+rank h x = rank_in h.shared x.0
 
 -- the local variables of a module, none if there is no such module
 abbrev pub locals_of : Heads → ModuleId → List SlotHead

@@ -64,9 +64,9 @@ pub starts_begin : (x : Prog) → IsWellFormed x → Each (Begins (heads x)) (he
 starts_begin (Tree p) is =
     let n = is.source in
     let each : Each (Begins n.heads) n.heads.starts =
-    tree_starts n is.names is.links 0 n.heads.starts (λ i t e. let same : i ≡ 0 + i = omega arith in subst (λ j. slice_get n.heads.starts j ≡ Some t) same e) is.names.heads.starts in
+    tree_starts n is.names is.links 0 n.heads.starts (λ i t e. let same : i ≡ 0 + i = omega arith in subst (λ j. slice_get n.heads.starts j ≡ Some t) same e) is.names.heads.within.starts in
     subst (λ (q : Resolved). Each (Begins q.heads) q.heads.starts) is.same each
-starts_begin (Code c) is = code_starts c.heads c.heads.starts is.limits.heads.starts_fit is.limits.heads.starts
+starts_begin (Code c) is = code_starts c.heads c.heads.starts is.limits.heads.starts_fit is.limits.heads.within.starts
 
 -- ---- clients
 
@@ -111,12 +111,12 @@ pub clients_order : (x : Prog) → IsWellFormed x → Each (Orders (heads x)) (h
 clients_order (Tree p) is =
     let n = is.source in
     let each : Each (Orders n.heads) n.heads.clients =
-    tree_clients n is.names is.links 0 n.heads.clients (λ i c e. let same : i ≡ 0 + i = omega arith in subst (λ j. slice_get n.heads.clients j ≡ Some c) same e) is.names.heads.clients in
+    tree_clients n is.names is.links 0 n.heads.clients (λ i c e. let same : i ≡ 0 + i = omega arith in subst (λ j. slice_get n.heads.clients j ≡ Some c) same e) is.names.heads.within.clients in
     subst (λ (q : Resolved). Each (Orders q.heads) q.heads.clients) is.same each
-clients_order (Code c) is = code_clients c.heads c.heads.clients is.limits.heads.clients_fit is.limits.heads.clients
+clients_order (Code c) is = code_clients c.heads c.heads.clients is.limits.heads.clients_fit is.limits.heads.within.clients
 
 -- ---- events
 
 pub events_hold : (x : Prog) → IsWellFormed x → Each (EventHolds (heads x)) (heads x).events
-events_hold (Tree p) is = subst (λ (q : Resolved). Each (EventHolds q.heads) q.heads.events) is.same is.names.heads.events
-events_hold (Code c) is = is.limits.heads.events
+events_hold (Tree p) is = subst (λ (q : Resolved). Each (EventHolds q.heads) q.heads.events) is.same is.names.heads.within.events
+events_hold (Code c) is = is.limits.heads.within.events

@@ -11,7 +11,8 @@ use Rattle.loft_base.specs.declared.ids.SharedId.{SharedId}
 use Rattle.loft_tree.specs.declared.heads.Place.{Place}
 use Rattle.loft_tree.specs.declared.heads.SharedHead.{SharedHead}
 use Rattle.loft_tree.specs.declared.heads.Heads.{Heads}
-use Rattle.loft_sense.specs.Heads.{is_at, shared_values, rank}
+use Rattle.loft_tree.specs.Ranks.{is_at}
+use Rattle.loft_sense.specs.Heads.{shared_values, rank}
 use Rattle.loft_sense.specs.Around.{Around, Beside}
 use Rattle.loft_sense.specs.Machine.{Prog, heads}
 use Rattle.loft_sense.specs.Run.{Active}

@@ -43,19 +43,21 @@ is_name_m = refl
 
 heads_keep : HeadsKeep sample_heads
 heads_keep = record {
-  schedulers = tt;
-  few_schedulers = omega arith;
-  events = tt;
-  few_events = omega arith;
-  shared = tt;
-  few_shared = omega arith;
-  modules = (record { name = is_name_m; parameters = tt; few_parameters = omega arith; locals = tt; few_locals = omega arith; begin = tt; end = tt }, tt);
-  few_modules = omega arith;
-  starts = tt;
-  few_starts = omega arith;
-  clients = tt;
-  few_clients = omega arith;
-  items = (refl, refl);
+  within = record {
+    schedulers = tt;
+    few_schedulers = omega arith;
+    events = tt;
+    few_events = omega arith;
+    shared = tt;
+    few_shared = omega arith;
+    modules = (record { name = is_name_m; parameters = tt; few_parameters = omega arith; locals = tt; few_locals = omega arith; begin = tt; end = tt }, tt);
+    few_modules = omega arith;
+    starts = tt;
+    few_starts = omega arith;
+    clients = tt;
+    few_clients = omega arith;
+    items = (refl, refl);
+  };
   names = names_differ;
   starts_fit = tt;
   clients_fit = tt;

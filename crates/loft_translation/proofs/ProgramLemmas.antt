@@ -51,19 +51,7 @@ order_fits n client c number (order.Broadcast event value) fits placed at ordere
 
 heads_keep : (n : NamedProgram) → NamedFits n → IsPlaced n → HeadsKeep n.heads
 heads_keep n fits placed = record {
-  schedulers = fits.heads.schedulers;
-  few_schedulers = fits.heads.few_schedulers;
-  events = fits.heads.events;
-  few_events = fits.heads.few_events;
-  shared = fits.heads.shared;
-  few_shared = fits.heads.few_shared;
-  modules = fits.heads.modules;
-  few_modules = fits.heads.few_modules;
-  starts = fits.heads.starts;
-  few_starts = fits.heads.few_starts;
-  clients = fits.heads.clients;
-  few_clients = fits.heads.few_clients;
-  items = fits.heads.items;
+  within = fits.heads.within;
   names = fits.names;
   starts_fit = each_from (StartFits n.heads) n.heads.starts (λ k t at. start_fits n k t fits placed at);
   clients_fit = each_from (ClientFits n.heads) n.heads.clients
@@ -99,9 +87,9 @@ module_passes : (n : NamedProgram) (m : ModuleId) (signature : Signature) (x : N
     → ModulePasses n.heads signature (body_of x.body)
 module_passes n m signature x fits placed is body =
     let goes = module_goes n m signature x fits placed is in
-    let holds : SignatureHolds n.heads signature = each_at (SignatureHolds n.heads) n.heads.modules m.0 signature fits.heads.modules is.head in
+    let holds : SignatureHolds n.heads signature = each_at (SignatureHolds n.heads) n.heads.modules m.0 signature fits.heads.within.modules is.head in
     let begin = place_declared n.heads signature.begin holds.begin in
-    let all = body_passes n.heads (slots_of signature) fits.heads.modules x.body MAX_NESTING 0 0 signature.begin signature.end (omega arith) body.statements goes body.stops begin in
+    let all = body_passes n.heads (slots_of signature) fits.heads.within.modules x.body MAX_NESTING 0 0 signature.begin signature.end (omega arith) body.statements goes body.stops begin in
     record { passes = all.0; begin = begin; ends = all.1; end = all.2; few = module_few n.heads x.body signature.begin body.few_statements }
 
 -- its lines, where the module is declared
@@ -140,7 +128,7 @@ declared_lines n m signature x declared at = program_lines n m.0 x at ∙ ap (λ
 -- ---- limits
 
 pub few_modules : (n : NamedProgram) → NamedFits n → length n.modules ≤ MAX_MODULES
-few_modules n fits = omega (arith, same_length n.heads n.heads.modules n.modules fits.bodies, fits.heads.few_modules)
+few_modules n fits = omega (arith, same_length n.heads n.heads.modules n.modules fits.bodies, fits.heads.within.few_modules)
 
 module_lines_fit : (h : Heads) (signature : Signature) (b : Body) → ModulePasses h signature b → LinesFit (body_and_end h b signature.begin)
 module_lines_fit h signature b all =

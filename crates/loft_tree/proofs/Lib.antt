@@ -1,3 +1,4 @@
 pub mod Trees
 pub mod NamedTrees
 pub mod StopLemmas
+pub mod RankLemmas

@@ -7,6 +7,7 @@ pub mod NamedTree
 pub mod NamedView
 pub mod ProgramView
 pub mod HeadsFit
+pub mod Ranks
 pub mod Stops
 pub mod NamedFits
 pub mod Resolved

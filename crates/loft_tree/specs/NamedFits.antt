@@ -131,9 +131,9 @@ no_items = record { schedulers = 0; events = 0; shared = 0; modules = 0; starts 
 abbrev pub tally_of : Heads → Tally
 tally_of h = record { schedulers = length h.schedulers; events = length h.events; shared = length h.shared; modules = length h.modules; starts = length h.starts; clients = length h.clients }
 
-pub record HeadsHold (h : Heads) : Type 0 where
+-- what is declared keeps the limits of the language, and refers to what is declared
+pub record HeadsWithinLimits (h : Heads) : Type 0 where
   pub schedulers : Each IsName h.schedulers
-  pub some_scheduler : 1 ≤ length h.schedulers
   pub few_schedulers : length h.schedulers ≤ MAX_SCHEDULERS
   pub events : Each (EventHolds h) h.events
   pub few_events : length h.events ≤ MAX_EVENTS
@@ -147,6 +147,10 @@ pub record HeadsHold (h : Heads) : Type 0 where
   pub few_clients : length h.clients ≤ MAX_CLIENTS
   -- each declaration stands once in the order of the text
   pub items : AreCounted no_items h.items (tally_of h)
+
+pub record HeadsHold (h : Heads) : Type 0 where
+  pub within : HeadsWithinLimits h
+  pub some_scheduler : 1 ≤ length h.schedulers
 
 -- ---- names of declarations
 

@@ -1,6 +1,9 @@
 //! Copies of what a program declares.
 
+ghost use Rattle.std.specs.Prelude.{◌≡◌, true};
+
 use crate::heads::{Client, ClientOrder, EventHead, Heads, SharedHead, Signature, SlotHead, Start};
+use crate::shared_heads::SharedHeads;
 use loft_base::{NoMemory, Room, Sequence, TryClone};
 use std::alloc::Global;
 
@@ -102,13 +105,24 @@ impl TryClone for Client {
     }
 }
 
+/// Copies of these variables, or none.
+fn shared(room: &mut Room, heads: &[SharedHead]) -> SharedHeads
+    ensures before { room.new.is_whole ≡ true → room.old.is_whole ≡ true }
+    ensures copy { room.new.is_whole ≡ true → result ≡ heads.now }
+{
+    let heads = room.all(heads);
+    let made = SharedHeads::new(room.alloc, heads);
+    let none = SharedHeads::none(room.alloc);
+    room.or(made, none)
+}
+
 impl TryClone for Heads {
     fn try_clone(&self, alloc: Global) -> Result<Heads, NoMemory> {
         let mut room = Room::new(alloc);
         let copy = Heads {
             schedulers: room.all(self.schedulers.as_slice()),
             events: room.all(self.events.as_slice()),
-            shared: room.all(self.shared.as_slice()),
+            shared: shared(&mut room, self.shared.as_slice()),
             modules: room.all(self.modules.as_slice()),
             starts: room.all(self.starts.as_slice()),
             clients: room.all(self.clients.as_slice()),

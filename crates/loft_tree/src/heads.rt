@@ -4,6 +4,7 @@ ghost use Rattle.std.specs.Prelude.{◌≡◌, ◌↔◌, IsTrue};
 ghost use Rattle.loft_tree.specs.HeadsFit.{is_of, agree, kinds_of, HeadsFit};
 
 use crate::kinds::{Control, Kind};
+use crate::shared_heads::SharedHeads;
 use loft_base::{EventId, ModuleId, SchedId, Sequence, SharedId, ThreadId, Value};
 
 /// A name: its bytes.
@@ -118,7 +119,7 @@ pub enum HeadItem {
 pub struct Heads {
     pub schedulers: Names,
     pub events: Sequence<EventHead>,
-    pub shared: Sequence<SharedHead>,
+    pub shared: SharedHeads,
     pub modules: Sequence<Signature>,
     pub starts: Sequence<Start>,
     pub clients: Sequence<Client>,

@@ -9,6 +9,7 @@ mod kinds;
 pub mod limits;
 mod named;
 mod program;
+mod shared_heads;
 mod statement;
 mod stopping;
 
@@ -23,5 +24,6 @@ pub use named::{
     EventUse, LinkItem, Module, Named, NamedCreation, NamedExpr, NamedProgram, NamedStmt, Target,
 };
 pub use program::{Argument, Item, ModuleHead, OutsideOrder, PlaceName, Program, Variable};
+pub use shared_heads::SharedHeads;
 pub use statement::{Creation, EventName, Stmt, Text};
 pub use stopping::stops;

@@ -1,7 +1,7 @@
 use Rattle.std.proofs.Common.{◌≡◌, ◌++◌, map, drop}
 use Rattle.std.specs.Prelude.{filter}
 use Rattle.loft_tree.specs.declared.heads.SharedHead.{SharedHead}
-use Rattle.loft_sense.specs.Heads.{is_at}
+use Rattle.loft_tree.specs.Ranks.{is_at}
 use Rattle.loft_instant.proofs.shared.shared_values.Given as goal
 
 -- the values so far, and those of what is left

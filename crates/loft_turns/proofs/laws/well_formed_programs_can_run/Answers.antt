@@ -8,10 +8,10 @@ use Rattle.loft_turns.proofs.laws.well_formed_programs_can_run.Goals as goal
 -- a well-formed program declares no more than a program may
 few : (x : Prog) → IsWellFormed x → (length (heads x).schedulers ≤ MAX_SCHEDULERS) × (length (heads x).clients ≤ MAX_CLIENTS)
 few (Tree p) well = (
-  subst (λ (q : Resolved). length q.heads.schedulers ≤ MAX_SCHEDULERS) well.same well.names.heads.few_schedulers,
-  subst (λ (q : Resolved). length q.heads.clients ≤ MAX_CLIENTS) well.same well.names.heads.few_clients,
+  subst (λ (q : Resolved). length q.heads.schedulers ≤ MAX_SCHEDULERS) well.same well.names.heads.within.few_schedulers,
+  subst (λ (q : Resolved). length q.heads.clients ≤ MAX_CLIENTS) well.same well.names.heads.within.few_clients,
 )
-few (Code c) well = (well.limits.heads.few_schedulers, well.limits.heads.few_clients)
+few (Code c) well = (well.limits.heads.within.few_schedulers, well.limits.heads.within.few_clients)
 
 pub returns : goal.returns
 returns c = λ x o well some. record {

@@ -1,7 +1,7 @@
 use Rattle.std.proofs.Common.{List, ap, ◌∙◌, map, sym}
 use Rattle.std.specs.Prelude.{filter}
 use Rattle.loft_tree.specs.declared.heads.SharedHead.{SharedHead}
-use Rattle.loft_sense.specs.Heads.{is_at}
+use Rattle.loft_tree.specs.Ranks.{is_at}
 use Rattle.loft_waits.specs.Told.{Told}
 use Rattle.loft_line_engine.proofs.StateLemmas.{first_so, nobody_quiet}
 use Rattle.loft_line_engine.proofs.state.State.first.Goals as goal

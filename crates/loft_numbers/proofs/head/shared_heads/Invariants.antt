@@ -1,7 +1,7 @@
 use Rattle.std.proofs.Common.{true, ◌≡◌, ◌++◌, drop}
 use Rattle.loft_tree.specs.View.{source_of}
 use Rattle.loft_numbers.specs.Numbers.{shared_in}
-use Rattle.loft_numbers.proofs.head.shared.Given as goal
+use Rattle.loft_numbers.proofs.head.shared_heads.Given as goal
 
 -- those that are left come after
 abbrev pub invariant-loop-item : goal.invariant-loop-item
