@@ -13,6 +13,7 @@ ghost use Rattle.loft_effect.specs.Outcomes.{gone_of};
 use loft_base::{NoMemory, Sequence};
 use loft_board::Board;
 use loft_effect::{Around, Gone, Outcome, tell_all};
+use loft_ended::Ended;
 use loft_orders::{Order, Sent, Sents, SharedThread, Thread, To};
 use loft_tree::{Heads, Place};
 use std::alloc::Global;
@@ -28,7 +29,7 @@ pub fn alone(alloc: Global, heads: &Heads, block: u64) -> Result<Around, NoMemor
         place: Place::Unlinked,
         board: Board::new(alloc, heads.events.len() as u32)?,
         shared: Sequence::new(alloc),
-        known: Sequence::new(alloc),
+        known: Ended::new(alloc),
         made: 0,
         entries: 0,
         steps: 0,

@@ -6,8 +6,9 @@ ghost use Rattle.loft_sense.specs.Around.{with_act, entered};
 ghost use Rattle.loft_sense.specs.CanGo.{is_index, is_known as is_known_in, same_thread as same_thread_as};
 ghost use Rattle.loft_sense.specs.Statements.{indexed, most_entries as most_entries_at, new_id, one_made};
 
-use loft_base::{EventId, Maker, NoMemory, Sequence, ThreadId};
+use loft_base::{EventId, Maker, NoMemory, ThreadId};
 use loft_board::Board;
+use loft_ended::Ended;
 use loft_orders::{Act, Acts, Numbers};
 use loft_sense::{MAX_BLOCK_ENTRIES, MAX_ENTRIES};
 use loft_tree::Place;
@@ -22,7 +23,7 @@ pub struct Around {
     /// The values of the shared variables of its place, in the order of their declarations.
     pub shared: Numbers,
     /// The threads known as ended.
-    pub known: Sequence<ThreadId>,
+    pub known: Ended,
     /// The creates that its place has sent.
     pub made: u64,
     /// How many entries this instant has so far.
@@ -52,18 +53,6 @@ pub fn same_thread(a: ThreadId, b: ThreadId) -> bool
     ensures { result ≡ same_thread_as a b }
 {
     a == b
-}
-
-/// Whether the thread is one of those that are known as ended.
-pub fn is_known(known: &[ThreadId], thread: ThreadId) -> bool
-    ensures { result ≡ is_known_in thread known.now }
-{
-    for one in known {
-        if same_thread(thread, *one) {
-            return true;
-        }
-    }
-    false
 }
 
 impl Around {
@@ -120,7 +109,7 @@ impl Around {
     pub fn is_known(&self, thread: ThreadId) -> bool
         ensures { result ≡ is_known_in thread self.now.known }
     {
-        is_known(self.known.as_slice(), thread)
+        self.known.contains(thread)
     }
 
     /// The shared variable of its place with this index has this value from now on.

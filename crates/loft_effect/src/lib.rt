@@ -14,7 +14,7 @@ mod taken;
 mod told;
 mod value;
 
-pub use around::{Around, is_known, same_thread};
+pub use around::{Around, same_thread};
 pub use effect::Effect;
 pub use frame::first_values;
 pub use gone::{Gone, Outcome};

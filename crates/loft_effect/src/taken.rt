@@ -5,6 +5,7 @@ ghost use Rattle.std.specs.Prelude.{◌≡◌, IfOk};
 use crate::around::Around;
 use loft_base::{NoMemory, Sequence};
 use loft_board::Board;
+use loft_ended::Ended;
 use loft_orders::{Thread, Wait};
 use loft_tree::Place;
 use std::alloc::Global;
@@ -32,7 +33,7 @@ pub fn take_around(alloc: Global, around: &mut Around) -> Result<Around, NoMemor
         place: Place::Unlinked,
         board: Board::new(alloc, 0)?,
         shared: Sequence::new(alloc),
-        known: Sequence::new(alloc),
+        known: Ended::new(alloc),
         made: 0,
         entries: 0,
         steps: 0,

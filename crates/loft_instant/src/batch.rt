@@ -9,6 +9,7 @@ ghost use Rattle.loft_instant.specs.Positions.{IsPosition};
 use loft_base::{EventId, ModuleId, NoMemory, SchedId, Sequence, ThreadId, TryClone, Value};
 use loft_board::Board;
 use loft_effect::{first_values, same_thread, tell_end};
+use loft_ended::Ended as EndedThreads;
 use loft_orders::{End, Ended, Ends, Frame, Mark, Marks, Order, Sents, Thread, Wait};
 use loft_passes::Runner;
 use loft_sense::MAX_LINKED;
@@ -19,7 +20,7 @@ use std::alloc::Global;
 #[derive(Drop)]
 pub struct Batch {
     pub linked: Vec<Runner>,
-    pub known: Sequence<ThreadId>,
+    pub known: EndedThreads,
     /// How many events there are.
     pub events: u32,
     pub board: Board,
@@ -78,7 +79,7 @@ impl Batch {
     pub fn new(
         alloc: Global,
         linked: Vec<Runner>,
-        known: Sequence<ThreadId>,
+        known: EndedThreads,
         events: u32,
         board: Board,
     ) -> Batch

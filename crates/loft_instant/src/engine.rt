@@ -93,7 +93,7 @@ impl<I: Interpreter, P: Passes<I>> Engine for InstantEngine<I, P> {
 
     fn resting(&self) -> bool {
         match &self.state {
-            Some(state) => all_rest(state.linked.as_slice(), state.known.as_slice()),
+            Some(state) => all_rest(state.linked.as_slice(), &state.known),
             None => true,
         }
     }

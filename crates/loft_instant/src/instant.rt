@@ -13,9 +13,10 @@ ghost use Rattle.loft_sense.specs.Instant.{sent_by, leavers, changes as changes_
 
 use crate::batch::Batch;
 use crate::shared::{changes, keep_values, shared_values};
-use loft_base::{Limits, NoMemory, SchedId, Sequence, SharedId, ThreadId};
+use loft_base::{Limits, NoMemory, SchedId, Sequence, SharedId};
 use loft_board::Board;
 use loft_effect::{Around, tell_all};
+use loft_ended::Ended;
 use loft_orders::{Changes, InstantNote, Numbers, Order, Orders, Sents, Threads};
 use loft_passes::{Interpreter, Passes, Runner, begin_all, close_all};
 use loft_sense::Tally;
@@ -46,7 +47,7 @@ pub struct State {
     /// The shared values before the last instant; the next one uses their room.
     pub before: Numbers,
     /// The threads known as ended.
-    pub known: Sequence<ThreadId>,
+    pub known: Ended,
     /// No event is present between two instants; the room of their values is kept.
     pub board: Board,
     /// The creates that it has sent.
@@ -76,7 +77,7 @@ impl State {
             linked: Vec::new(alloc),
             shared,
             before: Sequence::new(alloc),
-            known: Sequence::new(alloc),
+            known: Ended::new(alloc),
             board,
             made: 0,
             tally: first_tally(heads, scheduler),
@@ -104,7 +105,7 @@ impl<I: Interpreter> Setting<I> {
         &self,
         alloc: Global,
         linked: Vec<Runner>,
-        known: Sequence<ThreadId>,
+        known: Ended,
         board: Board,
         orders: &[Order],
     ) -> Result<Batch, NoMemory>
@@ -150,7 +151,7 @@ impl<I: Interpreter> Setting<I> {
         linked: &mut Vec<Runner>,
         board: Board,
         shared: Numbers,
-        known: Sequence<ThreadId>,
+        known: Ended,
         made: u64,
     ) -> Result<Around, NoMemory>
         requires { made ≤ 2 ^ 63 }

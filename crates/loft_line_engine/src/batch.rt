@@ -9,6 +9,7 @@ use loft_base::{EventId, ModuleId, NoMemory, SchedId, Sequence, ThreadId, TryClo
 use loft_board::Board;
 use loft_count::Steps;
 use loft_effect::tell_end;
+use loft_ended::Ended as EndedThreads;
 use loft_instant::new_thread;
 use loft_line::Line;
 use loft_orders::{End, Ended, Ends, Mark, Marks, Order, Sents, Thread};
@@ -22,7 +23,7 @@ use std::sync::ledger::Ledger;
 #[derive(Drop)]
 pub struct Batch {
     pub line: Line,
-    pub known: Sequence<ThreadId>,
+    pub known: EndedThreads,
     pub board: Board,
     pub marks: Marks,
     pub stopped: Ends,
@@ -55,7 +56,7 @@ impl Batch {
     ghost use Rattle.loft_orders.specs.declared.order.Order.TheVariants as order;
 
     /// A scheduler with these threads, before the first order.
-    pub fn new(alloc: Global, line: Line, known: Sequence<ThreadId>, board: Board) -> Batch
+    pub fn new(alloc: Global, line: Line, known: EndedThreads, board: Board) -> Batch
         requires idle { IsIdle line }
         requires counts { line.waits.counts ≡ counts_of board }
         requires ended { line.waits.ended ≡ known }

@@ -3,8 +3,9 @@
 ghost use Rattle.std.specs.Prelude.{◌≡◌, IfOk};
 ghost use Rattle.loft_instant.specs.States.{first_machine};
 
-use loft_base::{NoMemory, SchedId, Sequence, ThreadId};
+use loft_base::{NoMemory, SchedId, Sequence};
 use loft_board::Board;
+use loft_ended::Ended;
 use loft_instant::shared_values;
 use loft_line::Line;
 use loft_orders::Numbers;
@@ -22,7 +23,7 @@ pub struct State {
     /// The shared values before the last instant; the next one uses their room.
     pub before: Numbers,
     /// The threads known as ended.
-    pub known: Sequence<ThreadId>,
+    pub known: Ended,
     /// No event is present between two instants; the room of their values is kept.
     pub board: Board,
     /// The creates that it has sent.
@@ -54,7 +55,7 @@ impl State {
             line,
             shared,
             before: Sequence::new(alloc),
-            known: Sequence::new(alloc),
+            known: Ended::new(alloc),
             board,
             made: 0,
             tally: first_tally(heads, scheduler),

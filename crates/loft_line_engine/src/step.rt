@@ -22,11 +22,12 @@ ghost use Rattle.loft_line_engine.specs.States.{machine_with, IsClosed};
 
 use crate::batch::Batch;
 use crate::state::State;
-use loft_base::{NoMemory, Sequence, ThreadId};
+use loft_base::{NoMemory, Sequence};
 use loft_board::Board;
 use loft_count::Steps;
 use loft_counted::CountedInterpreter;
 use loft_effect::{Around, tell_all};
+use loft_ended::Ended;
 use loft_instant::{Setting, changes, fitted, keep_values};
 use loft_line::Line;
 use loft_orders::{Changes, InstantNote, Numbers, Order, Orders, Sents, Threads};
@@ -43,7 +44,7 @@ fn apply<I: CountedInterpreter, L: Ledger>(
     alloc: Global,
     setting: &Setting<I>,
     line: Line,
-    known: Sequence<ThreadId>,
+    known: Ended,
     board: Board,
     orders: &[Order],
     steps: &mut Steps<L>,
@@ -86,7 +87,7 @@ fn run<I: CountedInterpreter, L: Ledger>(
     line: &mut Line,
     board: Board,
     shared: Numbers,
-    known: Sequence<ThreadId>,
+    known: Ended,
     made: u64,
     steps: &mut Steps<L>,
 ) -> Result<Around, NoMemory>

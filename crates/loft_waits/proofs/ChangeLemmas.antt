@@ -16,7 +16,7 @@ use Rattle.loft_sense.specs.Instant.{lowered, closed_wait}
 use Rattle.loft_waits.specs.declared.key.Key.TheVariants.{Close}
 use Rattle.loft_waits.specs.Told.{Counts, count_in, no_counts, is_ready}
 use Rattle.loft_waits.specs.Places.{names_event, names_value, names_thread, number_of, ends_in, is_listed, IsListed}
-use Rattle.loft_waits.proofs.KeyLemmas.{known_more}
+use Rattle.loft_ended.proofs.KeyLemmas.{known_more}
 
 -- ---- an event
 

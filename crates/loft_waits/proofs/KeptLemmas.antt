@@ -8,7 +8,8 @@ use Rattle.loft_waits.specs.declared.places.Places.{Places}
 use Rattle.loft_orders.specs.declared.thread.Wait.{Wait}
 use Rattle.loft_waits.specs.declared.key.Key.TheVariants.{Event, Value, End, Close}
 use Rattle.loft_waits.specs.Told.{Told, wait_at, is_ready, ready_at}
-use Rattle.loft_waits.specs.Places.{thread_key, IsListed, IsKept, KeepsOthers, SetsSome, flag}
+use Rattle.loft_ended.specs.Ended.{thread_key}
+use Rattle.loft_waits.specs.Places.{IsListed, IsKept, KeepsOthers, SetsSome, flag}
 
 pub beyond : {X : Type 0} (xs : List X) (d : X) (i : ℕ) → length xs ≤ i → get_or xs i d ≡ d
 beyond [] d i h = refl

@@ -1,5 +1,4 @@
 pub mod AgedLemmas
-pub mod KeyLemmas
 pub mod PlaceLemmas
 pub mod KeptLemmas
 pub mod ChangeLemmas

@@ -11,7 +11,7 @@ use Rattle.loft_waits.specs.declared.key.Key.{Key}
 use Rattle.loft_waits.specs.declared.key.Key.TheVariants.{Event, Value, End, Close}
 use Rattle.loft_waits.specs.declared.places.Places.{Places}
 use Rattle.loft_waits.specs.Places.{Place, key_cmp, place_cmp, is_placed, is_close, is_listed, KeepsOthers, KeepsAll, KeepsBut}
-use Rattle.loft_waits.proofs.KeyLemmas.{eq_then, number_ties}
+use Rattle.loft_ended.proofs.KeyLemmas.{eq_then, number_ties}
 
 cond_true : (b : Bool) → cond b true true ≡ true
 cond_true true = refl

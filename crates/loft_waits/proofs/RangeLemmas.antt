@@ -18,11 +18,11 @@ use mathlib.Core.Logic.{dite}
 use native.Mathlib.Decide.{ℕ_discrete}
 use Rattle.loft_waits.specs.declared.key.Key.{Key}
 use Rattle.loft_waits.specs.declared.key.Key.TheVariants.{Event, Value, End, Close}
-use Rattle.loft_waits.specs.declared.key.MakerKey.{MakerKey}
-use Rattle.loft_waits.specs.declared.key.MakerKey.TheVariants.{Source, Sched, Client}
-use Rattle.loft_waits.specs.declared.key.ThreadKey.{ThreadKey}
-use Rattle.loft_waits.specs.contracts.key.MakerKeyOrd.TheImpl as maker_ord
-use Rattle.loft_waits.specs.Ended.{thread_cmp}
+use Rattle.loft_ended.specs.declared.key.MakerKey.{MakerKey}
+use Rattle.loft_ended.specs.declared.key.MakerKey.TheVariants.{Source, Sched, Client}
+use Rattle.loft_ended.specs.declared.key.ThreadKey.{ThreadKey}
+use Rattle.loft_ended.specs.contracts.key.MakerKeyOrd.TheImpl as maker_ord
+use Rattle.loft_ended.specs.Ended.{thread_cmp}
 use Rattle.loft_waits.specs.Told.{Told, ready_at}
 use Rattle.loft_waits.specs.declared.places.Places.{Places}
 use Rattle.loft_waits.specs.Places.{Place, key_cmp, place_cmp, is_placed, flag, SetsSome, SetsPlaced, SetsListed}

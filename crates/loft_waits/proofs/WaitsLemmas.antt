@@ -10,7 +10,8 @@ use Rattle.loft_orders.specs.declared.thread.Wait.{Wait}
 use Rattle.loft_sense.specs.Instant.{closed_wait}
 use Rattle.loft_waits.specs.declared.key.Key.TheVariants.{Event, Value, End, Close}
 use Rattle.loft_waits.specs.Told.{Told, wait_at, is_ready, ready_at, closed, no_counts, NobodyIn, NobodyFrom}
-use Rattle.loft_waits.specs.Places.{thread_key, IsListed, IsKept, KeepsOthers, SetsSome, SetsPlaced, SetsListed, KeepsBut, flag, names_thread, ends_in}
+use Rattle.loft_ended.specs.Ended.{thread_key}
+use Rattle.loft_waits.specs.Places.{IsListed, IsKept, KeepsOthers, SetsSome, SetsPlaced, SetsListed, KeepsBut, flag, names_thread, ends_in}
 use Rattle.loft_waits.proofs.KeptLemmas.{beyond, ready_beyond, listed_none, kept_set, kept_woken}
 use Rattle.loft_waits.proofs.ChangeLemmas.{NewValue, EventChange, event_changes, end_changes, close_changes, closed_at, closed_listed}
 

@@ -1,4 +1,3 @@
 pub mod Told
 pub mod Aged
 pub mod Places
-pub mod Ended

@@ -4,17 +4,13 @@ use Rattle.std.specs.declared.cmp.Ordering.{Ordering}
 use Rattle.std.specs.Ordering.{nat_cmp, ordering_then}
 use Rattle.std.specs.List.{list_any}
 use Rattle.std.specs.BTreeSet.{BTreeSet, contains}
-use Rattle.loft_base.specs.declared.ids.Maker.{Maker}
-use Rattle.loft_base.specs.declared.ids.Maker.TheVariants as maker
 use Rattle.loft_base.specs.declared.ids.ThreadId.{ThreadId}
 use Rattle.loft_orders.specs.declared.thread.Wait.{Wait}
 use Rattle.loft_orders.specs.declared.thread.Wait.TheVariants as wait
 use Rattle.loft_sense.specs.CanGo.{same_thread}
+use Rattle.loft_ended.specs.Ended.{thread_key}
 use Rattle.loft_waits.specs.declared.key.Key.{Key}
 use Rattle.loft_waits.specs.declared.key.Key.TheVariants.{Event, Value, End, Close}
-use Rattle.loft_waits.specs.declared.key.MakerKey.{MakerKey}
-use Rattle.loft_waits.specs.declared.key.MakerKey.TheVariants.{Source, Sched, Client}
-use Rattle.loft_waits.specs.declared.key.ThreadKey.{ThreadKey}
 use Rattle.loft_waits.specs.declared.places.Places.{Places}
 use Rattle.loft_waits.specs.contracts.key.KeyOrd.TheImpl as key_ord
 use Rattle.loft_waits.specs.Told.{Told, wait_at, ready_at}
@@ -41,15 +37,6 @@ is_close n key = false
 -- whether a position is listed under a key
 abbrev pub is_listed : Places → Key → ℕ → Bool
 is_listed places key i = (is_close places.due key && list_any (λ j. j == i) places.soon.items) || is_placed places.set key i
-
--- the name of a thread, as a key
-abbrev pub maker_key : Maker → MakerKey
-maker_key maker.Source = Source
-maker_key (maker.Sched n) = Sched n
-maker_key (maker.Client n) = Client n
-
-abbrev pub thread_key : ThreadId → ThreadKey
-thread_key t = record { maker = maker_key t.maker; seq = t.seq }
 
 -- it waits for this event
 abbrev pub names_event : ℕ → Option Wait → Bool

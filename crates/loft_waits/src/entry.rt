@@ -6,8 +6,8 @@ ghost use Rattle.loft_sense.specs.WaitCodes.{number_left};
 ghost use Rattle.loft_waits.specs.Told.{count_in, is_next, ends_alone as ends_alone_of};
 ghost use Rattle.loft_waits.specs.Aged.{aged, lowered_by, wait_now};
 
-use crate::ended::Ended;
 use loft_base::{EventId, NoMemory, TryClone};
+use loft_ended::Ended;
 use loft_orders::Wait;
 use std::alloc::Global;
 

@@ -2,7 +2,6 @@
 //! (docs/SEMANTICS.md, "Waiting lists").
 #![tactic(auto)]
 
-mod ended;
 mod entry;
 mod key;
 mod laws;

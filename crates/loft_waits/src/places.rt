@@ -7,8 +7,9 @@ ghost use Rattle.loft_waits.specs.declared.key.Key.TheVariants.{Event, Value, En
 ghost use Rattle.loft_waits.specs.Places.{is_listed, names_value, number_of, IsListed, KeepsOthers, KeepsAll, KeepsBut};
 
 use crate::entry::Entry;
-use crate::key::{Key, ThreadKey};
+use crate::key::Key;
 use loft_base::{EventId, NoMemory};
+use loft_ended::ThreadKey;
 use loft_orders::Wait;
 use std::alloc::Global;
 use std::collections::BTreeSet;

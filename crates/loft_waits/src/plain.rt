@@ -6,9 +6,9 @@ ghost use Rattle.loft_sense.specs.WaitCodes.{number_left};
 ghost use Rattle.loft_waits.specs.Told.{wait_at, nobody, closed, ready_at, no_counts, is_late, count_in, is_alone as is_alone_of, IsFreeFrom};
 ghost use Rattle.loft_waits.specs.Aged.{wait_now, one_if, IsEntryBefore};
 
-use crate::ended::Ended;
 use crate::entry::{Entry, count, ends_alone};
 use loft_base::{EventId, NoMemory, ThreadId};
+use loft_ended::Ended;
 use loft_orders::Wait;
 use std::alloc::Global;
 use std::marker::Model;

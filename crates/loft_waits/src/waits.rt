@@ -5,11 +5,12 @@ ghost use Rattle.std.specs.List.{list_any};
 ghost use Rattle.loft_sense.specs.WaitCodes.{number_left};
 ghost use Rattle.loft_waits.specs.Told.{wait_at, nobody, closed, no_counts, is_late, ready_at, is_alone, IsNext, IsFreeFrom, NobodyIn, NobodyFrom};
 
-use crate::key::{Key, ThreadKey};
+use crate::key::Key;
 use crate::places::{Places, enter, forget, leave_entry, no_places};
 use crate::plain::Plain;
 use crate::wake::{byte, wake_close, wake_event, wake_one};
 use loft_base::{EventId, NoMemory, ThreadId, TryClone};
+use loft_ended::ThreadKey;
 use loft_orders::Wait;
 use memchr::memchr;
 use std::alloc::Global;

@@ -1,6 +1,6 @@
 use Rattle.std.proofs.Common.{subst}
 use Rattle.loft_waits.specs.declared.key.Key.TheVariants.{End}
-use Rattle.loft_waits.specs.declared.key.ThreadKey.{ThreadKey}
+use Rattle.loft_ended.specs.declared.key.ThreadKey.{ThreadKey}
 use Rattle.loft_waits.specs.Places.{SetsPlaced}
 use Rattle.loft_waits.proofs.WaitsLemmas.{kept_end}
 use Rattle.loft_waits.proofs.waits.Waits.on_ended.Goals as goal

@@ -13,10 +13,9 @@ use Rattle.loft_base.specs.declared.ids.Maker.{Maker}
 use Rattle.loft_base.specs.declared.ids.Maker.TheVariants as maker
 use Rattle.loft_base.specs.declared.ids.ThreadId.{ThreadId}
 use Rattle.loft_sense.specs.CanGo.{same_maker, same_thread, is_known}
-use Rattle.loft_waits.specs.declared.key.ThreadKey.{ThreadKey}
-use Rattle.loft_waits.specs.contracts.key.MakerKeyOrd.TheImpl as maker_ord
-use Rattle.loft_waits.specs.Places.{maker_key, thread_key}
-use Rattle.loft_waits.specs.Ended.{thread_cmp, HasKeys}
+use Rattle.loft_ended.specs.declared.key.ThreadKey.{ThreadKey}
+use Rattle.loft_ended.specs.contracts.key.MakerKeyOrd.TheImpl as maker_ord
+use Rattle.loft_ended.specs.Ended.{maker_key, thread_key, thread_cmp, HasKeys}
 
 eq_sym : (m n : ℕ) → (m == n) ≡ (n == m)
 eq_sym m n =

@@ -1,8 +1,8 @@
 use Rattle.std.proofs.Common.{◌≡◌, ◌∙◌, sym, subst, ap, List, [], ◌∷◌, ◌++◌}
 use Rattle.loft_base.specs.declared.ids.ThreadId.{ThreadId}
-use Rattle.loft_waits.specs.Ended.{HasKeys}
-use Rattle.loft_waits.proofs.KeyLemmas.{has_keys_more}
-use Rattle.loft_waits.proofs.ended.Ended.push.Goals as goal
+use Rattle.loft_ended.specs.Ended.{HasKeys}
+use Rattle.loft_ended.proofs.KeyLemmas.{has_keys_more}
+use Rattle.loft_ended.proofs.ended.Ended.push.Goals as goal
 
 pub invariant_of-self-2 : goal.invariant_of-self-2
 invariant_of-self-2 c =

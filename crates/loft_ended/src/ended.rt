@@ -1,6 +1,6 @@
-//! The threads that are told as ended.
+//! Threads that have ended, as a list with a set beside it.
 
-ghost use Rattle.std.specs.Prelude.{◌≡◌, ◌++◌, ◌∷◌, [], OnOk, OnErr};
+ghost use Rattle.std.specs.Prelude.{◌≡◌, ◌++◌, ◌∷◌, [], length, OnOk, OnErr};
 ghost use Rattle.loft_sense.specs.CanGo.{is_known};
 
 use crate::key::ThreadKey;
@@ -9,10 +9,10 @@ use std::alloc::Global;
 use std::collections::BTreeSet;
 use std::marker::Model;
 
-/// The threads that are told as ended, in the order in which they were told, with a set beside
-/// them. Contracts see the list.
+/// The threads that are known as ended, in the order in which they were told, with a set beside
+/// them, so that one is found without a walk over all. Contracts see the list.
 #[derive(Drop)]
-pub(crate) struct Ended {
+pub struct Ended {
     threads: Vec<ThreadId>,
     keys: BTreeSet<ThreadKey>,
 }
@@ -20,7 +20,7 @@ pub(crate) struct Ended {
 impl Model for Ended {
     ghost use Rattle.std.specs.Prelude.{List};
     ghost use Rattle.loft_base.specs.declared.ids.ThreadId.{ThreadId as Id};
-    ghost use Rattle.loft_waits.specs.Ended.{HasKeys};
+    ghost use Rattle.loft_ended.specs.Ended.{HasKeys};
 
     ghost Value = { List Id };
 
@@ -30,8 +30,8 @@ impl Model for Ended {
 }
 
 impl Ended {
-    /// None yet.
-    pub(crate) fn new(alloc: Global) -> Ended
+    /// None yet; it allocates nothing.
+    pub fn new(alloc: Global) -> Ended
         ensures { result ≡ [] }
     {
         Ended {
@@ -40,8 +40,8 @@ impl Ended {
         }
     }
 
-    /// A thread has ended.
-    pub(crate) fn push(&mut self, thread: ThreadId) -> Result<(), NoMemory>
+    /// A thread has ended. Where it is out of memory the list stays.
+    pub fn push(&mut self, thread: ThreadId) -> Result<(), NoMemory>
         ensures ok { OnOk result (self.new ≡ self.old ++ thread ∷ []) }
         ensures err { OnErr result (self.new ≡ self.old) }
     {
@@ -51,10 +51,24 @@ impl Ended {
         Ok(())
     }
 
-    /// Whether the thread has ended.
-    pub(crate) fn contains(&self, thread: ThreadId) -> bool
+    /// Whether the thread has ended (docs/SEMANTICS.md, "CanGo"). It looks into the set.
+    pub fn contains(&self, thread: ThreadId) -> bool
         ensures { result ≡ is_known thread self.now }
     {
         self.keys.contains(&ThreadKey::of(thread))
+    }
+
+    /// How often a thread was told as ended.
+    pub fn len(&self) -> usize
+        ensures { result ≡ length self.now }
+    {
+        self.threads.len()
+    }
+
+    /// The threads, in the order in which they were told.
+    pub fn as_slice(&self) -> &[ThreadId]
+        ensures { result.now ≡ self.now }
+    {
+        self.threads.as_slice()
     }
 }
