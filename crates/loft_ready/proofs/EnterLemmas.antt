@@ -1,12 +1,7 @@
 -- A wait is entered.
-use Rattle.std.proofs.Common.{◌≡◌, ℕ, zero, suc, List, [], ◌∷◌, ◌++◌, sym, ◌∙◌, ap, arith, Option, None, length, get_or, set}
-use Rattle.std.proofs.lemmas.List.{get_or_push, set-get_or}
+use Rattle.std.proofs.Common.{◌≡◌, ℕ, zero, suc, List, [], ◌∷◌, ◌++◌, sym, ap, arith, Option, None, length, get_or, set}
+use Rattle.std.proofs.lemmas.List.{get_or_push}
 use Rattle.loft_orders.specs.declared.thread.Wait.{Wait}
-use Rattle.loft_waits.specs.Told.{Told, wait_at}
-
--- where nobody waits, nobody is entered
-pub free_stays : (t : Told) (p : ℕ) → wait_at t p ≡ None → set t.waits p None ≡ t.waits
-free_stays t p free = sym (ap (λ (w : Option Wait). set t.waits p w) free) ∙ set-get_or t.waits p None
 
 pub set_last : (ws : List (Option Wait)) (p : ℕ) (v w : Option Wait) → p ≡ length ws → set (ws ++ v ∷ []) p w ≡ ws ++ w ∷ []
 set_last [] p v w h = ap (λ (k : ℕ). set (v ∷ []) k w) h

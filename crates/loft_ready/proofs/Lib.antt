@@ -1,4 +1,3 @@
-pub mod CircleLemmas
 pub mod PositionLemmas
 pub mod TellLemmas
 pub mod EnterLemmas

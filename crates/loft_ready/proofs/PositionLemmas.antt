@@ -220,7 +220,3 @@ module _ (x : Prog) where
 abbrev pub IfReady : Told → Option ℕ → Type 0
 IfReady told None = Unit {0}
 IfReady told (Some q) = (q < length told.waits) × (ready_at told q ≡ true)
-
-pub if_ready : (told : Told) (p : ℕ) (o : Option ℕ) → IsNext told p o → IfReady told o
-if_ready told p None next = tt
-if_ready told p (Some q) next = (next.within, next.ready)

@@ -1,8 +1,7 @@
 -- One run at a position.
-use Rattle.std.proofs.Common.{◌≡◌, ℕ, zero, suc, ◌+◌, ◌-◌, ◌<◌, ◌≤◌, Bool, true, false, List, [], ◌∷◌, ◌++◌, refl, sym, ◌∙◌, ap, subst, arith, Option, Some, None, drop, length, get_or, set, map}
+use Rattle.std.proofs.Common.{◌≡◌, ℕ, zero, suc, ◌+◌, ◌-◌, ◌<◌, ◌≤◌, Bool, true, false, List, [], ◌∷◌, ◌++◌, refl, sym, ◌∙◌, ap, subst, arith, Option, Some, None, drop, length, set, map}
 use Rattle.std.specs.Prelude.{◌&&◌, slice_get, slice_set}
 use Rattle.std.proofs.lemmas.List.{map-set, set-set, length-append}
-use Rattle.std.proofs.lemmas.Option.{slice_get_read}
 use Rattle.std.proofs.lemmas.List.Concat.{flat_map-cons}
 use Rattle.std.proofs.Math.Seq.{drop-append_seam}
 use Rattle.loft_base.specs.declared.ids.ThreadId.{ThreadId}
@@ -17,7 +16,7 @@ use Rattle.loft_sense.specs.Passes.{Runner as Linked, run_of, runners_after, aro
 use Rattle.loft_sense.proofs.StepLemmas.{IsBelow, run_takes_step}
 use Rattle.loft_passes.specs.declared.runner.Runner.{Runner}
 use Rattle.loft_passes.specs.View.{runner_to, linked_after, linked_of, runners_of, is_held, can_run}
-use Rattle.loft_waits.specs.Told.{Told, Counts, counts_of, no_counts}
+use Rattle.loft_waits.specs.Told.{Told, Counts, counts_of}
 use Rattle.loft_ready.specs.Entered.{wait_of, IsEntered, HasRunAt}
 
 pub behind : {A : Type 0} (xs ys all : List A) → all ≡ xs ++ ys → drop (length xs) all ≡ ys
@@ -89,17 +88,6 @@ fewer_steps x p rs later around after did able =
 
 -- ---- a run, from what the calls in it say
 
-pub ran_at : (x : Prog) (rs : List Runner) (p : ℕ) (r now : Runner) (a b : Around) → p < length rs → r ≡ get_or rs p r
-    → linked_of now ≡ runners_after (runner_to None r) (run_of x r.thread a (r.bound - r.steps)) → b ≡ around_after (run_of x r.thread a (r.bound - r.steps)) → HasRunAt x p rs a (slice_set rs p now) b
-ran_at x rs p r now a b within here linked after = record {
-  before = r;
-  now = now;
-  there = slice_get_read rs (length rs) p r refl within here;
-  later_is = refl;
-  linked = linked;
-  after_is = after;
-}
-
 pub told_run : (x : Prog) (r : Runner) (a b : Around) → Tells a (around_after (run_of x r.thread a (r.bound - r.steps))) → b ≡ around_after (run_of x r.thread a (r.bound - r.steps)) → Tells a b
 told_run x r a b tells after = subst (Tells a) (sym after) tells
 
@@ -115,14 +103,3 @@ since xs ys all late n is more here = here ∙ ap (λ (k : ℕ). drop k all) is 
 pub waits_left : (p : ℕ) (t0 t1 t2 t3 : Told) (counts : Counts) (ends : List ThreadId) → t1 ≡ record t0 { waits = slice_set t0.waits p None } → t2 ≡ record t1 { counts = counts } → t3 ≡ record t2 { ended = t2.ended ++ ends }
     → t3.waits ≡ slice_set t0.waits p None
 waits_left p t0 t1 t2 t3 counts ends e1 e2 e3 = ap (λ (t : Told). t.waits) e3 ∙ ap (λ (t : Told). t.waits) e2 ∙ ap (λ (t : Told). t.waits) e1
-
--- the waits as an instant begins
-pub entered_first : (rs : List Runner) (a : Around) (n : ℕ) (t0 t1 t2 t3 : Told) → t0 ≡ record { waits = []; counts = no_counts n; ended = []; closes = 0 } → t1 ≡ record t0 { counts = counts_of a.board }
-    → t2 ≡ record t1 { ended = t1.ended ++ a.known } → t3 ≡ record t2 { waits = map wait_of rs } → IsEntered rs a t3
-entered_first rs a n t0 t1 t2 t3 e0 e1 e2 e3 = record {
-  waits = ap (λ (t : Told). t.waits) e3;
-  counts = ap (λ (t : Told). t.counts) e3 ∙ ap (λ (t : Told). t.counts) e2 ∙ ap (λ (t : Told). t.counts) e1;
-  ended =
-      ap (λ (t : Told). t.ended) e3 ∙ ap (λ (t : Told). t.ended) e2
-      ∙ ap (λ (k : List ThreadId). k ++ a.known) (ap (λ (t : Told). t.ended) e1 ∙ ap (λ (t : Told). t.ended) e0);
-}

@@ -1,15 +1,15 @@
 -- What the waits are told of a board.
-use Rattle.std.proofs.Common.{◌≡◌, ◌≢◌, ℕ, zero, suc, ◌+◌, ◌<◌, ◌≤◌, Bool, true, false, List, [], ◌∷◌, ◌++◌, refl, sym, ◌∙◌, ap, arith, Option, Some, None, take, drop, length, get_or, set, option_map, ◌⊎◌, inl, inr}
+use Rattle.std.proofs.Common.{◌≡◌, ◌≢◌, ℕ, zero, suc, ◌+◌, ◌<◌, ◌≤◌, Bool, true, false, List, [], ◌∷◌, ◌++◌, refl, sym, ◌∙◌, ap, arith, Option, Some, None, length, get_or, set, option_map, ◌⊎◌, inl, inr}
 use Rattle.std.specs.Prelude.{ℤ, ◌==◌, ◌||◌, is_some, unwrap_or}
 use Rattle.std.proofs.lemmas.Bool.{eqb-true, eq-eqb, cases_lt}
-use Rattle.std.proofs.lemmas.List.{get_or-set_same, get_or-set_other, get_or_past, length-set, ext_get_or, set_past, set-get_or}
+use Rattle.std.proofs.lemmas.List.{get_or-set_same, get_or-set_other, get_or_past, length-set, ext_get_or, set_past}
 use Rattle.std.proofs.lemmas.List.{length-map}
 use Rattle.loft_base.specs.declared.ids.EventId.{EventId}
 use Rattle.loft_board.specs.Board.{Board, values, generate, generate_all, value_list}
 use Rattle.loft_orders.specs.declared.note.Act.{Act}
 use Rattle.loft_orders.specs.declared.note.Act.TheVariants.{Print, Gen, Out, End}
 use Rattle.loft_sense.specs.LawWords.{generated_in}
-use Rattle.loft_waits.specs.Told.{Told, Counts, counts_of, no_counts}
+use Rattle.loft_waits.specs.Told.{Counts, counts_of}
 use Rattle.loft_ready.specs.Telling.{told}
 
 -- the event is one of those that were generated
@@ -36,25 +36,7 @@ pub present_count : (o : Option (List ℤ)) → is_some o ≡ true → Some (len
 present_count None h = absurd cc
 present_count (Some vs) h = refl
 
-pub absent_count : (o : Option (List ℤ)) → is_some o ≡ false → option_map length o ≡ None
-absent_count None h = refl
-absent_count (Some vs) h = absurd cc
-
 -- ---- the events of a whole board, one after the other
-
-pub set_next : (new old : Counts) (i : ℕ) → length new ≡ length old → i < length new → set (take i new ++ drop i old) i (get_or new i None) ≡ take (suc i) new ++ drop (suc i) old
-set_next [] old i same h = absurd (omega arith)
-set_next (x ∷ new) [] i same h = absurd (omega (arith, same))
-set_next (x ∷ new) (y ∷ old) zero same h = refl
-set_next (x ∷ new) (y ∷ old) (suc i) same h = ap (λ (l : Counts). x ∷ l) (set_next new old i (omega (arith, same)) (omega (arith, h)))
-
-pub still_old : (new old : Counts) (i : ℕ) → length new ≡ length old → get_or (take i new ++ drop i old) i None ≡ get_or old i None
-still_old [] [] zero same = refl
-still_old [] [] (suc i) same = refl
-still_old [] (y ∷ old) i same = absurd (omega (arith, same))
-still_old (x ∷ new) [] i same = absurd (omega (arith, same))
-still_old (x ∷ new) (y ∷ old) zero same = refl
-still_old (x ∷ new) (y ∷ old) (suc i) same = still_old new old i (omega (arith, same))
 
 -- ---- the events that were generated
 
@@ -172,36 +154,6 @@ told_long gs before board counts told is = ap (λ (c : Counts). length c) told �
 
 -- ---- for the functions that tell
 
-pub length_mixed : (new old : Counts) (i : ℕ) → length new ≡ length old → length (take i new ++ drop i old) ≡ length old
-length_mixed [] [] zero same = refl
-length_mixed [] [] (suc i) same = refl
-length_mixed [] (y ∷ old) i same = absurd (omega (arith, same))
-length_mixed (x ∷ new) [] i same = absurd (omega (arith, same))
-length_mixed (x ∷ new) (y ∷ old) zero same = refl
-length_mixed (x ∷ new) (y ∷ old) (suc i) same = ap suc (length_mixed new old i (omega (arith, same)))
-
-pub all_taken : (new old : Counts) (n : ℕ) → n ≡ length new → length new ≡ length old → take n new ++ drop n old ≡ new
-all_taken [] [] zero is same = refl
-all_taken [] [] (suc n) is same = refl
-all_taken [] (y ∷ old) n is same = absurd (omega (arith, same))
-all_taken (x ∷ new) [] n is same = absurd (omega (arith, same))
-all_taken (x ∷ new) (y ∷ old) zero is same = absurd (omega (arith, is))
-all_taken (x ∷ new) (y ∷ old) (suc n) is same = ap (λ (l : Counts). x ∷ l) (all_taken new old n (omega (arith, is)) (omega (arith, same)))
-
-pub none_counted : (n i : ℕ) → get_or (no_counts n) i None ≡ None
-none_counted zero i = refl
-none_counted (suc n) zero = refl
-none_counted (suc n) (suc i) = none_counted n i
-
-pub next_event : (w0 w later : Told) (new old : Counts) (i : ℕ) (o : Option ℕ) → w ≡ record w0 { counts = take i new ++ drop i old } → later ≡ record w { counts = set w.counts i o } → o ≡ get_or new i None
-    → length new ≡ length old → i < length new → later ≡ record w0 { counts = take (i + 1) new ++ drop (i + 1) old }
-next_event w0 w later new old i o is then_so here same within =
-    let one : suc i ≡ i + 1 = omega arith in
-    then_so
-    ∙ ap (λ (v : Told). record v { counts = set v.counts i o }) is
-    ∙ ap (λ (c : Counts). record w0 { counts = c }) (ap (λ (p : Option ℕ). set (take i new ++ drop i old) i p) here ∙ set_next new old i same within)
-    ∙ ap (λ (k : ℕ). record w0 { counts = take k new ++ drop k old }) one
-
 pub told_step : (board : Board) (act : Act) (acts : List Act) (counts : Counts) → told board (generated_in (act ∷ acts)) counts ≡ told board (generated_in acts) (told board (generated_in (act ∷ [])) counts)
 told_step board (Print t line) acts counts = refl
 told_step board (Gen t event value) acts counts = refl
@@ -214,6 +166,3 @@ told_length (g ∷ gs) board counts = told_length gs board (set counts g.0.0 (So
 
 pub set_beyond : (counts : Counts) (i : ℕ) (o : Option ℕ) → length counts ≤ i → set counts i o ≡ counts
 set_beyond counts i o h = set_past counts i o h
-
-pub set_none : (counts : Counts) (i : ℕ) → get_or counts i None ≡ None → set counts i None ≡ counts
-set_none counts i h = sym (ap (λ (o : Option ℕ). set counts i o) h) ∙ set-get_or counts i None

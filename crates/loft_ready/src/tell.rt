@@ -1,13 +1,12 @@
 //! What the waits are told of a board, and of ends.
 
-ghost use Rattle.std.specs.Prelude.{◌≡◌, ◌≤◌, ◌<◌, ◌++◌, [], ◌∷◌, None, OnOk, drop, length, slice_set};
+ghost use Rattle.std.specs.Prelude.{◌≡◌, ◌≤◌, ◌++◌, [], ◌∷◌, OnOk, drop, length};
 ghost use Rattle.loft_board.specs.Board.{Board as BoardValue, generate_all};
-ghost use Rattle.loft_sense.specs.CanGo.{count_of};
 ghost use Rattle.loft_sense.specs.LawWords.{generated_in};
-ghost use Rattle.loft_waits.specs.Told.{count_in, counts_of, no_counts};
+ghost use Rattle.loft_waits.specs.Told.{counts_of};
 ghost use Rattle.loft_ready.specs.Telling.{told};
 
-use loft_base::{EventId, NoMemory, ThreadId};
+use loft_base::{NoMemory, ThreadId};
 use loft_board::Board;
 use loft_orders::Act;
 use loft_waits::Waits;
@@ -19,32 +18,6 @@ pub fn from<T>(items: &[T], index: usize) -> &[T]
     ensures { result.now ≡ drop index items.now }
 {
     items.split_at(index).1
-}
-
-/// An event of which nothing was told.
-#[tactic(auto, using(crate::proofs::TellLemmas::present_count, crate::proofs::TellLemmas::absent_count, crate::proofs::TellLemmas::set_none))]
-fn tell_event(waits: &mut Waits, board: &Board, event: EventId)
-    requires events { length waits.old.counts ≡ length board.now }
-    requires there { event.0 < length board.now }
-    requires unknown { count_in waits.old.counts event ≡ None }
-    ensures { waits.new ≡ record waits.old {
-      counts = slice_set waits.old.counts event.0 (count_of board.now event);
-    } }
-{
-    if board.has(event) {
-        waits.on_event(event, board.count(event));
-    }
-}
-
-/// All events of a board of which nothing was told.
-pub fn tell_board(waits: &mut Waits, board: &Board, events: u32)
-    requires events { length board.now ≡ events }
-    requires unknown { waits.old.counts ≡ no_counts events }
-    ensures { waits.new ≡ record waits.old { counts = counts_of board.now } }
-{
-    for event in 0..events {
-        tell_event(waits, board, EventId(event));
-    }
 }
 
 /// An event that an act has generated, by this board.

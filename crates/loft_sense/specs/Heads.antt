@@ -1,5 +1,5 @@
 -- What a running program asks of its declarations (docs/SEMANTICS.md, "Machine").
-use Rattle.std.specs.Prelude.{ℕ, ◌+◌, ◌==◌, ℤ, pos, Bool, List, [], ◌∷◌, ◌++◌, map, length, take, filter, if◌then◌else◌, slice_get}
+use Rattle.std.specs.Prelude.{ℕ, ◌+◌, ◌==◌, ℤ, pos, Bool, List, [], ◌∷◌, ◌++◌, map, filter, if◌then◌else◌, slice_get}
 use Rattle.std.specs.Option.{option_map_or}
 use Rattle.loft_base.specs.declared.ids.SchedId.{SchedId}
 use Rattle.loft_base.specs.declared.ids.EventId.{EventId}

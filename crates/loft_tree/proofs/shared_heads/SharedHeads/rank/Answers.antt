@@ -1,4 +1,4 @@
-use Rattle.std.proofs.Common.{◌≡◌, ℕ, List, refl, subst, ◌∙◌}
+use Rattle.std.proofs.Common.{◌≡◌, List, refl, subst, ◌∙◌}
 use Rattle.std.proofs.lemmas.Option.{slice_get_read}
 use Rattle.loft_tree.specs.declared.heads.SharedHead.{SharedHead}
 use Rattle.loft_tree.proofs.RankLemmas.{rank_found, rank_missing, ranks_of}
