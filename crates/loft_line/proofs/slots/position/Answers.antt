@@ -7,12 +7,10 @@ pub search-requires : goal.search-requires
 search-requires c = λ i r before at.
     let rs = c.args.slots.now in
     let inside : i < length rs = slice_get_within rs i r at in
-    let len = c.len.ensures in
-    not_named c.args.finder.now rs c.args.thread i r c.requires at (c.in-Some.ensures i before (omega (arith, inside, len)))
+    not_named c.args.finder.now rs c.args.thread i r c.requires at (c.in-Some.ensures i before inside)
 
 pub returns-in-None : goal.returns-in-None
 returns-in-None c = λ i r at.
     let rs = c.args.slots.now in
     let inside : i < length rs = slice_get_within rs i r at in
-    let len = c.len.ensures in
-    not_named c.args.finder.now rs c.args.thread i r c.requires at (c.in-None.ensures i (omega (arith, inside, len)))
+    not_named c.args.finder.now rs c.args.thread i r c.requires at (c.in-None.ensures i inside)
