@@ -3,14 +3,17 @@ use Rattle.std.proofs.Common.{◌≡◌, ℕ, zero, suc, ◌+◌, Bool, true, fa
 use Rattle.std.specs.Prelude.{not, ◌&&◌, ◌||◌, ◌==◌, filter, if◌then◌else◌, slice_get}
 use Rattle.std.specs.List.{flat_map}
 use Rattle.std.proofs.lemmas.List.Concat.{flat_map-cons}
+use Rattle.loft_base.specs.declared.ids.ThreadId.{ThreadId}
 use Rattle.loft_orders.specs.declared.thread.Wait.{Wait}
 use Rattle.loft_sense.specs.Instant.{closed_wait, closed as closed_runner, closed_thread, stays, has_run, leavers}
 use Rattle.loft_passes.specs.declared.runner.Runner.{Runner}
 use Rattle.loft_passes.specs.View.{runners_of, linked_of, is_held}
 use Rattle.loft_ready.specs.Entered.{wait_of}
 use Rattle.loft_waits.specs.Told.{closed}
+use Rattle.loft_finder.specs.declared.finder.Finder.{Finder}
+use Rattle.loft_finder.specs.Finder.{may_stand}
 use Rattle.loft_line.specs.declared.line.Line.{Line}
-use Rattle.loft_line.specs.Line.{with_wait, with_waits, runners_in, standing_if, standings_in, Rests, one_if, count_present, AreMarked, IsLine, stands_if, leaves_if, closing}
+use Rattle.loft_line.specs.Line.{with_wait, with_waits, runners_in, standing_if, standings_in, Rests, one_if, count_present, AreMarked, AreNamed, IsLine, stands_if, leaves_if, closing}
 use Rattle.loft_line.proofs.CloseLemmas.{with_closed, closes_if, closing_standing, closing_stands, closing_leaves, all_closed, all_stand, all_leave}
 use Rattle.loft_line.proofs.EndLemmas.{wait_rests}
 
@@ -65,13 +68,27 @@ stop_closes r = one (is_held r.stop && not r.suspended)
     one true = refl
     one false = refl
 
+there : (l : List Runner) (i : ℕ) (r : Runner) → slice_get (map closing l) i ≡ Some r → (q : Runner) × (closing q ≡ r) × (slice_get l i ≡ Some q)
+there [] i r h = absurd cc
+there (x ∷ l) zero r h = (x, cc h, refl)
+there (x ∷ l) (suc i) r h = there l i r h
+
 marked_close : (budget : ℕ) (rs : List Runner) (ran : List ℕ) → AreMarked budget rs ran → AreMarked budget (map closing rs) ran
 marked_close budget rs ran marked = λ i r h unmarked. let it = there rs i r h in subst (Rests budget) it.1 (rests_close budget it.0 (marked i it.0 it.2 unmarked))
+
+id_closes : (r : Runner) → (closing r).thread.id ≡ r.thread.id
+id_closes r = one (is_held r.stop && not r.suspended)
   where
-    there : (l : List Runner) (i : ℕ) (r : Runner) → slice_get (map closing l) i ≡ Some r → (q : Runner) × (closing q ≡ r) × (slice_get l i ≡ Some q)
-    there [] i r h = absurd cc
-    there (x ∷ l) zero r h = (x, cc h, refl)
-    there (x ∷ l) (suc i) r h = there l i r h
+    one : (c : Bool) → (if c then with_closed r else r).thread.id ≡ r.thread.id
+    one true = refl
+    one false = refl
+
+named_close : (f : Finder) (rs : List Runner) → AreNamed f rs → AreNamed f (map closing rs)
+named_close f rs named = λ i r h held.
+    let it = there rs i r h in
+    ap (λ (q : Runner). may_stand f q.thread.id i) (sym it.1)
+    ∙ ap (λ (t : ThreadId). may_stand f t i) (id_closes it.0)
+    ∙ named i it.0 it.2 (sym (stop_closes it.0) ∙ ap (λ (q : Runner). is_held q.stop) it.1 ∙ held)
 
 present_close : (rs : List Runner) (ran : List ℕ) → count_present (map closing rs) ran ≡ count_present rs ran
 present_close [] ran = refl
@@ -89,6 +106,7 @@ still_line l line = record {
   many = line.many;
   marked = subst (λ (q : List Runner). AreMarked l.budget q l.ran.items) (sym (closed_runners l line)) (marked_close l.budget (runners_in l) l.ran.items line.marked);
   held = line.held ∙ sym (present_close (runners_in l) l.ran.items) ∙ ap (λ (q : List Runner). count_present q l.ran.items) (sym (closed_runners l line));
+  named = subst (AreNamed l.finder) (sym (closed_runners l line)) (named_close l.finder (runners_in l) line.named);
 }
 
 flat_closing : {B : Type 0} (f g : Runner → List B) → ((r : Runner) → f (closing r) ≡ g r) → (rs : List Runner) → flat_map f (map closing rs) ≡ flat_map g rs

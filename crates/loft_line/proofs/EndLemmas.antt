@@ -7,6 +7,7 @@ use Rattle.std.proofs.lemmas.List.{length-set, map-set}
 use Rattle.std.proofs.lemmas.List.Concat.{flat_map-cons}
 use mathlib.Core.Logic.{dite}
 use native.Mathlib.Decide.{ℕ_discrete}
+use Rattle.loft_base.specs.declared.ids.ThreadId.{ThreadId}
 use Rattle.loft_orders.specs.declared.note.Standing.{Standing}
 use Rattle.loft_orders.specs.declared.order.End.{End}
 use Rattle.loft_orders.specs.declared.order.Order.TheVariants.{Arrive}
@@ -22,10 +23,13 @@ use Rattle.loft_passes.specs.declared.runner.Runner.{Runner}
 use Rattle.loft_passes.specs.View.{runner_to, linked_after, linked_of, standing_of, is_held}
 use Rattle.loft_ready.specs.Entered.{wait_of}
 use Rattle.loft_waits.specs.Told.{Told}
+use Rattle.loft_finder.specs.declared.finder.Finder.{Finder}
+use Rattle.loft_finder.specs.Finder.{may_stand, KeepsOthers}
 use Rattle.loft_line.specs.declared.line.Line.{Line}
-use Rattle.loft_line.specs.Line.{with_wait, with_waits, runners_in, standing_if, standings_in, Rests, is_marked, one_if, count_present, AreMarked, IsLine, stands_if, leaves_if, IsBegun, IsEmptied, HasBegunAt, HasClosedAt}
+use Rattle.loft_line.specs.Line.{with_wait, with_waits, runners_in, standing_if, standings_in, Rests, is_marked, one_if, count_present, AreMarked, AreNamed, IsLine, stands_if, leaves_if, IsBegun, IsEmptied, HasBegunAt, HasClosedAt}
 use Rattle.loft_line.proofs.ListLemmas.{length_with, with_there}
 use Rattle.loft_line.proofs.LineLemmas.{get_other, get_same}
+use Rattle.loft_line.proofs.NameLemmas.{named_now, standing_id}
 use Rattle.loft_line.proofs.BatchLemmas.{begun_held, begun_standing, hole_waits, hole_rests, hole_standing}
 use Rattle.loft_line.proofs.CloseLemmas.{takes_first, keeps_same, nothing_left}
 
@@ -205,6 +209,15 @@ closed_line p old new line marked d = record {
       let now : count_present (runners_in new) new.ran.items ≡ count_present (set (runners_in old) p d.now) (set old.ran.items p 0) =
       ap (λ (l : List Runner). count_present l new.ran.items) d.runners ∙ ap (count_present (set (runners_in old) p d.now)) d.ran in
       omega (arith, count, is, held, now);
+  named =
+      subst (AreNamed new.finder) (sym d.runners)
+      (named_now old.finder new.finder (runners_in old) p d.now d.finder
+      (λ held.
+      let was : is_held d.was.stop ≡ true = sym d.stop ∙ held in
+      ap (λ (f : Finder). may_stand f d.now.thread.id p) (d.stays was)
+      ∙ ap (λ (t : ThreadId). may_stand old.finder t p) (standing_id d.was d.now was held d.standing)
+      ∙ line.named p d.was d.there was)
+      line.named);
 }
 
 -- ---- all that are marked
@@ -294,9 +307,9 @@ with_stop (Some w) r = refl
 pub logical_stop : (rs : List Runner) (ws : List (Option Wait)) (p : ℕ) (x r : Runner) → slice_get rs p ≡ Some x → slice_get (with_waits rs ws) p ≡ Some r → r.stop ≡ x.stop
 logical_stop rs ws p x r there h = sym (ap (λ (q : Runner). q.stop) (logical_is rs ws p x r there h)) ∙ with_stop (get_or ws p None) x
 
-pub closed_held : (p : ℕ) (l mid new : Line) (x : Runner) → slice_get l.slots.items p ≡ Some x → x.stop ≡ Holds → mid.slots ≡ l.slots → mid.waits ≡ l.waits → mid.ran.items ≡ slice_set l.ran.items p 0 → mid.held ≡ l.held → mid.budget ≡ l.budget
+pub closed_held : (p : ℕ) (l mid new : Line) (x : Runner) → slice_get l.slots.items p ≡ Some x → x.stop ≡ Holds → mid.slots ≡ l.slots → mid.waits ≡ l.waits → mid.ran.items ≡ slice_set l.ran.items p 0 → mid.held ≡ l.held → mid.budget ≡ l.budget → mid.finder ≡ l.finder
     → HasBegunAt p mid new → HasClosedAt p l new
-closed_held p l mid new x there holds slots waits ran held budget b =
+closed_held p l mid new x there holds slots waits ran held budget finder b =
     let w = get_or l.waits.waits p None in
     let was = with_wait w x in
     let same : runners_in mid ≡ runners_in l = ap (λ (s : Vec Runner Global). with_waits s.items mid.waits.waits) slots ∙ ap (λ (t : Told). with_waits l.slots.items t.waits) waits in
@@ -317,6 +330,8 @@ closed_held p l mid new x there holds slots waits ran held budget b =
       told = b.told ∙ waits;
       held = ap (λ (k : ℕ). k + 1) (b.held ∙ held) ∙ sym (ap (λ (c : Bool). l.held + one_if c) is_held_was);
       budget = b.budget ∙ budget;
+      finder = subst (KeepsOthers p l.finder) (sym (b.finder ∙ finder)) (λ t i apart h. h);
+      stays = λ h. b.finder ∙ finder;
     }
 
 wait_at_map : (rs : List Runner) (p : ℕ) (r : Runner) → slice_get rs p ≡ Some r → get_or (map wait_of rs) p None ≡ wait_of r
@@ -336,9 +351,13 @@ pub gone_thread : (l : Line) (p : ℕ) (x r : Runner) → IsLine l → slice_get
 gone_thread l p x r line there gone h =
     sym (ap (λ (q : Runner). q.thread) (logical_is l.slots.items l.waits.waits p x r there h)) ∙ ap (λ (w : Option Wait). (with_wait w x).thread) (none_kept l p x line there gone)
 
+gone_held : (b : Bool) → b ≡ false → b ≡ true → ⊥
+gone_held true f t = cc
+gone_held false f t = cc
+
 pub closed_gone : (p : ℕ) (l new : Line) (x : Runner) → IsLine l → slice_get l.slots.items p ≡ Some x → is_held x.stop ≡ false → (e : IsEmptied p l.slots.items new.slots.items) → new.waits ≡ l.waits → new.ran.items ≡ slice_set l.ran.items p 0
-    → new.held + 1 ≡ l.held → new.budget ≡ l.budget → HasClosedAt p l new
-closed_gone p l new x line there gone e waits ran held budget =
+    → new.held + 1 ≡ l.held → new.budget ≡ l.budget → KeepsOthers p l.finder new.finder → HasClosedAt p l new
+closed_gone p l new x line there gone e waits ran held budget finder =
     let w = get_or l.waits.waits p None in
     let was = with_wait w x in
     let none : w ≡ None = none_kept l p x line there gone in
@@ -361,6 +380,8 @@ closed_gone p l new x line there gone e waits ran held budget =
       told = waits;
       held = let nothing : one_if (is_held was.stop) ≡ 0 = ap one_if gone_was in omega (arith, held, nothing);
       budget = budget;
+      finder = finder;
+      stays = λ h. absurd (gone_held (is_held was.stop) gone_was h);
     }
 
 pub some_marked : (rs : List Runner) (ran : List ℕ) (p : ℕ) → length ran ≡ length rs → p < length ran → is_marked ran p ≡ true → 1 ≤ count_present rs ran

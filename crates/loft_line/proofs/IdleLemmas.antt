@@ -1,6 +1,6 @@
 -- Lines in which nobody has run, after a thread was linked, stopped or suspended.
 use Rattle.std.proofs.Common.{◌≡◌, ℕ, ◌+◌, ◌<◌, Bool, true, false, List, [], ◌∷◌, ◌++◌, refl, sym, ◌∙◌, ap, subst, arith, Option, Some, None, length, get_or, set, map}
-use Rattle.std.specs.Prelude.{slice_get, slice_set}
+use Rattle.std.specs.Prelude.{if◌then◌else◌, slice_get, slice_set}
 use Rattle.std.proofs.lemmas.List.{map-set, length-set, length-append, map-append}
 use Rattle.std.proofs.lemmas.Option.{slice_get_within}
 use Rattle.loft_base.specs.declared.ids.ThreadId.{ThreadId}
@@ -13,12 +13,15 @@ use Rattle.loft_passes.specs.View.{linked_of, standing_of, is_held}
 use Rattle.loft_ready.specs.Entered.{wait_of}
 use Rattle.loft_ready.proofs.EnterLemmas.{set_last}
 use Rattle.loft_waits.specs.Told.{Told}
+use Rattle.loft_finder.specs.declared.finder.Finder.{Finder}
+use Rattle.loft_finder.specs.Finder.{may_stand, KeepsAll, KeepsOthers}
 use Rattle.loft_line.specs.declared.line.Line.{Line}
-use Rattle.loft_line.specs.Line.{with_wait, without_wait, with_waits, runners_in, standings_in, AreMarked, is_marked, count_present, IsIdle, KeepsTold, IsFirstAt, IsEmptied}
+use Rattle.loft_line.specs.Line.{with_wait, without_wait, with_waits, runners_in, standings_in, AreMarked, is_marked, count_present, AreNamed, IsIdle, KeepsTold, IsFirstAt, IsEmptied}
 use Rattle.loft_line.proofs.ListLemmas.{there_is, there_set, left_there, changed_at, length_with, length_line, linked_last}
 use Rattle.loft_line.proofs.LineLemmas.{marked_more, marked_now, present_more, unmarked_more, waits_at}
+use Rattle.loft_line.proofs.NameLemmas.{named_hole, named_same, named_more, named_runners}
 use Rattle.loft_line.proofs.FirstLemmas.{first_without, first_suspend}
-use Rattle.loft_line.proofs.BatchLemmas.{begun_held, begun_rests, one_more, emptied, hole_standing, hole_rests, hole_waits, one_fewer, with_flag, flag_rests, flag_standing, same_held, first_held}
+use Rattle.loft_line.proofs.BatchLemmas.{begun_held, begun_standing, begun_rests, one_more, emptied, hole_standing, hole_rests, hole_waits, one_fewer, with_flag, flag_rests, flag_standing, same_held, first_held}
 
 pub many_threads : (l : Line) → IsIdle l → length l.ran.items ≡ length (runners_in l)
 many_threads l idle = idle.line.many ∙ sym (length_with l.slots.items l.waits.waits)
@@ -32,6 +35,7 @@ pub record IsChanged (l new : Line) (rs : List Runner) (ran : List ℕ) : Type 0
   pub marked : AreMarked new.budget rs ran
   pub held : new.held ≡ count_present rs ran
   pub unmarked : (i : ℕ) → is_marked ran i ≡ false
+  pub named : AreNamed new.finder rs
 
 pub idle_now : (l new : Line) (rs : List Runner) (ran : List ℕ) → IsChanged l new rs ran → IsIdle new
 idle_now l new rs ran c = record {
@@ -40,16 +44,37 @@ idle_now l new rs ran c = record {
     many = c.many;
     marked = subst (λ (q : List Runner). AreMarked new.budget q new.ran.items) (sym c.runners) (subst (λ (b : List ℕ). AreMarked new.budget rs b) (sym c.ran_is) c.marked);
     held = c.held ∙ ap (count_present rs) (sym c.ran_is) ∙ ap (λ (q : List Runner). count_present q new.ran.items) (sym c.runners);
+    named = subst (AreNamed new.finder) (sym c.runners) c.named;
   };
   unmarked = λ i. ap (λ (b : List ℕ). is_marked b i) c.ran_is ∙ c.unmarked i;
 }
 
+-- the same line, after a search
+pub found_idle : (l : Line) (f : Finder) → IsIdle l → AreNamed f l.slots.items → IsIdle (record l { finder = f })
+found_idle l f idle named = record {
+  line = record {
+    waits = idle.line.waits;
+    many = idle.line.many;
+    marked = idle.line.marked;
+    held = idle.line.held;
+    named = named_runners f l.slots.items l.waits.waits named;
+  };
+  unmarked = idle.unmarked;
+}
+
 -- ---- a thread is linked
+
+begun_id : (n : Runner) (budget : ℕ) (s : Standing) → linked_of n ≡ runner_of budget s ∷ [] → n.thread.id ≡ s.thread.id
+begun_id n budget s begun =
+    let one : standing_of n ∷ [] ≡ s ∷ [] = sym (ap (λ (c : Bool). if c then standing_of n ∷ [] else []) (begun_held n budget s begun)) ∙ begun_standing n budget s begun in
+    let is : standing_of n ≡ s = cc one in
+    ap (λ (q : Standing). q.thread.id) is
 
 module _ (l new : Line) (n : Runner) (s : Standing) (pos : ℕ) (s0 : List Runner) (t0 : Told) (idle : IsIdle l) (begun : linked_of n ≡ runner_of l.budget s ∷ []) (at : pos ≡ length l.slots.items)
     (pushed : s0 ≡ l.slots.items ++ n ∷ []) (grown : t0 ≡ record l.waits { waits = l.waits.waits ++ None ∷ [] })
     (told : (r : Runner) → slice_get s0 pos ≡ Some r → new.waits ≡ record t0 { waits = slice_set t0.waits pos (wait_of r) }) (back : (r : Runner) → slice_get s0 pos ≡ Some r → new.slots.items ≡ slice_set s0 pos (without_wait r))
-    (ran : new.ran.items ≡ l.ran.items ++ 0 ∷ []) (held : new.held ≡ l.held + 1) (budget : new.budget ≡ l.budget) where
+    (ran : new.ran.items ≡ l.ran.items ++ 0 ∷ []) (held : new.held ≡ l.held + 1) (budget : new.budget ≡ l.budget)
+    (keeps : KeepsAll l.finder new.finder) (stands : may_stand new.finder s.thread.id pos ≡ true) where
   long : length l.waits.waits ≡ length l.slots.items
   long = length_line l.slots.items l.waits.waits idle.line.waits
 
@@ -88,6 +113,9 @@ module _ (l new : Line) (n : Runner) (s : Standing) (pos : ℕ) (s0 : List Runne
     marked = subst (λ (b : ℕ). AreMarked b (runners_in l ++ n ∷ []) (l.ran.items ++ 0 ∷ [])) (sym budget) (marked_more l.budget (runners_in l) l.ran.items n (many_threads l idle) (begun_rests n l.budget s begun) idle.line.marked);
     held = held ∙ ap (λ (k : ℕ). k + 1) idle.line.held ∙ sym (present_more (runners_in l) l.ran.items n (many_threads l idle) (begun_held n l.budget s begun));
     unmarked = unmarked_more l.ran.items idle.unmarked;
+    named = named_more l.finder new.finder (runners_in l) n keeps
+        (ap (may_stand new.finder n.thread.id) (length_with l.slots.items l.waits.waits ∙ sym at) ∙ ap (λ (t : ThreadId). may_stand new.finder t pos) (begun_id n l.budget s begun) ∙ stands)
+        idle.line.named;
   })
 
   pub linked_standings : standings_in (runners_in new) ≡ standings_in (runners_in l) ++ s ∷ []
@@ -103,7 +131,8 @@ module _ (l new : Line) (n : Runner) (s : Standing) (pos : ℕ) (s0 : List Runne
 
 module _ (l new : Line) (p : ℕ) (t : ThreadId) (s1 : List Runner) (idle : IsIdle l) (first : IsFirstAt p t (runners_in l))
     (left : (r : Runner) → slice_get l.slots.items p ≡ Some r → s1 ≡ slice_set l.slots.items p (with_wait (get_or l.waits.waits p None) r)) (told : new.waits ≡ record l.waits { waits = slice_set l.waits.waits p None })
-    (e : IsEmptied p s1 new.slots.items) (ran : new.ran.items ≡ l.ran.items) (held : new.held + 1 ≡ l.held) (budget : new.budget ≡ l.budget) where
+    (e : IsEmptied p s1 new.slots.items) (ran : new.ran.items ≡ l.ran.items) (held : new.held + 1 ≡ l.held) (budget : new.budget ≡ l.budget)
+    (f : Finder) (named : AreNamed f l.slots.items) (keeps : KeepsOthers p f new.finder) where
   within : p < length l.slots.items
   within = let i = slice_get_within (runners_in l) p first.runner first.there in let k = length_with l.slots.items l.waits.waits in omega (arith, i, k)
 
@@ -132,6 +161,7 @@ module _ (l new : Line) (p : ℕ) (t : ThreadId) (s1 : List Runner) (idle : IsId
     marked = subst (λ (b : ℕ). AreMarked b (set (runners_in l) p e.hole) l.ran.items) (sym budget) (marked_now l.budget (runners_in l) l.ran.items p e.hole (hole_rests l.budget e.hole e.gone e.nobody) idle.line.marked);
     held = let fewer = one_fewer (runners_in l) l.ran.items l.held p t e.hole (many_threads l idle) idle.line.held first (idle.unmarked p) e.gone in let h = held in omega (arith, fewer, h);
     unmarked = idle.unmarked;
+    named = named_hole f new.finder (runners_in l) p e.hole keeps e.gone (named_runners f l.slots.items l.waits.waits named);
   })
 
   pub stopped_standings : standings_in (runners_in new) ≡ without_first t (standings_in (runners_in l))
@@ -150,7 +180,7 @@ module _ (l new : Line) (p : ℕ) (t : ThreadId) (b : Bool) (s1 : List Runner) (
     (there : slice_get s1 p ≡ Some x)
     (told : (r : Runner) → slice_get (set s1 p (with_flag b x)) p ≡ Some r → new.waits ≡ record t1 { waits = slice_set t1.waits p (wait_of r) })
     (back : (r : Runner) → slice_get (set s1 p (with_flag b x)) p ≡ Some r → new.slots.items ≡ slice_set (set s1 p (with_flag b x)) p (without_wait r))
-    (ran : new.ran.items ≡ l.ran.items) (held : new.held ≡ l.held) (budget : new.budget ≡ l.budget) where
+    (ran : new.ran.items ≡ l.ran.items) (held : new.held ≡ l.held) (budget : new.budget ≡ l.budget) (named : AreNamed new.finder l.slots.items) where
   inside : p < length l.slots.items
   inside = let i = slice_get_within (runners_in l) p first.runner first.there in let k = length_with l.slots.items l.waits.waits in omega (arith, i, k)
 
@@ -190,6 +220,7 @@ module _ (l new : Line) (p : ℕ) (t : ThreadId) (b : Bool) (s1 : List Runner) (
     marked = subst (λ (k : ℕ). AreMarked k (set (runners_in l) p now) l.ran.items) (sym budget) (marked_now l.budget (runners_in l) l.ran.items p now (flag_rests x b l.budget (idle.line.marked p x here (idle.unmarked p))) idle.line.marked);
     held = held ∙ same_held (runners_in l) l.ran.items l.held p x b (many_threads l idle) idle.line.held here (idle.unmarked p);
     unmarked = idle.unmarked;
+    named = named_same new.finder (runners_in l) p x now here (λ h. (h, refl)) (named_runners new.finder l.slots.items l.waits.waits named);
   })
 
   pub flagged_standings : standings_in (runners_in new) ≡ suspend t b (standings_in (runners_in l))
@@ -218,6 +249,7 @@ told_idle l t idle same =
       marked = idle.line.marked;
       held = idle.line.held;
       unmarked = idle.unmarked;
+      named = idle.line.named;
     })
 
 pub told_runners : (l : Line) (t : Told) → t.waits ≡ l.waits.waits → with_waits l.slots.items t.waits ≡ runners_in l

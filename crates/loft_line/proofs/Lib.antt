@@ -1,5 +1,7 @@
 pub mod ListLemmas
 pub mod LineLemmas
+pub mod IdLemmas
+pub mod NameLemmas
 pub mod MarkLemmas
 pub mod CloseLemmas
 pub mod BatchLemmas

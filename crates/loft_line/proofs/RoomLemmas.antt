@@ -9,13 +9,16 @@ use Rattle.loft_passes.specs.declared.runner.Runner.{Runner}
 use Rattle.loft_passes.specs.View.{is_held}
 use Rattle.loft_ready.specs.Entered.{wait_of}
 use Rattle.loft_waits.specs.Told.{Told}
+use Rattle.loft_finder.specs.declared.finder.Finder.{Finder}
+use Rattle.loft_finder.specs.Finder.{may_stand, KeepsAll, KeepsOthers}
 use Rattle.loft_line.specs.declared.line.Line.{Line}
-use Rattle.loft_line.specs.Line.{with_wait, without_wait, with_waits, runners_in, standings_in, AreMarked, AreEmpty, AreFull, IsIdle, KeepsTold, HasMoved, IsPacked}
+use Rattle.loft_line.specs.Line.{with_wait, without_wait, with_waits, runners_in, standings_in, AreMarked, AreNamed, AreEmpty, AreFull, IsIdle, KeepsTold, HasMoved, IsPacked}
 use Rattle.loft_line.proofs.ListLemmas.{there_is, there_set, set_there, with_there, with_set, left_there, kept_is, length_with, length_line, length_left}
 use Rattle.loft_line.proofs.LineLemmas.{all_present, get_other, marked_now}
+use Rattle.loft_line.proofs.NameLemmas.{named_moved}
 use Rattle.loft_line.proofs.BatchLemmas.{hole_waits}
 use Rattle.loft_line.proofs.IdleLemmas.{many_threads, idle_now}
-use Rattle.loft_line.proofs.PackLemmas.{moved_standings, moved_full, moved_empty, more_empty, with_take, both_take, marked_taken, unmarked_taken, cut_standings, nobody_at, full_length}
+use Rattle.loft_line.proofs.PackLemmas.{moved_standings, moved_full, moved_empty, more_empty, with_take, both_take, marked_taken, unmarked_taken, cut_standings, nobody_at, full_length, get_taken}
 
 -- ---- a thread goes to an empty place before it
 
@@ -23,7 +26,8 @@ module _ (l new : Line) (to pos : ℕ) (h r : Runner) (s1 s2 : List Runner) (t1 
     (left : (x : Runner) → slice_get l.slots.items pos ≡ Some x → s1 ≡ slice_set l.slots.items pos (with_wait (get_or l.waits.waits pos None) x)) (told1 : t1 ≡ record l.waits { waits = slice_set l.waits.waits pos None })
     (exchanged : (a b : Runner) → slice_get s1 to ≡ Some a → slice_get s1 pos ≡ Some b → s2 ≡ slice_set (slice_set s1 pos a) to b)
     (told : (x : Runner) → slice_get s2 to ≡ Some x → new.waits ≡ record t1 { waits = slice_set t1.waits to (wait_of x) }) (back : (x : Runner) → slice_get s2 to ≡ Some x → new.slots.items ≡ slice_set s2 to (without_wait x))
-    (ran : new.ran.items ≡ l.ran.items) (held : new.held ≡ l.held) (budget : new.budget ≡ l.budget) where
+    (ran : new.ran.items ≡ l.ran.items) (held : new.held ≡ l.held) (budget : new.budget ≡ l.budget)
+    (mid : Finder) (adds : KeepsAll l.finder mid) (stands : may_stand mid r.thread.id to ≡ true) (keeps : KeepsOthers pos mid new.finder) where
   abbrev s0 : List Runner
   s0 = l.slots.items
 
@@ -113,6 +117,7 @@ module _ (l new : Line) (to pos : ℕ) (h r : Runner) (s1 s2 : List Runner) (t1 
         ∙ ap (λ (s : List Standing). length s) (sym lined)
         ∙ sym (all_present (set (set (runners_in l) pos h) to r) l.ran.items many_moved idle.unmarked);
     unmarked = idle.unmarked;
+    named = named_moved l.finder mid new.finder (runners_in l) to pos h r apart gone adds stands keeps idle.line.named;
   })
 
   moved_told : KeepsTold l new
@@ -217,7 +222,7 @@ packed_skip old l next pos r p at gone =
 -- ---- the first places are left
 
 module _ (l new : Line) (n : ℕ) (idle : IsIdle l) (empty : AreEmpty n (length l.slots.items) (runners_in l)) (slots : new.slots.items ≡ take n l.slots.items) (told : new.waits ≡ record l.waits { waits = take n l.waits.waits })
-    (ran : new.ran.items ≡ take n l.ran.items) (held : new.held ≡ l.held) (budget : new.budget ≡ l.budget) where
+    (ran : new.ran.items ≡ take n l.ran.items) (held : new.held ≡ l.held) (budget : new.budget ≡ l.budget) (finder : new.finder ≡ l.finder) where
   all_empty : AreEmpty n (length (runners_in l)) (runners_in l)
   all_empty = let k = length_with l.slots.items l.waits.waits in λ i q from below at. empty i q from (omega (arith, below, k)) at
 
@@ -241,6 +246,7 @@ module _ (l new : Line) (n : ℕ) (idle : IsIdle l) (empty : AreEmpty n (length 
         ∙ ap (λ (s : List Standing). length s) (sym (cut_standings n (runners_in l) all_empty))
         ∙ sym (all_present (take n (runners_in l)) (take n l.ran.items) (both_take n l.ran.items (runners_in l) (many_threads l idle)) (unmarked_taken n l.ran.items idle.unmarked));
     unmarked = unmarked_taken n l.ran.items idle.unmarked;
+    named = subst (λ (f : Finder). AreNamed f (take n (runners_in l))) (sym finder) (λ i r at h. idle.line.named i r (get_taken n (runners_in l) i r at) h);
   })
 
   pub cut_told : KeepsTold l new

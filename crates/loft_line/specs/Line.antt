@@ -2,6 +2,8 @@
 use Rattle.std.specs.Prelude.{◌≡◌, ℕ, ◌+◌, ◌<◌, ◌≤◌, ◌==◌, not, ◌&&◌, ◌||◌, Bool, true, false, List, [], ◌∷◌, map, filter, length, Option, Some, None, slice_get, slice_set, slice_index_or, if◌then◌else◌}
 use Rattle.std.specs.List.{flat_map}
 use Rattle.loft_base.specs.declared.ids.ThreadId.{ThreadId}
+use Rattle.loft_finder.specs.declared.finder.Finder.{Finder}
+use Rattle.loft_finder.specs.Finder.{may_stand, KeepsOthers}
 use Rattle.loft_orders.specs.declared.note.Standing.{Standing}
 use Rattle.loft_orders.specs.declared.order.Sent.{Sent}
 use Rattle.loft_orders.specs.declared.thread.Thread.{Thread}
@@ -69,12 +71,17 @@ count_present (r ∷ rs) (b ∷ bs) = one_if (is_held r.stop || b == 1) + count_
 abbrev pub AreMarked : ℕ → List Runner → List ℕ → Type 0
 AreMarked budget rs ran = (i : ℕ) (r : Runner) → slice_get rs i ≡ Some r → is_marked ran i ≡ false → Rests budget r
 
--- the waits are those of the threads, and whoever has run is marked
+-- held threads may stand, by their ids, where they do
+abbrev pub AreNamed : Finder → List Runner → Type 0
+AreNamed finder rs = (i : ℕ) (r : Runner) → slice_get rs i ≡ Some r → is_held r.stop ≡ true → may_stand finder r.thread.id i ≡ true
+
+-- the waits are those of the threads, whoever has run is marked, and whoever is held can be found by his id
 pub record IsLine (l : Line) : Type 0 where
   pub waits : l.waits.waits ≡ map wait_of (runners_in l)
   pub many : length l.ran.items ≡ length l.slots.items
   pub marked : AreMarked l.budget (runners_in l) l.ran.items
   pub held : l.held ≡ count_present (runners_in l) l.ran.items
+  pub named : AreNamed l.finder (runners_in l)
 
 -- nobody has run in this instant
 pub record IsIdle (l : Line) : Type 0 where
@@ -150,6 +157,7 @@ pub record HasBegunAt (p : ℕ) (old new : Line) : Type 0 where
   pub told : new.waits ≡ old.waits
   pub held : new.held ≡ old.held
   pub budget : new.budget ≡ old.budget
+  pub finder : new.finder ≡ old.finder
 
 -- the thread at a position has closed, and nothing else has changed
 pub record HasClosedAt (p : ℕ) (old new : Line) : Type 0 where
@@ -166,6 +174,8 @@ pub record HasClosedAt (p : ℕ) (old new : Line) : Type 0 where
   pub told : new.waits ≡ old.waits
   pub held : new.held + 1 ≡ old.held + one_if (is_held was.stop)
   pub budget : new.budget ≡ old.budget
+  pub finder : KeepsOthers p old.finder new.finder
+  pub stays : is_held was.stop ≡ true → new.finder ≡ old.finder
 
 -- what closes leave as it was
 pub record HasClosed (old new : Line) : Type 0 where

@@ -115,13 +115,13 @@ impl Line {
             }
             Stop::Leaves(to) => {
                 self.held -= 1;
-                let thread = empty(alloc, &mut self.slots, pos);
+                let thread = empty(alloc, &mut self.slots, &mut self.finder, pos);
                 send(alloc, thread, to, sent)?;
                 Ok(())
             }
             Stop::Ends(_) => {
                 self.held -= 1;
-                empty(alloc, &mut self.slots, pos);
+                empty(alloc, &mut self.slots, &mut self.finder, pos);
                 Ok(())
             }
         }

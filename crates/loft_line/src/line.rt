@@ -4,8 +4,9 @@ ghost use Rattle.std.specs.Prelude.{◌≡◌, ◌+◌, ◌*◌, ◌<◌, ◌≤
 ghost use Rattle.loft_sense.specs.Apply.{is_linked, without_first, with_last, suspend as suspend_in};
 ghost use Rattle.loft_waits.specs.Told.{no_counts};
 
-use crate::slots::{empty, enter, leave, position, set_suspended};
+use crate::slots::{empty, enter, find, leave, set_suspended};
 use loft_base::{EventId, NoMemory, ThreadId};
+use loft_finder::Finder;
 use loft_orders::Thread;
 use loft_passes::Runner;
 use loft_waits::Waits;
@@ -17,6 +18,8 @@ use std::alloc::Global;
 #[derive(Drop)]
 pub struct Line {
     pub slots: Vec<Runner>,
+    /// At which positions those that are held may stand, by their ids.
+    pub finder: Finder,
     /// The waits of those that are held and aren't suspended.
     pub waits: Waits,
     /// For each position 1 where its thread has run in this instant.
@@ -40,6 +43,7 @@ impl Line {
     {
         Ok(Line {
             slots: Vec::new(alloc),
+            finder: Finder::new(alloc),
             waits: Waits::new(alloc, events)?,
             ran: Vec::new(alloc),
             held: 0,
@@ -65,6 +69,7 @@ impl Line {
         ensures places { OnOk result (length self.new.slots.items ≡ length self.old.slots.items + 1) }
     {
         let pos = self.slots.len();
+        let id = thread.id;
         let mut runner = Runner::new(thread);
         runner.begin(self.budget);
         self.ran.push(0)?;
@@ -72,6 +77,7 @@ impl Line {
         self.waits.grow()?;
         self.held += 1;
         enter(&mut self.slots, &mut self.waits, pos)?;
+        self.finder.add(id, pos);
         Ok(())
     }
 
@@ -99,11 +105,11 @@ impl Line {
             ≡ without_first thread (standings_in (runners_in self.old)) }
         ensures told { KeepsTold self.old self.new }
     {
-        match position(self.slots.as_slice(), thread) {
+        match find(&mut self.finder, self.slots.as_slice(), thread) {
             Some(pos) => {
                 leave(&mut self.slots, &mut self.waits, pos);
                 self.held -= 1;
-                empty(alloc, &mut self.slots, pos);
+                empty(alloc, &mut self.slots, &mut self.finder, pos);
                 true
             }
             None => false,
@@ -119,7 +125,7 @@ impl Line {
             ≡ suspend_in thread suspended (standings_in (runners_in self.old))) }
         ensures told { OnOk result (KeepsTold self.old self.new) }
     {
-        match position(self.slots.as_slice(), thread) {
+        match find(&mut self.finder, self.slots.as_slice(), thread) {
             Some(pos) => {
                 leave(&mut self.slots, &mut self.waits, pos);
                 set_suspended(&mut self.slots[pos], suspended);

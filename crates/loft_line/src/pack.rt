@@ -20,9 +20,12 @@ impl Line {
         requires empty { AreEmpty to pos (runners_in self.old) }
         ensures { OnOk result (HasMoved to pos self.old self.new) }
     {
+        let thread = self.slots[pos].thread.id;
         leave(&mut self.slots, &mut self.waits, pos);
         exchange(&mut self.slots, pos, to);
         enter(&mut self.slots, &mut self.waits, to)?;
+        self.finder.add(thread, to);
+        self.finder.remove(thread, pos);
         Ok(())
     }
 

@@ -1,15 +1,17 @@
 //! Threads by position, beside their waits.
 
-ghost use Rattle.std.specs.Prelude.{◌≡◌, ◌<◌, Some, None, length, not, ◌&&◌, slice_get, slice_set, OnOk};
+ghost use Rattle.std.specs.Prelude.{◌≡◌, ◌<◌, ℕ, Some, None, true, false, length, not, ◌&&◌, slice_get, slice_set, OnOk};
 ghost use Rattle.loft_orders.specs.declared.thread.Wait.TheVariants.{Halt as Halts};
 ghost use Rattle.loft_passes.specs.declared.runner.Runner.{Runner as ARunner};
 ghost use Rattle.loft_passes.specs.View.{is_held as is_held_by};
 ghost use Rattle.loft_waits.specs.Told.{wait_at};
 ghost use Rattle.loft_ready.specs.Entered.{wait_of};
-ghost use Rattle.loft_line.specs.Line.{with_wait, without_wait, is_named as is_named_by, IsFirst, IsEmptied};
+ghost use Rattle.loft_finder.specs.Finder.{may_stand, KeepsAll, KeepsOthers};
+ghost use Rattle.loft_line.specs.Line.{with_wait, without_wait, is_named as is_named_by, IsFirst, IsEmptied, AreNamed};
 
 use loft_base::{NoMemory, ThreadId};
 use loft_effect::{same_thread, take_thread};
+use loft_finder::Finder;
 use loft_orders::{End, Stop, Thread, Wait};
 use loft_passes::Runner;
 use loft_waits::Waits;
@@ -95,25 +97,82 @@ pub(crate) fn exchange(slots: &mut Vec<Runner>, pos: usize, to: usize)
     slots.swap(pos, to);
 }
 
-/// The place at a position is empty from now on. The answer is the thread that stood there.
-pub(crate) fn empty(alloc: Global, slots: &mut Vec<Runner>, pos: usize) -> Thread
+/// The place at a position is empty from now on, and its thread isn't listed any more. The answer is
+/// the thread that stood there.
+pub(crate) fn empty(
+    alloc: Global,
+    slots: &mut Vec<Runner>,
+    finder: &mut Finder,
+    pos: usize,
+) -> Thread
     requires within { pos < length slots.old.items }
     ensures thread { (r : ARunner) → slice_get slots.old.items pos ≡ Some r → result ≡ r.thread }
     ensures slots { IsEmptied pos slots.old.items slots.new.items }
+    ensures finder { KeepsOthers pos finder.old finder.new }
 {
     let runner = &mut slots[pos];
+    finder.remove(runner.thread.id, pos);
     runner.stop = Stop::Ends(End::Stopped);
     take_thread(alloc, &mut runner.thread)
 }
 
-/// The position of the first held thread with this id.
-pub(crate) fn position(slots: &[Runner], thread: ThreadId) -> Option<usize>
+/// The position of the first held thread with this id, where none stands before the first one that is
+/// looked at.
+fn search(slots: &[Runner], from: usize, thread: ThreadId) -> Option<usize>
+    requires { (i : ℕ) (r : ARunner) → i < from → slice_get slots.now i ≡ Some r
+        → is_named_by thread r ≡ false }
     ensures { IsFirst result thread slots.now }
 {
-    for (pos, runner) in slots.iter().enumerate() {
-        if is_named(runner, thread) {
+    for pos in from..slots.len() {
+        if is_named(&slots[pos], thread) {
             return Some(pos);
         }
     }
     None
+}
+
+/// The position of the first held thread with this id.
+fn position(finder: &Finder, slots: &[Runner], thread: ThreadId) -> Option<usize>
+    requires { AreNamed finder.now slots.now }
+    ensures { IsFirst result thread slots.now }
+{
+    match finder.first(thread, slots.len()) {
+        Some(from) => search(slots, from, thread),
+        None => None,
+    }
+}
+
+/// A thread is listed at its position, where it is held.
+fn list(finder: &mut Finder, runner: &Runner, pos: usize)
+    ensures keeps { KeepsAll finder.old finder.new }
+    ensures stands { is_held_by runner.now.stop ≡ true
+        → may_stand finder.new runner.now.thread.id pos ≡ true }
+{
+    if runner.is_held() {
+        finder.add(runner.thread.id, pos);
+    }
+}
+
+/// Each held thread is listed at its position.
+fn list_all(finder: &mut Finder, slots: &[Runner])
+    ensures { AreNamed finder.new slots.now }
+{
+    finder.begin();
+    for (pos, runner) in slots.iter().enumerate() {
+        list(finder, runner, pos);
+    }
+}
+
+/// The same as `position`. After many long searches the threads are listed before.
+pub(crate) fn find(finder: &mut Finder, slots: &[Runner], thread: ThreadId) -> Option<usize>
+    requires { AreNamed finder.old slots.now }
+    ensures first { IsFirst result thread slots.now }
+    ensures named { AreNamed finder.new slots.now }
+{
+    if finder.is_due() {
+        list_all(finder, slots);
+    }
+    let found = position(finder, slots, thread);
+    finder.count(found.unwrap_or(slots.len()));
+    found
 }

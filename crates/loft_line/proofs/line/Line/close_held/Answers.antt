@@ -19,4 +19,5 @@ returns-clause-begun c =
       told = refl;
       held = refl;
       budget = refl;
+      finder = refl;
     }

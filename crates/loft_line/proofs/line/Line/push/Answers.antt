@@ -42,36 +42,36 @@ returns-clause-idle c =
     let l = c.args.self.now in
     let n = c.begin.new.self in
     let s : Standing = record { thread = c.args.thread; suspended = false } in
-    let new : Line = record { slots = c.enter.new.slots; waits = c.enter.new.waits; ran = c.push.new.self; held = l.held + 1; budget = l.budget } in
+    let new : Line = record { slots = c.enter.new.slots; waits = c.enter.new.waits; ran = c.push.new.self; held = l.held + 1; budget = l.budget; finder = c.add.new.self } in
     let begun : linked_of n ≡ runner_of l.budget s ∷ [] = c.begin.ensures ∙ ap (λ (q : Standing). runner_of l.budget q ∷ []) c.new-runner.ensures in
     let pushed : c.push-2.new.self.items ≡ l.slots.items ++ n ∷ [] = search rules in
     let here = c.len-pos.ensures in
     let at : c.len-pos.result ≡ length l.slots.items = omega (arith, here) in
     let ran : c.push.new.self.items ≡ l.ran.items ++ 0 ∷ [] = search rules in
-    linked_idle l new n s c.len-pos.result c.push-2.new.self.items c.grow.new.self c.requires.idle begun at pushed c.in_ok-grow.ensures.ok c.in_ok-enter.ensures.told c.in_ok-enter.ensures.slots ran refl refl
+    linked_idle l new n s c.len-pos.result c.push-2.new.self.items c.grow.new.self c.requires.idle begun at pushed c.in_ok-grow.ensures.ok c.in_ok-enter.ensures.told c.in_ok-enter.ensures.slots ran refl refl c.add.ensures.keeps c.add.ensures.stands
 
 pub returns-clause-linked : goal.returns-clause-linked
 returns-clause-linked c =
     let l = c.args.self.now in
     let n = c.begin.new.self in
     let s : Standing = record { thread = c.args.thread; suspended = false } in
-    let new : Line = record { slots = c.enter.new.slots; waits = c.enter.new.waits; ran = c.push.new.self; held = l.held + 1; budget = l.budget } in
+    let new : Line = record { slots = c.enter.new.slots; waits = c.enter.new.waits; ran = c.push.new.self; held = l.held + 1; budget = l.budget; finder = c.add.new.self } in
     let begun : linked_of n ≡ runner_of l.budget s ∷ [] = c.begin.ensures ∙ ap (λ (q : Standing). runner_of l.budget q ∷ []) c.new-runner.ensures in
     let pushed : c.push-2.new.self.items ≡ l.slots.items ++ n ∷ [] = search rules in
     let here = c.len-pos.ensures in
     let at : c.len-pos.result ≡ length l.slots.items = omega (arith, here) in
     let ran : c.push.new.self.items ≡ l.ran.items ++ 0 ∷ [] = search rules in
-    linked_standings l new n s c.len-pos.result c.push-2.new.self.items c.grow.new.self c.requires.idle begun at pushed c.in_ok-grow.ensures.ok c.in_ok-enter.ensures.told c.in_ok-enter.ensures.slots ran refl refl
+    linked_standings l new n s c.len-pos.result c.push-2.new.self.items c.grow.new.self c.requires.idle begun at pushed c.in_ok-grow.ensures.ok c.in_ok-enter.ensures.told c.in_ok-enter.ensures.slots ran refl refl c.add.ensures.keeps c.add.ensures.stands
 
 pub returns-clause-told : goal.returns-clause-told
 returns-clause-told c =
     let l = c.args.self.now in
     let n = c.begin.new.self in
     let s : Standing = record { thread = c.args.thread; suspended = false } in
-    let new : Line = record { slots = c.enter.new.slots; waits = c.enter.new.waits; ran = c.push.new.self; held = l.held + 1; budget = l.budget } in
+    let new : Line = record { slots = c.enter.new.slots; waits = c.enter.new.waits; ran = c.push.new.self; held = l.held + 1; budget = l.budget; finder = c.add.new.self } in
     let begun : linked_of n ≡ runner_of l.budget s ∷ [] = c.begin.ensures ∙ ap (λ (q : Standing). runner_of l.budget q ∷ []) c.new-runner.ensures in
     let pushed : c.push-2.new.self.items ≡ l.slots.items ++ n ∷ [] = search rules in
     let here = c.len-pos.ensures in
     let at : c.len-pos.result ≡ length l.slots.items = omega (arith, here) in
     let ran : c.push.new.self.items ≡ l.ran.items ++ 0 ∷ [] = search rules in
-    linked_told l new n s c.len-pos.result c.push-2.new.self.items c.grow.new.self c.requires.idle begun at pushed c.in_ok-grow.ensures.ok c.in_ok-enter.ensures.told c.in_ok-enter.ensures.slots ran refl refl
+    linked_told l new n s c.len-pos.result c.push-2.new.self.items c.grow.new.self c.requires.idle begun at pushed c.in_ok-grow.ensures.ok c.in_ok-enter.ensures.told c.in_ok-enter.ensures.slots ran refl refl c.add.ensures.keeps c.add.ensures.stands

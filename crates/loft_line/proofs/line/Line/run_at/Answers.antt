@@ -7,9 +7,10 @@ use Rattle.loft_passes.specs.declared.runner.Runner.{Runner}
 use Rattle.loft_passes.specs.View.{runners_of}
 use Rattle.loft_ready.proofs.PositionLemmas.{ready_runs}
 use Rattle.loft_ready.proofs.RunLemmas.{told_run, since, fewer_steps}
-use Rattle.loft_line.specs.Line.{runners_in, with_waits, AreMarked, count_present}
+use Rattle.loft_line.specs.Line.{runners_in, with_waits, AreMarked, AreNamed, count_present}
 use Rattle.loft_line.proofs.ListLemmas.{length_with, length_left}
 use Rattle.loft_line.proofs.LineLemmas.{marked_run, present_run}
+use Rattle.loft_line.proofs.NameLemmas.{named_run}
 use Rattle.loft_line.proofs.RunLemmas.{HasRunSo, later_is, taken_there, entered_now, has_run, closes_same, long3, ready_held}
 use Rattle.loft_line.proofs.CountLemmas.{counted_most, counted_least, counted_within}
 use Rattle.loft_line.proofs.line.Line.run_at.Given as given
@@ -88,6 +89,7 @@ returns-clause-line g c =
     let rs = runners_in l in
     let p = c.args.pos in
     let d = did g c in
+    let a = around_of c.args.around.now in
     let same = c.requires.line.many ∙ sym (length_with l.slots.items l.waits.waits) in
     let within : p < length l.ran.items = let has = c.requires.within in omega (arith, same, has) in
     record {
@@ -95,6 +97,9 @@ returns-clause-line g c =
       many = length-set l.ran.items p 1 ∙ c.requires.line.many ∙ sym d.long;
       marked = subst (λ (q : List Runner). AreMarked l.budget q (set l.ran.items p 1)) (sym d.run.later_is) (marked_run l.budget rs l.ran.items p d.run.now within c.requires.line.marked);
       held = c.requires.line.held ∙ sym (ap (λ (q : List Runner). count_present q (set l.ran.items p 1)) d.run.later_is ∙ present_run rs l.ran.items p d.before d.run.now same d.there d.held);
+      named = subst (AreNamed l.finder) (sym d.run.later_is)
+          (named_run (g.I.Interpreter.program c.args.interpreter.now) l.finder rs p d.run.before d.run.now a (d.run.before.bound - d.run.before.steps) d.run.there
+          (ready_held rs a l.waits p d.run.before c.requires.entered d.run.there c.requires.ready) d.run.linked c.requires.line.named);
     }
 
 pub returns-clause-keeps : goal.returns-clause-keeps
