@@ -10,8 +10,8 @@ In each table of contracts of PROVED.md:
   `one each` or `law` alone each function of the row has a clause without a name. After "those of"
   stands a trait that each type of the row implements, after ", of" a command.
 
-In ARCHITECTURE.md the crates stand after those that they stand on, with the last column as
-crates.txt has it; "Nothing stands on it" and "Only X stands on it" stand exactly where that is so; and
+In ARCHITECTURE.md each crate is in one box, and stands on no crate of a box after it. The crates
+stand after those that they stand on, with the last column as crates.txt has it; "Nothing stands on it" and "Only X stands on it" stand exactly where that is so; and
 what a crate can reach in the graph is what it can reach in crates.txt. The table of modules has exactly
 the files of each crate that it names, but for lib.rt."""
 
@@ -182,6 +182,22 @@ def wrong_crates(crates):
     yield from (f"docs/ARCHITECTURE.md: the table has no row for {it}" for it in crates if it not in before)
 
 
+def wrong_boxes(crates):
+    """What is wrong in the table of boxes."""
+    box = {}
+    for place, (number, cells, _) in enumerate(rows(ARCHITECTURE, "## Six boxes")):
+        for name in CODE.findall(cells[-1]):
+            if name in box:
+                yield f"docs/ARCHITECTURE.md:{number}: {name} is in two boxes"
+            box[name] = place
+    yield from (f"docs/ARCHITECTURE.md: {name} is in no box" for name in crates if name not in box)
+    yield from (f"docs/ARCHITECTURE.md: crates.txt has no {name}, which is in a box" for name in box if name not in crates)
+    for name, on in crates.items():
+        for it in on:
+            if box.get(it, 0) > box.get(name, len(box)):
+                yield f"docs/ARCHITECTURE.md: {name} stands on {it}, whose box comes later"
+
+
 def wrong_graph(crates):
     """What is wrong in the graph of crates."""
     text = ARCHITECTURE.read_text(encoding="utf-8")
@@ -207,7 +223,7 @@ def wrong_modules():
 
 def main():
     crates = stands_on()
-    found = [*wrong_contracts(), *wrong_crates(crates), *wrong_graph(crates), *wrong_modules()]
+    found = [*wrong_contracts(), *wrong_boxes(crates), *wrong_crates(crates), *wrong_graph(crates), *wrong_modules()]
     print(*found, f"rows of contracts and crates that differ: {len(found)}", sep="\n")
     return 1 if found else 0
 
