@@ -1,18 +1,16 @@
 -- The order of keys, and of places.
-use Rattle.std.proofs.Common.{◌≡◌, ℕ, ◌<◌, ◌≤◌, Bool, true, false, refl, sym, ◌∙◌, ap, arith, ne_eqb, eq-eqb}
-use Rattle.std.specs.Prelude.{◌≢◌, ◌&&◌, ◌==◌, nat_lt}
+use Rattle.std.proofs.Common.{◌≡◌, ℕ, ◌<◌, ◌≤◌, Bool, true, false, refl, sym, ◌∙◌, ap, arith, ne_eqb}
+use Rattle.std.specs.Prelude.{◌≢◌, ◌&&◌, nat_lt}
 use Rattle.std.specs.declared.cmp.Ordering.{Ordering}
 use Rattle.std.specs.declared.cmp.Ordering.TheVariants.{Less, Equal, Greater}
 use Rattle.std.specs.Ordering.{is_eq, is_gt, ordering_then, nat_cmp}
 use Rattle.std.specs.Cmp.{nat_cmp_total, nat_cmp_is, tied_itself, unsigned_ties}
 use Rattle.std.proofs.lemmas.Bool.{ltb-true, ltb-false}
-use mathlib.Core.Logic.{dite}
-use native.Mathlib.Decide.{ℕ_discrete}
 use Rattle.loft_finder.specs.declared.key.IdKey.{IdKey}
 use Rattle.loft_finder.specs.declared.key.MakerKey.{MakerKey}
 use Rattle.loft_finder.specs.declared.key.MakerKey.TheVariants.{Source, Sched, Client}
 use Rattle.loft_finder.specs.contracts.key.MakerKeyOrd.TheImpl as maker_ord
-use Rattle.loft_finder.specs.Finder.{Place, key_cmp, place_cmp}
+use Rattle.loft_finder.specs.Finder.{key_cmp, place_cmp}
 
 abbrev maker_cmp : MakerKey → MakerKey → Ordering
 maker_cmp = (maker_ord.ghosts).cmp

@@ -1,4 +1,4 @@
-use Rattle.std.proofs.Common.{◌<◌, arith, length}
+use Rattle.std.proofs.Common.{◌<◌, length}
 use Rattle.std.proofs.lemmas.Option.{slice_get_within}
 use Rattle.loft_line.proofs.NameLemmas.{not_named}
 use Rattle.loft_line.proofs.slots.position.Goals as goal
