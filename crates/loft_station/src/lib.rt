@@ -2,6 +2,7 @@
 #![tactic(auto)]
 
 mod outsider;
+mod room;
 mod station;
 mod worker;
 

@@ -7,6 +7,7 @@ ghost use Rattle.loft_history.specs.History.{is_create};
 ghost use Rattle.loft_seat.specs.Seats.{entries_of, IsNewPass};
 ghost use Rattle.loft_station.specs.Outsiders.{IsReady, IsSame, IsNext, Gave, GaveOrder, HasGiven, WentOn};
 
+use crate::room::make_room;
 use loft_base::NoMemory;
 use loft_baton::{Baton, Pass};
 use loft_code::Code;
@@ -132,6 +133,7 @@ impl Outsider {
         requires ready { IsReady b.now c.now self.old }
         ensures { WentOn b.now c.now self.old self.new }
     {
+        make_room(alloc);
         let done = self.turns(rt, alloc, b, c);
         self.refused = done.is_err();
     }

@@ -13,6 +13,7 @@ ghost use Rattle.loft_station.specs.Stations.{IsKept, IsReady, HasTaken, IsSame,
 ghost use Rattle.loft_station.specs.Stations.{AddedTakeAtMost, HasMade, WentOn};
 ghost use Rattle.loft_tree.specs.NamedFits.{IsScheduler};
 
+use crate::room::make_room;
 use loft_base::{Gate, NoMemory, SchedId, Sequence, Turn};
 use loft_baton::{Baton, Pass};
 use loft_code::Code;
@@ -213,6 +214,7 @@ impl<E: Engine> Station<E> {
         requires ready { IsReady b.now c.now self.old }
         ensures { WentOn b.now c.now self.old self.new }
     {
+        make_room(alloc);
         let done = self.turns(rt, alloc, b, c, g);
         self.refused = done.is_err();
     }

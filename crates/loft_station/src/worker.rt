@@ -10,6 +10,7 @@ ghost use Rattle.loft_seat.specs.Seats.{entries_of, IsNewPass};
 ghost use Rattle.loft_station.specs.Workers.{IsKept, IsReady, IsSame, HasToPost, Worked};
 ghost use Rattle.loft_station.specs.Workers.{AddedJobAtMost, PostedBut, PostedNext, HasWorked, WentOn};
 
+use crate::room::make_room;
 use loft_base::{Gate, NoMemory, Turn};
 use loft_baton::{Baton, Pass};
 use loft_code::Code;
@@ -174,6 +175,7 @@ impl Worker {
         requires ready { IsReady b.now c.now self.old }
         ensures { WentOn b.now c.now self.old self.new }
     {
+        make_room(alloc);
         let done = self.turns(rt, alloc, b, c, g);
         self.refused = done.is_err();
     }
