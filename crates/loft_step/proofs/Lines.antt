@@ -1,5 +1,5 @@
 -- The operations of a module, and where they lead.
-use Rattle.std.proofs.Common.{◌≡◌, ◌≢◌, ℕ, zero, suc, ◌+◌, ◌-◌, ◌<◌, List, refl, sym, ap, ◌∙◌, length, Option, Some, None, arith}
+use Rattle.std.proofs.Common.{◌≡◌, ◌≢◌, ℕ, zero, suc, ◌+◌, ◌-◌, ◌<◌, List, refl, sym, ap, ◌∙◌, length, get_or, Option, Some, None, arith}
 use Rattle.std.proofs.lemmas.Option.{slice_get-map, slice_get_past, slice_get_read}
 use Rattle.std.specs.Prelude.{map, slice_get}
 use Rattle.std.specs.Option.{option_map, option_and_then}
@@ -15,6 +15,10 @@ use Rattle.loft_step.specs.Lines.{line_in}
 pub got : (lines : List CodeLine) (q : ℕ) (r : Option (Bor CodeLine)) → IsItemAt lines q r → line_in r ≡ slice_get (map line_of lines) q
 got lines q None is = sym (slice_get-map line_of lines q ∙ ap (option_map line_of) (slice_get_past lines q is.3))
 got lines q (Some l) is = sym (slice_get-map line_of lines q ∙ ap (option_map line_of) (slice_get_read lines (length lines) q l.now refl is.3.0 is.1))
+
+-- the operation with a number that is there
+pub item_at : (lines : List CodeLine) (q : ℕ) (l : CodeLine) → q < length lines → l ≡ get_or lines q l → slice_get (map line_of lines) q ≡ Some (line_of l)
+item_at lines q l lt is = slice_get-map line_of lines q ∙ ap (option_map line_of) (slice_get_read lines (length lines) q l refl lt is)
 
 -- ---- jumps
 

@@ -1,40 +1,23 @@
 -- The stops of a module, by their numbers.
-use Rattle.std.proofs.Common.{◌≡◌, ℕ, zero, suc, ◌+◌, ◌<◌, ◌⊎◌, inl, inr, Bool, true, false, List, [], ◌∷◌, refl, sym, ap, subst, ◌∙◌, length, drop, get_or, add-one, eq-eqb, Option, Some, None, arith}
-use Rattle.std.proofs.Math.Seq.{drop-cons}
-use Rattle.std.proofs.lemmas.Bool.{eqb-true}
+use Rattle.std.proofs.Common.{◌≡◌, ℕ, zero, suc, ◌+◌, ◌<◌, ◌≤◌, ◌⊎◌, inl, inr, Bool, true, false, List, [], ◌∷◌, refl, sym, ap, subst, ◌∙◌, length, take, cond, count_by, is_some, eq-eqb, Option, Some, None, arith}
+use Rattle.std.proofs.lemmas.Bool.{eqb-true, cases_lt}
 use Rattle.std.proofs.lemmas.Option.{slice_get_within, slice_get_cases}
-use Rattle.std.specs.Prelude.{map, slice_get, unwrap_or, if◌then◌else◌}
+use Rattle.std.proofs.lemmas.List.{take-take}
+use Rattle.std.proofs.lemmas.List.Sums.{sum_by-take-le}
+use Rattle.std.specs.Prelude.{slice_get, unwrap_or, if◌then◌else◌}
+use Rattle.std.specs.Option.{option_and_then}
 use Rattle.loft_base.specs.declared.ids.ModuleId.{ModuleId}
 use Rattle.loft_tree.specs.declared.heads.Signature.{Signature}
-use Rattle.loft_code.specs.declared.raw.CodeLine.{CodeLine}
 use Rattle.loft_code.specs.Operations.{Line, Automata, stop_of}
-use Rattle.loft_code.specs.View.{line_of}
 use Rattle.loft_code.specs.Fits.{LinesFit, RawFits}
-use Rattle.loft_code.specs.Valid.{Valid}
+use Rattle.loft_code.specs.Valid.{is_stop, stops_before, Valid}
 use Rattle.loft_code.specs.Leads.{IsModule}
-use Rattle.loft_code.proofs.Checked.{each_at}
-use Rattle.loft_code.proofs.Leading.{valid_passes, small_stop, one_stop}
+use Rattle.loft_code.proofs.Checked.{each_at, stops_next}
+use Rattle.loft_code.proofs.Leading.{valid_passes, stop_number, small_stop, one_stop}
 use Rattle.loft_sense.specs.Code.{lines_at, is_number, stop_from}
-use Rattle.loft_step.specs.Lines.{StopsAreNumbered}
+use Rattle.loft_step.specs.Lines.{HasNoStop, IsLastStop, LiesIn, StopsAreNumbered}
 
--- ---- the search
-
-module _ (lines : List CodeLine) (i : ℕ) (l : CodeLine) (within : i < length lines) (is : l ≡ get_or lines i l) (k : ℕ) where
-  cut : map line_of (drop i lines) ≡ line_of l ∷ map line_of (drop (i + 1) lines)
-  cut = ap (map line_of) (drop-cons lines i l within ∙ (ap (λ (x : CodeLine). x ∷ drop (suc i) lines) (sym is) ∙ ap (λ (n : ℕ). l ∷ drop n lines) (sym (add-one i))))
-
-  stop_at : stop_from i (map line_of (drop i lines)) k ≡ (if is_number (stop_of (line_of l).operation) k then Some i else stop_from (i + 1) (map line_of (drop (i + 1) lines)) k)
-  stop_at = ap (λ (ls : List Line). stop_from i ls k) cut
-
-  -- the operation is the stop
-  pub stop_here : is_number (stop_of (line_of l).operation) k ≡ true → stop_from i (map line_of (drop i lines)) k ≡ Some i
-  stop_here e = stop_at ∙ ap (λ (b : Bool). if b then Some i else stop_from (i + 1) (map line_of (drop (i + 1) lines)) k) e
-
-  -- it isn't
-  pub stop_later : is_number (stop_of (line_of l).operation) k ≡ false → stop_from i (map line_of (drop i lines)) k ≡ stop_from (i + 1) (map line_of (drop (i + 1) lines)) k
-  stop_later e = stop_at ∙ ap (λ (b : Bool). if b then Some i else stop_from (i + 1) (map line_of (drop (i + 1) lines)) k) e
-
--- ---- valid code
+-- ---- numbers
 
 same_number : (o : Option ℕ) (k : ℕ) → is_number o k ≡ true → o ≡ Some k
 same_number None k is = absurd cc
@@ -42,6 +25,92 @@ same_number (Some here) k is = ap (λ (n : ℕ). Some n) (eqb-true here k is)
 
 is_same : (o : Option ℕ) (k : ℕ) → o ≡ Some k → is_number o k ≡ true
 is_same o k is = ap (λ (x : Option ℕ). is_number x k) is ∙ eq-eqb k k refl
+
+-- ---- the search
+
+pub lies_in_all : (lines : List Line) (n k : ℕ) → n ≡ length lines → LiesIn lines k 0 n
+lies_in_all lines n k all p l at stop = (omega arith, omega (arith, slice_get_within lines p l at, all))
+
+-- the stop at an operation
+abbrev stop_in : List Line → ℕ → Option ℕ
+stop_in lines p = option_and_then (λ (l : Line). stop_of l.operation) (slice_get lines p)
+
+stop_there : (lines : List Line) (p : ℕ) (l : Line) (o : Option ℕ) → slice_get lines p ≡ Some l → stop_of l.operation ≡ o → stop_in lines p ≡ o
+stop_there lines p l o at is = ap (option_and_then (λ (n : Line). stop_of n.operation)) at ∙ is
+
+same_stop : (o : Option ℕ) (j k : ℕ) → o ≡ Some j → o ≡ Some k → j ≡ k
+same_stop o j k one other = ap (λ (x : Option ℕ). unwrap_or x 0) (sym one ∙ other)
+
+no_stop : (o : Option ℕ) (k : ℕ) → o ≡ None → o ≡ Some k → ⊥
+no_stop o k none some = absurd (let e : None ≡ Some k = sym none ∙ some in cc)
+
+-- stop k isn't in a part without stops
+pub lies_behind : (lines : List Line) (k low high to : ℕ) → LiesIn lines k low high → HasNoStop lines low to → LiesIn lines k to high
+lies_behind lines k low high to lies none p l at stop = elim (cases_lt p to) [
+  | inl lt ↦ absurd (no_stop (stop_of l.operation) k (none p l (lies p l at stop).0 lt at) stop)
+  | inr ge ↦ (ge, (lies p l at stop).1)
+]
+
+module _ (lines : List Line) (numbered : StopsAreNumbered lines) (k low high to op j : ℕ) (found : IsLastStop lines low to op j) where
+  -- the last stop of a part has the number
+  pub first_there : j ≡ k → stop_from 0 lines k ≡ Some op
+  first_there same = (numbered op k found.line found.here (found.stop ∙ ap (λ (n : ℕ). Some n) same)).first
+
+  number_is : (p : ℕ) (l : Line) → p ≡ op → slice_get lines p ≡ Some l → stop_of l.operation ≡ Some k → j ≡ k
+  number_is p l here at stop =
+      same_stop (stop_in lines op) j k (stop_there lines op found.line (Some j) found.here found.stop)
+      (subst (λ (q : ℕ). stop_in lines q ≡ Some k) here (stop_there lines p l (Some k) at stop))
+
+  -- it has a smaller one
+  pub lies_after : j < k → LiesIn lines k low high → LiesIn lines k to high
+  lies_after less lies p l at stop = elim (cases_lt p to) [
+    | inl lt ↦ absurd (elim (cases_lt op p) [
+      | inl after ↦ no_stop (stop_of l.operation) k (found.last p l (omega (arith, after)) lt at) stop
+      | inr le ↦ elim (cases_lt p op) [
+        | inl before ↦ let more = (numbered op j found.line found.here found.stop).order p k l before at stop in omega (arith, more, less)
+        | inr ge ↦ let same = number_is p l (omega (arith, le, ge)) at stop in omega (arith, same, less)
+      ]
+    ])
+    | inr ge ↦ (ge, (lies p l at stop).1)
+  ]
+
+  -- it has a greater one
+  pub lies_before : k < j → LiesIn lines k low high → LiesIn lines k low op
+  lies_before more lies p l at stop = elim (cases_lt p op) [
+    | inl lt ↦ ((lies p l at stop).0, lt)
+    | inr ge ↦ absurd (elim (cases_lt op p) [
+      | inl after ↦ let less = (numbered p k l at stop).order op j found.line after found.here found.stop in omega (arith, more, less)
+      | inr le ↦ let same = number_is p l (omega (arith, le, ge)) at stop in omega (arith, same, more)
+    ])
+  ]
+
+none_here : (b : Bool) (o rest : Option ℕ) → (b ≡ true → ⊥) → rest ≡ None → (if b then o else rest) ≡ None
+none_here true o rest never is = absurd (never refl)
+none_here false o rest never is = is
+
+absent_from : (lines : List Line) (base k : ℕ) → ((p : ℕ) (l : Line) → slice_get lines p ≡ Some l → stop_of l.operation ≡ Some k → ⊥) → stop_from base lines k ≡ None
+absent_from [] base k none = refl
+absent_from (x ∷ xs) base k none =
+    none_here (is_number (stop_of x.operation) k) (Some base) (stop_from (base + 1) xs k)
+    (λ is. none 0 x refl (same_number (stop_of x.operation) k is))
+    (absent_from xs (base + 1) k (λ p l at stop. none (suc p) l at stop))
+
+-- no operation is left
+pub nowhere : (lines : List Line) (k low high : ℕ) → high ≤ low → LiesIn lines k low high → stop_from 0 lines k ≡ None
+nowhere lines k low high over lies = absent_from lines 0 k (λ p l at stop. let there = lies p l at stop in omega (arith, over, there.0, there.1))
+
+-- the operation that is there isn't a stop
+pub none_there : (lines : List Line) (p : ℕ) (here : Line) → slice_get lines p ≡ Some here → stop_of here.operation ≡ None → (l : Line) → slice_get lines p ≡ Some l → stop_of l.operation ≡ None
+none_there lines p here at none l also = sym (stop_there lines p l (stop_of l.operation) also refl) ∙ stop_there lines p here None at none
+
+-- one more operation isn't a stop
+pub no_stop_more : (lines : List Line) (op next to : ℕ) → next ≡ op + 1 → HasNoStop lines next to → ((l : Line) → slice_get lines op ≡ Some l → stop_of l.operation ≡ None) → HasNoStop lines op to
+no_stop_more lines op next to is none here p l after before at = elim (cases_lt op p) [
+  | inl lt ↦ none p l (omega (arith, is, lt)) before at
+  | inr le ↦ let same : p ≡ op = omega (arith, le, after) in here l (subst (λ (q : ℕ). slice_get lines q ≡ Some l) same at)
+]
+
+-- ---- valid code
 
 -- no operation but p is stop k
 abbrev OnlyThere : List Line → ℕ → ℕ → Type 0
@@ -67,6 +136,14 @@ by_number (x ∷ xs) base (suc p) k l at is only = elim (cases (is_number (stop_
     cases true = inl refl
     cases false = inr refl
 
+-- a stop counts for those after it
+more_stops : (lines : List Line) (q p j : ℕ) (l : Line) → q < p → slice_get lines q ≡ Some l → stop_of l.operation ≡ Some j → stops_before lines q + 1 ≤ stops_before lines p
+more_stops lines q p j l lt at stop =
+    let counted : ◌≡◌ {A = ℕ} (if is_stop l then 1 else 0) 1 = ap (λ (o : Option ℕ). if is_some o then 1 else 0) stop in
+    let within : stops_before (take p lines) (q + 1) ≤ count_by is_stop (take p lines) = sum_by-take-le (λ x. cond (is_stop x) 1 0) (take p lines) (q + 1) in
+    let same : stops_before (take p lines) (q + 1) ≡ stops_before lines (q + 1) = ap (count_by is_stop) (take-take (q + 1) p lines (omega (arith, lt))) in
+    omega (arith, stops_next lines q l at, counted, within, same)
+
 module _ (c : Automata) (valid : Valid c) (fits : RawFits c) (m : ModuleId) where
   numbered : (signature : Signature) (lines : List Line) → IsModule c m signature lines → StopsAreNumbered lines
   numbered signature lines is p k l at stop =
@@ -80,6 +157,8 @@ module _ (c : Automata) (valid : Valid c) (fits : RawFits c) (m : ModuleId) wher
             ∙ ap (λ (n : ℕ). Some n) there;
         some = number.0;
         small = omega (arith, number.1, few, slice_get_within lines p l at);
+        order = λ q j n lt on is_j.
+            omega (arith, more_stops lines q p j n lt on is_j, stop_number c.heads signature lines p k l stop good, stop_number c.heads signature lines q j n is_j (valid_passes c m signature lines q n valid is on));
       }
 
   none_numbered : StopsAreNumbered []

@@ -1,13 +1,13 @@
 //! Where operations lead (docs/SEMANTICS.md, "Code").
 
-ghost use Rattle.std.specs.Prelude.{◌≡◌, ◌<◌, [], length, map, slice_get, unwrap_or, Some, IfSome};
+ghost use Rattle.std.specs.Prelude.{◌≡◌, ◌<◌, ◌≤◌, [], length, map, slice_get, unwrap_or, Some, IfSome, IsNone};
 ghost use Rattle.std.specs.Option.{option_map};
 ghost use Rattle.loft_tree.specs.Resolved.{target_of as variable_of};
-ghost use Rattle.loft_code.specs.Operations.{stop_of};
+ghost use Rattle.loft_code.specs.Operations.{stop_of as stop_of_operation};
 ghost use Rattle.loft_code.specs.View.{automata_of, line_of, lines_of, operation_of};
-ghost use Rattle.loft_sense.specs.Code.{lines_at, jump_of, landing as landing_of, is_number, stop_from, pause_of_operation, pause_at, pause_in};
+ghost use Rattle.loft_sense.specs.Code.{lines_at, jump_of, landing as landing_of, stop_from, pause_of_operation, pause_at, pause_in};
 ghost use Rattle.loft_sense.specs.Statements.{target_of};
-ghost use Rattle.loft_step.specs.Lines.{ends_at, line_in, op_after, StopsAreNumbered};
+ghost use Rattle.loft_step.specs.Lines.{ends_at, line_in, op_after, HasNoStop, IsLastStop, LiesIn, StopsAreNumbered};
 
 use loft_base::ModuleId;
 use loft_code::{Code, CodeLine, ModuleCode, Op, Pause};
@@ -85,33 +85,94 @@ pub fn ends_at(line: Option<&CodeLine>) -> bool
     }
 }
 
-/// Whether the operation is stop k.
-fn is_stop(op: &Op, k: u32) -> bool
-    ensures { result ≡ is_number (stop_of (operation_of op.now)) k }
+/// The number that the operation has as a stop, if it is one.
+fn stop_of(op: &Op) -> Option<u64>
+    ensures { result ≡ stop_of_operation (operation_of op.now) }
 {
     match op {
-        Op::Hold { stop, .. } | Op::Run { stop, .. } => *stop == u64::from(k),
+        Op::Hold { stop, .. } | Op::Run { stop, .. } => Some(*stop),
         Op::Do(_)
         | Op::Branch { .. }
         | Op::Enter
         | Op::Count(_)
         | Op::Turn { .. }
         | Op::Jump { .. }
-        | Op::End => false,
+        | Op::End => None,
     }
 }
 
-/// The number of the first operation that is stop k.
-fn find_stop(lines: &[CodeLine], k: u32) -> Option<usize>
-    ensures first { result ≡ stop_from 0 (map line_of lines.now) k }
-    ensures within { IfSome result (λ number. number < length lines.now) }
+/// A stop: the number of its operation, and its own.
+#[derive(Clone, Copy)]
+struct Found {
+    op: usize,
+    stop: u64,
+}
+
+/// The last stop of the operations from one number to before another.
+fn last_stop(lines: &[CodeLine], from: usize, to: usize) -> Option<Found>
+    requires { to ≤ length lines.now }
+    ensures last { IfSome result (λ found. IsLastStop (map line_of lines.now) from to found.op found.stop) }
+    ensures none { IsNone result → HasNoStop (map line_of lines.now) from to }
 {
-    for (number, line) in lines.iter().enumerate() {
-        if is_stop(&line.op, k) {
-            return Some(number);
+    let mut op = to;
+    'back: while op > from {
+        op -= 1;
+        if let Some(stop) = stop_of(&lines[op].op) {
+            return Some(Found { op, stop });
         }
     }
     None
+}
+
+/// How many of so many operations are looked at next: as many as stand before them, and one more; but no more than half of
+/// them, or the greater half.
+fn part(before: usize, left: usize) -> usize
+    requires { 0 < left }
+    ensures some { 0 < result }
+    ensures within { result ≤ left }
+{
+    let half = left / 2;
+    if before < half {
+        before + 1
+    } else {
+        left - half
+    }
+}
+
+/// The number of the first operation that is stop k, where that is one of those from one number to before another. The
+/// last stop of a part of them tells on which side of it stop k is.
+fn find_between(lines: &[CodeLine], k: u64, low: usize, high: usize) -> Option<usize>
+    requires numbered { StopsAreNumbered (map line_of lines.now) }
+    requires most { high ≤ length lines.now }
+    requires lies { LiesIn (map line_of lines.now) k low high }
+    ensures first { result ≡ stop_from 0 (map line_of lines.now) k }
+    ensures within { IfSome result (λ number. number < length lines.now) }
+{
+    if high <= low {
+        return None;
+    }
+    let to = low + part(low, high - low);
+    let Some(found) = last_stop(lines, low, to) else {
+        return find_between(lines, k, to, high);
+    };
+    if found.stop < k {
+        find_between(lines, k, to, high)
+    } else if k < found.stop {
+        find_between(lines, k, low, found.op)
+    } else {
+        Some(found.op)
+    }
+}
+
+/// The number of the first operation that is stop k. Stops are numbered in the order of the operations, so they are searched
+/// from the first one on in parts that grow, and then by halves. At most twice as many operations are looked at as
+/// stand up to the stop.
+fn find_stop(lines: &[CodeLine], k: u32) -> Option<usize>
+    requires { StopsAreNumbered (map line_of lines.now) }
+    ensures first { result ≡ stop_from 0 (map line_of lines.now) k }
+    ensures within { IfSome result (λ number. number < length lines.now) }
+{
+    find_between(lines, u64::from(k), 0, lines.len())
 }
 
 /// The variable that a stop sets, where it is a `get`.
@@ -154,6 +215,7 @@ pub struct Resumed {
 
 /// Where a frame goes on that has stood at this stop, 0 where it has stood at none.
 pub fn resume(lines: &[CodeLine], stop: u32) -> Resumed
+    requires { StopsAreNumbered (map line_of lines.now) }
     ensures op { result.op ≡ op_after (map line_of lines.now) stop }
     ensures target { option_map variable_of result.target ≡ target_of (pause_in (map line_of lines.now) stop) }
 {
