@@ -10,6 +10,7 @@ ghost use Rattle.loft_baton.specs.Knowing.{among, IsIdle, IsHolding, holding, Fo
 ghost use Rattle.loft_baton.specs.Count.{count_of, sole};
 
 use crate::actor_count::ActorCount;
+use crate::boxed_world::BoxedWorld;
 use crate::knows::Knows;
 use crate::rule::{Argument, Begun, Gave, Joined, OneWorld, Released, Taken};
 use crossbeam_queue::RuledArrayQueue;
@@ -22,9 +23,9 @@ use std::marker::{Brand, Model};
 use std::sync::Wait;
 use std::thread;
 
-type Queue = RuledArrayQueue<World, Knows, OneWorld>;
+type Queue = RuledArrayQueue<BoxedWorld, Knows, OneWorld>;
 
-type QueuePass = crossbeam_queue::Pass<World, Knows>;
+type QueuePass = crossbeam_queue::Pass<BoxedWorld, Knows>;
 
 /// The right of one thread to take the world and to add entries of its actors. Contracts see the
 /// baton that it is of, and what it knows.
@@ -75,7 +76,7 @@ impl Model for Baton {
 /// The world in one thread's hands. It can't be dropped: it goes back by `release`. Contracts see the
 /// world.
 pub struct Held {
-    world: World,
+    world: BoxedWorld,
 }
 
 impl Model for Held {
@@ -96,7 +97,7 @@ impl Held {
         ensures* writes_back { sem 𝓛 (LendsWorld self.entry result) }
         ensures value { result.now ≡ self.old }
     {
-        &mut self.world
+        self.world.as_world()
     }
 }
 
@@ -122,8 +123,9 @@ impl Baton {
         ensures baton { IfOk result (λ made. made.1.baton ≡ made.0) }
         ensures knows { IfOk result (λ made. made.1.knows ≡ begun (Some c.now)) }
     {
+        let world = BoxedWorld::new(alloc, w)?;
         let (queue, inner) = Queue::ruled(alloc, 1)?;
-        Ok(begin::<Brand, R>(rt, queue, inner, c, w))
+        Ok(begin::<Brand, R>(rt, queue, inner, c, world))
     }
 
     /// A pass for an actor that the giving pass hasn't given out yet. It has seen what the giving pass
@@ -222,7 +224,7 @@ impl Baton {
     {
         let mut p = p;
         let Held { world } = self.hold(rt, &mut p);
-        world
+        world.into_world()
     }
 }
 
@@ -232,7 +234,7 @@ fn begin<J: Argument, R: Wait>(
     queue: Queue,
     inner: QueuePass,
     c: &Code,
-    world: World,
+    world: BoxedWorld,
 ) -> (Baton, Pass)
     requires empty { world ≡ no_entries c.now.heads }
     requires queue { IsPassOf queue inner × (queue_view inner ≡ fresh) × (ruled_capacity queue ≡ 1) }

@@ -4,6 +4,7 @@
 
 mod actor_count;
 mod baton;
+mod boxed_world;
 mod knows;
 mod laws;
 mod rule;

@@ -1,15 +1,15 @@
 //! The rule that the queue keeps (docs/BATON.md, "The rule"), and what each step tells a pass. These
 //! types are for proofs alone.
 
+use crate::boxed_world::BoxedWorld;
 use crate::knows::Knows;
 use crossbeam_queue::protocol::{Join, Lesson, Outcome, Protocol, Split};
-use loft_world::World;
 use std::marker::{Brand, PhantomData};
 
 /// One world, which lies in the queue or is held by one pass.
 pub(crate) struct OneWorld;
 
-impl Protocol<World, Knows> for OneWorld {
+impl Protocol<BoxedWorld, Knows> for OneWorld {
     ghost use Rattle.loft_baton.specs.Knowing.{fresh};
     ghost use Rattle.loft_baton.specs.Rule.{Kept};
 
@@ -43,14 +43,14 @@ pub(crate) struct Begun<J> {
     of: PhantomData<J>,
 }
 
-impl<J: Argument> Outcome<World, Knows> for Begun<J> {
+impl<J: Argument> Outcome<BoxedWorld, Knows> for Begun<J> {
     ghost use Rattle.std.specs.Prelude.{◌≡◌};
     ghost use Rattle.loft_baton.specs.Knowing.{begun};
 
     ghost then = { λ v x w. w ≡ begun J.code };
 }
 
-impl<J: Argument> Lesson<World, Knows> for Begun<J> {
+impl<J: Argument> Lesson<BoxedWorld, Knows> for Begun<J> {
     ghost use Rattle.std.specs.Prelude.{◌≡◌, []};
 
     ghost fact = { λ v items. items ≡ [] };
@@ -59,7 +59,7 @@ impl<J: Argument> Lesson<World, Knows> for Begun<J> {
 /// A pass takes the world.
 pub(crate) struct Taken;
 
-impl Outcome<World, Knows> for Taken {
+impl Outcome<BoxedWorld, Knows> for Taken {
     ghost use Rattle.std.specs.Prelude.{◌≡◌};
     ghost use Rattle.loft_baton.specs.Knowing.{holding, Follows};
 
@@ -69,14 +69,14 @@ impl Outcome<World, Knows> for Taken {
 /// A pass gives the world back.
 pub(crate) struct Released;
 
-impl Outcome<World, Knows> for Released {
+impl Outcome<BoxedWorld, Knows> for Released {
     ghost use Rattle.std.specs.Prelude.{◌≡◌};
     ghost use Rattle.loft_baton.specs.Knowing.{released};
 
     ghost then = { λ v x w. w ≡ released v x.history };
 }
 
-impl Lesson<World, Knows> for Released {
+impl Lesson<BoxedWorld, Knows> for Released {
     ghost use Rattle.std.specs.Prelude.{◌≡◌, []};
 
     ghost fact = { λ v items. items ≡ [] };
