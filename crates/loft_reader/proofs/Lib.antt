@@ -7,3 +7,5 @@ pub mod Pieces
 pub mod Finishing
 pub mod Answering
 pub mod Saying
+pub mod DigitsThere
+pub mod AheadLemmas

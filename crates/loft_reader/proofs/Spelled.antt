@@ -83,11 +83,11 @@ some_bytes p bytes (suc n) e = omega arith
 
 -- ---- one spelling after another
 
-later_twice : {A : Type 0} (n m : ℕ) (r : Result A ℕ) → later_by n (later_by m r) ≡ later_by (n + m) r
+pub later_twice : {A : Type 0} (n m : ℕ) (r : Result A ℕ) → later_by n (later_by m r) ≡ later_by (n + m) r
 later_twice n m (Ok x) = refl
 later_twice n m (Err k) = ap (λ (j : ℕ). Err j) (omega arith)
 
-later_nought : {A : Type 0} (r : Result A ℕ) → r ≡ later_by 0 r
+pub later_nought : {A : Type 0} (r : Result A ℕ) → r ≡ later_by 0 r
 later_nought (Ok x) = refl
 later_nought (Err k) = ap (λ (j : ℕ). Err j) (omega arith)
 

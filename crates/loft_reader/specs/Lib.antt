@@ -1,3 +1,4 @@
 pub mod Machine
 pub mod Log
 pub mod Answer
+pub mod Ahead

@@ -16,6 +16,10 @@ use Rattle.loft_reader.specs.declared.machine.Spelled.TheVariants.{Whole, Open, 
 abbrev pub machine_of : Machine → State (script grammar)
 machine_of m = record { at = record { parts = m.parts; told = told_of m.draft }; word = m.word }
 
+-- the same, where this part still comes before the others
+abbrev pub machine_with : Part → Machine → State (script grammar)
+machine_with p m = record { at = record { parts = p ∷ m.parts; told = told_of m.draft }; word = m.word }
+
 abbrev pub Machine_state : Type 0
 Machine_state = State (script grammar)
 

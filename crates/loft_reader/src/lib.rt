@@ -1,10 +1,12 @@
 //! Reading a report, whole or in pieces.
 #![tactic(auto)]
 
+mod ahead;
 mod error;
 mod log;
 mod machine;
 mod raw;
+mod there;
 mod whole;
 
 pub use error::LogError;

@@ -6,8 +6,10 @@ ghost use Rattle.loft_spelling.specs.Parts.{script, takes};
 ghost use Rattle.loft_shape.specs.Grammar.{start};
 ghost use Rattle.loft_shape.specs.Told.{nothing_told};
 ghost use Rattle.loft_shape.specs.Report.{grammar};
-ghost use Rattle.loft_reader.specs.Machine.{machine_of, IsBegun, Spells, Within, Leaves, IsOn, IsRead, IsBottomed, Closes, may_end};
+ghost use Rattle.loft_reader.specs.declared.machine.Spelled.TheVariants.{Whole};
+ghost use Rattle.loft_reader.specs.Machine.{machine_of, machine_with, IsBegun, Spells, Within, Leaves, IsOn, IsRead, IsBottomed, Closes, may_end};
 
+use crate::ahead::lines_ahead;
 use loft_after::PartStack;
 use loft_base::{NoMemory, Room, Sequence};
 use loft_sets::{is_spelling, is_whole, taken};
@@ -73,19 +75,38 @@ impl Machine {
         })
     }
 
-    /// Reads a spelling of which nothing was taken yet.
-    fn spell_new(&mut self, room: &mut Room, bytes: &[u8]) -> Spelled
-        requires some { 0 < length bytes.now }
+    /// Reads lines ahead, if the part is one that begins with lines; answers how many bytes they have. The part was taken
+    /// from those that are still to come.
+    fn spell_lines(&mut self, room: &mut Room, p: Part, bytes: &[u8]) -> usize
         requires between { self.old.word ≡ [] }
         ensures before { room.new.is_whole ≡ true → room.old.is_whole ≡ true }
-        ensures spelled { room.new.is_whole ≡ true → Spells result bytes.now (machine_of self.old) (machine_of self.new) }
+        ensures spelled { room.new.is_whole ≡ true → 0 < result → Spells (Whole result) bytes.now (machine_with p self.old) (machine_of self.new) }
+        ensures within { result ≤ length bytes.now }
+        ensures left { self.new.word ≡ [] }
+        ensures none { result ≡ 0 → self.new ≡ self.old }
+    {
+        let Part::Lines(stage) = p else {
+            return 0;
+        };
+        let (next, rest) = lines_ahead(stage, bytes);
+        let n = bytes.len().saturating_sub(rest.len());
+        if n == 0 {
+            return 0;
+        }
+        self.parts.put(room, &[Part::Lines(next)]);
+        self.draft.keep(room, &bytes[..n]);
+        n
+    }
+
+    /// Reads a spelling of a part of which nothing was taken yet. The part was taken from those that are still to come.
+    fn spell_part(&mut self, room: &mut Room, p: Part, bytes: &[u8]) -> Spelled
+        requires between { self.old.word ≡ [] }
+        ensures before { room.new.is_whole ≡ true → room.old.is_whole ≡ true }
+        ensures spelled { room.new.is_whole ≡ true → Spells result bytes.now (machine_with p self.old) (machine_of self.new) }
         ensures within { Within result bytes.now }
         ensures left { Leaves result self.new }
         ensures on { IsOn result }
     {
-        let Some(p) = self.parts.pop() else {
-            return Spelled::Stops(0);
-        };
         let n = taken(p, bytes);
         if n == bytes.len() {
             self.parts.put(room, &[p]);
@@ -99,6 +120,26 @@ impl Machine {
         self.parts.put_after(room, p, word);
         self.draft.note(room, p, word);
         Spelled::Whole(n)
+    }
+
+    /// Reads a spelling of which nothing was taken yet, or several lines.
+    fn spell_new(&mut self, room: &mut Room, bytes: &[u8]) -> Spelled
+        requires some { 0 < length bytes.now }
+        requires between { self.old.word ≡ [] }
+        ensures before { room.new.is_whole ≡ true → room.old.is_whole ≡ true }
+        ensures spelled { room.new.is_whole ≡ true → Spells result bytes.now (machine_of self.old) (machine_of self.new) }
+        ensures within { Within result bytes.now }
+        ensures left { Leaves result self.new }
+        ensures on { IsOn result }
+    {
+        let Some(p) = self.parts.pop() else {
+            return Spelled::Stops(0);
+        };
+        let lines = self.spell_lines(room, p, bytes);
+        if lines > 0 {
+            return Spelled::Whole(lines);
+        }
+        self.spell_part(room, p, bytes)
     }
 
     /// Goes on reading a spelling of which some bytes were taken.

@@ -124,7 +124,7 @@ impl Draft {
     }
 
     /// Keeps bytes where the section says.
-    fn keep(&mut self, room: &mut Room, word: &[u8])
+    pub fn keep(&mut self, room: &mut Room, word: &[u8])
         ensures before { room.new.is_whole ≡ true → room.old.is_whole ≡ true }
         ensures told { room.new.is_whole ≡ true → told_of self.new ≡ keeps word.now (told_of self.old) }
     {

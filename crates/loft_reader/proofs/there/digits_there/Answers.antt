@@ -1,0 +1,6 @@
+use Rattle.std.proofs.Common.{sym, arith}
+use Rattle.loft_reader.proofs.DigitsThere.{digits_there}
+use Rattle.loft_reader.proofs.there.digits_there.Goals as goal
+
+pub returns-then-is_spelling-clause-there : goal.returns-then-is_spelling-clause-there
+returns-then-is_spelling-clause-there c = λ some. digits_there c.args.kind c.args.bytes.now c.digit_bytes-n.result c.digit_bytes-n.ensures some c.if-n-bytes.true (omega (arith, c.if-n-lt-MAX_DIGITS.true)) (sym c.if-is_spelling.ensures)
