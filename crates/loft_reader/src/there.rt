@@ -1,6 +1,6 @@
 //! Whole spellings with which a text goes on.
 
-ghost use Rattle.std.specs.Prelude.{◌≡◌, ◌<◌, ◌≤◌, length, true};
+ghost use Rattle.std.specs.Prelude.{◌≡◌, ◌<◌, ◌≤◌, length};
 ghost use Rattle.loft_spelling.specs.Sets.{is_digit};
 ghost use Rattle.loft_shape.specs.Sets.{number_set, set_of, sign};
 ghost use Rattle.loft_sets.specs.Taken.{Run};
