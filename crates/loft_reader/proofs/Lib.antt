@@ -9,3 +9,4 @@ pub mod Answering
 pub mod Saying
 pub mod DigitsThere
 pub mod AheadLemmas
+pub mod ValuesThere

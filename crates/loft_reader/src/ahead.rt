@@ -7,7 +7,7 @@ ghost use Rattle.loft_shape.specs.declared.part.Part.TheVariants as part;
 ghost use Rattle.loft_shape.specs.declared.part.NumberKind.TheVariants as number;
 ghost use Rattle.loft_reader.specs.Ahead.{Goes, IsKept, IsPlain};
 
-use crate::there::{number_there, part_there, sign_there};
+use crate::there::{sign_there, soon_there};
 use loft_sets::word_of;
 use loft_shape::{NameRole, NumberKind, Part, Stage, Word};
 
@@ -68,7 +68,7 @@ impl<'a> Ahead<'a> {
         ensures goes { self.new.fits ≡ true → IsKept p result.now → (ps : List Part)
             → Goes (p ∷ ps) self.old.rest.now (after p result.now ++ ps) self.new.rest.now }
     {
-        let n = part_there(p, self.rest);
+        let n = soon_there(p, self.rest);
         self.pass(n)
     }
 
@@ -100,7 +100,7 @@ impl<'a> Ahead<'a> {
         ensures goes { self.new.fits ≡ true → IsPlain (part.Number kind) → (ps : List Part)
             → Goes (part.Number kind ∷ ps) self.old.rest.now ps self.new.rest.now }
     {
-        let n = number_there(kind, self.rest);
+        let n = soon_there(Part::Number(kind), self.rest);
         let _word = self.pass(n);
     }
 
