@@ -1,3 +1,4 @@
+pub mod CircleLemmas
 pub mod PositionLemmas
 pub mod TellLemmas
 pub mod EnterLemmas
