@@ -33,6 +33,7 @@ type QueuePass = crossbeam_queue::Pass<BoxedWorld, Knows>;
 pub struct Pass {
     inner: QueuePass,
     count: ActorCount,
+    waits: u64,
 }
 
 impl Model for Pass {
@@ -108,6 +109,11 @@ impl Pass {
     {
         self.count.one()
     }
+
+    /// How many looks of this pass found the world taken, so that it had to wait. No clause says how many.
+    pub fn waits(&self) -> u64 {
+        self.waits
+    }
 }
 
 impl Baton {
@@ -155,6 +161,7 @@ impl Baton {
         Pass {
             inner,
             count: ActorCount::One(a),
+            waits: 0,
         }
     }
 
@@ -171,6 +178,7 @@ impl Baton {
             if let Some(world) = self.queue.try_pop_as::<Taken>(&mut p.inner) {
                 return Held { world };
             }
+            p.waits = p.waits.saturating_add(1);
             thread::yield_now();
         }
         unreachable!()
@@ -200,15 +208,21 @@ impl Baton {
         requires idle { IsIdle p.knows × IsIdle q.knows }
         ensures { result ≡ record { baton = self.now; knows = joined p.knows q.knows } }
     {
-        let Pass { mut inner, count } = p;
+        let Pass {
+            mut inner,
+            count,
+            waits,
+        } = p;
         let Pass {
             inner: other,
             count: more,
+            waits: others,
         } = q;
         self.queue.absorb::<Joined>(&mut inner, other);
         Pass {
             inner,
             count: count.with(more),
+            waits: waits.saturating_add(others),
         }
     }
 
@@ -250,6 +264,7 @@ fn begin<J: Argument, R: Wait>(
     let pass = Pass {
         inner,
         count: ActorCount::Nobody,
+        waits: 0,
     };
     (Baton { queue }, pass)
 }

@@ -19,21 +19,36 @@ use std::thread::Threads;
 /// How many shares of a phase a worker makes in a row: at most 1,024 jobs.
 const SHARES: u32 = 32;
 
-/// A worker makes its shares, one after the other, as long as memory isn't refused to it.
+/// How many looks of one share that find the world taken make a crowd: as many as a share has turns.
+const CROWD: u64 = 32;
+
+/// Whether a pass that had waited so often found a crowd at the world since.
+fn is_crowded(before: u64, worker: &Worker) -> bool {
+    worker.seat.pass.waits().saturating_sub(before) >= CROWD
+}
+
+/// A worker makes its shares, one after the other, as long as memory isn't refused to it. Each but the
+/// first one makes no more where it found a crowd in two shares in a row: then jobs are so short that
+/// the workers wait for one another.
 fn works_on<R: Threads + Wait + Sync, G: Gate>(
     rt: &R,
     alloc: Global,
     b: &Baton,
     c: &Code,
     g: &G,
+    index: usize,
     worker: &mut Worker,
 )
     requires ready { IsReady b.now c.now worker.old }
     ensures { WorkedOn b.now c.now worker.old worker.new }
 {
+    let mut crowded = false;
     for share in 0..SHARES {
+        let before = worker.seat.pass.waits();
         worker.go_on(rt, alloc, b, c, g);
-        if worker.refused {
+        let was_crowded = crowded;
+        crowded = is_crowded(before, worker);
+        if worker.refused || (index > 0 && was_crowded && crowded) {
             return;
         }
     }
@@ -56,10 +71,10 @@ fn workers_work_on<R: Threads + Wait + Sync, G: Gate>(
         rt,
         workers,
         threads,
-        &|_: usize, actor: &mut Worker|
+        &|index: usize, actor: &mut Worker|
             requires ready { IsReady b.now c.now actor.old }
             ensures { WorkedOn b.entry.now c.entry.now actor.old actor.new }
-        { works_on(rt, alloc, b, c, g, actor) },
+        { works_on(rt, alloc, b, c, g, index, actor) },
     );
 }
 
