@@ -1,9 +1,6 @@
 //! Threads that are linked, suspended and stopped.
 
-ghost use Rattle.std.specs.Prelude.{IfOk, OnOk};
-ghost use Rattle.loft_line.specs.Line.{IsIdle};
-
-use loft_base::{EventId, Maker, NoMemory, Sequence, ThreadId};
+use loft_base::{EventId, Maker, Sequence, ThreadId};
 use loft_line::Line;
 use loft_orders::{Thread, Wait};
 use std::alloc::Global;
@@ -79,46 +76,24 @@ fn a_suspended_number_stands_still(rt: HostRuntime) -> Result<(), Fail> {
     Ok(())
 }
 
-/// So many threads that halt, in a line.
-fn linked(alloc: Global, count: u64) -> Result<Line, NoMemory>
-    ensures { IfOk result (λ line. IsIdle line) }
-{
-    let mut line = Line::new(alloc, 0, 100)?;
-    for seq in 0..count {
-        line.link(thread(alloc, seq, Wait::Halt))?;
-    }
-    Ok(line)
-}
-
-/// A thread is suspended so often that the positions are listed by ids.
-fn suspend_often(line: &mut Line, thread: ThreadId) -> Result<(), NoMemory>
-    requires { IsIdle line.old }
-    ensures { OnOk result (IsIdle line.new) }
-{
-    for _ in 0..40 {
-        line.suspend(thread, true)?;
-    }
-    Ok(())
-}
-
 /// Two threads have one id: the first is found, and then the other one. Stopped, and linked again, it
 /// is found at its new place.
 #[test]
 fn threads_are_found_by_their_ids(rt: HostRuntime) -> Result<(), Fail> {
     let alloc = rt.alloc();
-    let mut line = linked(alloc, 40)?;
-    suspend_often(&mut line, name(39))?;
-    line.link(thread(alloc, 39, Wait::New))?;
-    assert!(rt; line.stop(alloc, name(39)));
-    assert!(rt; line.suspend(name(39), true)?);
-    assert!(rt; line.stop(alloc, name(39)));
-    assert!(rt; !line.suspend(name(39), true)?);
-    line.link(thread(alloc, 39, Wait::New))?;
-    assert!(rt; line.suspend(name(39), true)?);
-    assert!(rt; !line.stop(alloc, name(40)));
+    let mut line = Line::new(alloc, 0, 100)?;
+    line.link(thread(alloc, 0, Wait::Halt))?;
+    line.link(thread(alloc, 1, Wait::Halt))?;
+    line.link(thread(alloc, 1, Wait::New))?;
+    assert!(rt; line.stop(alloc, name(1)));
+    assert!(rt; line.suspend(name(1), true)?);
+    assert!(rt; line.stop(alloc, name(1)));
+    assert!(rt; !line.suspend(name(1), true)?);
+    line.link(thread(alloc, 1, Wait::New))?;
+    assert!(rt; line.suspend(name(1), true)?);
     let standings = line.standings(alloc)?;
-    assert_eq!(rt; standings.len(), 40);
-    assert!(rt; standings.as_slice()[39].suspended);
-    assert!(rt; matches!(standings.as_slice()[39].thread.wait, Wait::New));
+    assert_eq!(rt; standings.len(), 2);
+    assert!(rt; standings.as_slice()[1].suspended);
+    assert!(rt; matches!(standings.as_slice()[1].thread.wait, Wait::New));
     Ok(())
 }
