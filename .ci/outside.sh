@@ -162,6 +162,15 @@ modules 'run m0();' > "$room/circle"
 for shape in chain circle; do
     wants "bound, 256 modules in a $shape" 0 answer bound "$room/$shape"
 done
+# A listing with a line of more than 5 MiB, a `select` of 1,500,000 events: it is read as a line, and it is the operation that is refused.
+{
+    printf 'loft-listing 1\nscheduler S;\nevent ev in S;\nmodule m() in S\n0 S 0 @1 select ev'
+    yes ', ev' | head -1499999 | tr -d '\n'
+    printf ';\n1 S 0 end\nend\n'
+} > "$room/wide"
+printf 'listing: operation 0 of m\n' > "$room/refused_operation"
+wants "a line of 5 MiB" 3 answer exec "$room/wide"
+wrote "a line of 5 MiB" "$room/refused_operation"
 # A report of 1 GiB, and one that has a byte more: neither is one.
 printf 'log: line 1, byte 0\n' > "$room/no_report"
 printf 'log: too long\n' > "$room/long_report"

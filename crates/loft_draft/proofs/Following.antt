@@ -6,7 +6,8 @@ use Rattle.std.proofs.lemmas.Grind.{flat_map-append}
 use Rattle.loft_tree.specs.Fits.{Each}
 use Rattle.loft_rows.specs.Rows.{ListingLine, Title, line_text}
 use Rattle.loft_rows.proofs.Feeds.{line_ends_at_feed}
-use Rattle.loft_draft.specs.Drafts.{Draft, DraftFits, ShortLineFits, IsListing, draft_lines, item_lines, lines_text}
+use Rattle.loft_draft.specs.Drafts.{Draft, DraftFits, IsListing, draft_lines, item_lines, lines_text}
+use Rattle.loft_rows.specs.RowsFit.{ListingLineFits}
 use Rattle.loft_draft.specs.Held.{StandsAt}
 use Rattle.loft_draft.specs.Stops.{IsBegun, StopsAt, closings}
 use Rattle.loft_draft.specs.Taking.{Begun, Nothing, InModule, InClient, MayStand, with_line, lined_line, closed, closing}
@@ -18,9 +19,9 @@ pub lines_text_end : (ls : List ListingLine) (l : ListingLine) → lines_text (l
 lines_text_end ls l = flat_map-append line_text ls (l ∷ []) ∙ ap (λ t. lines_text ls ++ t) (append-nil (line_text l))
 
 -- the text of a line isn't empty
-pub line_there : (l : ListingLine) → ShortLineFits l → (after : List ℕ) → line_text l ++ after ≡ [] → ⊥
+pub line_there : (l : ListingLine) → ListingLineFits l → (after : List ℕ) → line_text l ++ after ≡ [] → ⊥
 line_there l fits after none =
-    let (before, ends, plain) = line_ends_at_feed l fits.0 in
+    let (before, ends, plain) = line_ends_at_feed l fits in
     let long : length (line_text l ++ after) ≡ 0 = ap length none in
     let last : length (line_text l) ≡ length (before ++ 10 ∷ []) = ap length ends in
     absurd (omega (arith, length-append (line_text l) after, length-append before (10 ∷ [])))
@@ -51,7 +52,7 @@ pub none_fits : DraftFits []
 none_fits = record {
   source = record { each = tt; schedulers = lit≤ tt; events = lit≤ tt; shared = lit≤ tt; modules = lit≤ tt; starts = lit≤ tt; clients = lit≤ tt };
   items = tt;
-  lines = ((tt, lit≤ tt), tt);
+  lines = (tt, tt);
   lined = refl;
   bare = tt;
 }
@@ -65,12 +66,12 @@ at_first text = record { written = refl; fits = none_fits; said = refl; only = �
 next_stands : (text : List ℕ) (ls : List ListingLine) (rest : List ℕ) (d : Draft) (l : ListingLine) (more : List ListingLine) → Follows text ls rest
     → IsListing (line_text Title ++ text) d → flat_map item_lines d ≡ ls ++ l ∷ more → StandsAt (2 + length ls) rest (lines_text more) l
 next_stands text ls rest d l more follows is lines =
-    let each = subst (Each ShortLineFits) lines is.fits.lines.1 in
+    let each = subst (Each ListingLineFits) lines is.fits.lines.1 in
     let own : text ≡ lines_text (flat_map item_lines d) = append_cancel_left (line_text Title) text (lines_text (flat_map item_lines d)) is.written in
     let split : lines_text ls ++ rest ≡ lines_text ls ++ (line_text l ++ lines_text more) =
     sym follows.written ∙ own ∙ ap lines_text lines ∙ flat_map-append line_text ls (l ∷ more) in
     record {
-      fits = (each_right ShortLineFits ls (l ∷ more) each).0;
+      fits = (each_right ListingLineFits ls (l ∷ more) each).0;
       lined = lined_at d ls l more is.fits lines;
       written = append_cancel_left (lines_text ls) rest (line_text l ++ lines_text more) split;
     }
@@ -91,11 +92,11 @@ pub begun_next : (text : List ℕ) (ls : List ListingLine) (rest : List ℕ) (ks
     → Follows text ls rest → Begins text ks back → ks ≡ ls ++ l ∷ more → StandsAt (2 + length ls) rest (lines_text more ++ back) l
 begun_next text ls rest ks back l more follows is split =
     let lines = begun_lines text ls ks back l more is split in
-    let each = subst (Each ShortLineFits) lines is.fits.lines.1 in
+    let each = subst (Each ListingLineFits) lines is.fits.lines.1 in
     let apart : lines_text ls ++ rest ≡ lines_text ls ++ (line_text l ++ (lines_text more ++ back)) =
     sym follows.written ∙ is.written ∙ ap (λ xs. lines_text xs ++ back) split ∙ lines_apart ls l more back in
     record {
-      fits = (each_right ShortLineFits ls (l ∷ (more ++ is.further)) each).0;
+      fits = (each_right ListingLineFits ls (l ∷ (more ++ is.further)) each).0;
       lined = lined_at is.draft ls l (more ++ is.further) is.fits lines;
       written = append_cancel_left (lines_text ls) rest (line_text l ++ (lines_text more ++ back)) apart;
     }
@@ -142,7 +143,7 @@ one_more text ls rest after l follows stands only may =
     record {
       written = follows.written ∙ ap (λ t. lines_text ls ++ t) stands.written ∙ sym (append_assoc (lines_text ls) (line_text l) after) ∙ ap (λ t. t ++ after) (sym (lines_text_end ls l));
       fits = subst (λ t. DraftFits (closed t)) further grown;
-      said = ap said (sym further) ∙ says s l stands.fits.0 may ∙ ap (λ xs. xs ++ l ∷ []) follows.said;
+      said = ap said (sym further) ∙ says s l stands.fits may ∙ ap (λ xs. xs ++ l ∷ []) follows.said;
       only = λ d is. (let (all, lines) = follows.only d is in only_line text ls rest after l follows stands only d is all lines);
       agrees = λ ks back is. agree_more text ls rest after l follows only ks back is (follows.agrees ks back is);
     }
@@ -185,8 +186,8 @@ never_begun : (text : List ℕ) (ls : List ListingLine) (rest after : List ℕ) 
 never_begun text ls rest after l stuck (d, more, fits, lines) is =
     let tail : flat_map item_lines d ≡ (ls ++ l ∷ []) ++ more = cc in
     let split : flat_map item_lines d ≡ ls ++ l ∷ more = tail ∙ append_assoc ls (l ∷ []) more in
-    let short = (each_right ShortLineFits ls (l ∷ more) (subst (Each ShortLineFits) split fits.lines.1)).0 in
-    stuck l after (record { fits = short; lined = lined_at d ls l more fits split; written = is }) (may_next ls d l more fits split)
+    let kept = (each_right ListingLineFits ls (l ∷ more) (subst (Each ListingLineFits) split fits.lines.1)).0 in
+    stuck l after (record { fits = kept; lined = lined_at d ls l more fits split; written = is }) (may_next ls d l more fits split)
 
 -- no line may stand next, and something is open or left: the text stops there
 pub ends_stop : (text : List ℕ) (ls : List ListingLine) (rest : List ℕ) (n : ℕ) → Follows text ls rest → Stuck ls rest → n ≡ 2 + length ls

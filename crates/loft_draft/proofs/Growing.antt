@@ -5,7 +5,7 @@ use Rattle.loft_tree.specs.Source as src
 use Rattle.loft_tree.specs.Source.{Ident, Named, ModuleHead, Declaration, Scheduler, Event, Shared, Module, Start, Outside}
 use Rattle.loft_rows.specs.Rows.{ListingLine, Title, Item, Head, Local, Operation, End, Client, Order, Close}
 use Rattle.loft_rows.specs.RowsFit.{ListingLineFits}
-use Rattle.loft_draft.specs.Drafts.{Draft, DraftOperation, ShortLineFits, DraftFits, source_of, operation_lines, draft_lines}
+use Rattle.loft_draft.specs.Drafts.{Draft, DraftOperation, DraftFits, source_of, operation_lines, draft_lines}
 use Rattle.loft_draft.specs.Lined.{head_at, variable_at, name_at, order_at, lined_declaration}
 use Rattle.loft_draft.specs.Taking.{Begun, Nothing, InModule, InClient, SoFar, lined_line, MayBegin, MayStandInModule, MayStandInClient, MayFollow, MayStand, begin_with, in_module_with, in_client_with, going_on, with_line, module_item, simple_item, closed_as, closed, closing}
 use Rattle.loft_draft.proofs.Items.{joined, front, room, last, lines_end, next_line}
@@ -98,42 +98,42 @@ says s l fits may = says_more s.done s.begun l fits may
 
 -- ---- limits
 
-fits_nothing : (done : Draft) (l : ListingLine) → DraftFits done → MayBegin (source_of done) l → ShortLineFits l → lined_line (next_line done) l ≡ l
+fits_nothing : (done : Draft) (l : ListingLine) → DraftFits done → MayBegin (source_of done) l → ListingLineFits l → lined_line (next_line done) l ≡ l
     → DraftFits (closed (begin_with done l))
-fits_nothing done Title fits may short lined = absurd may
-fits_nothing done (Item d) fits may short lined =
-    let at : lined_declaration (next_line done) d ≡ d = cc in joined done (simple_item d) fits may (one_line (next_line done) d short at)
-fits_nothing done (Head h) fits may short lined =
-    let at : head_at (next_line done) h ≡ h = cc in joined done (module_item h [] []) fits may (module_begins (next_line done) h short at)
-fits_nothing done (Local v) fits may short lined = absurd may
-fits_nothing done (Operation k p d i) fits may short lined = absurd may
-fits_nothing done End fits may short lined = absurd may
-fits_nothing done (Client n) fits may short lined =
-    let at : name_at (next_line done) n ≡ n = cc in joined done (simple_item (Outside n [])) fits may (client_begins (next_line done) n short at)
-fits_nothing done (Order x) fits may short lined = absurd may
-fits_nothing done Close fits may short lined = absurd may
+fits_nothing done Title fits may kept lined = absurd may
+fits_nothing done (Item d) fits may kept lined =
+    let at : lined_declaration (next_line done) d ≡ d = cc in joined done (simple_item d) fits may (one_line (next_line done) d kept at)
+fits_nothing done (Head h) fits may kept lined =
+    let at : head_at (next_line done) h ≡ h = cc in joined done (module_item h [] []) fits may (module_begins (next_line done) h kept at)
+fits_nothing done (Local v) fits may kept lined = absurd may
+fits_nothing done (Operation k p d i) fits may kept lined = absurd may
+fits_nothing done End fits may kept lined = absurd may
+fits_nothing done (Client n) fits may kept lined =
+    let at : name_at (next_line done) n ≡ n = cc in joined done (simple_item (Outside n [])) fits may (client_begins (next_line done) n kept at)
+fits_nothing done (Order x) fits may kept lined = absurd may
+fits_nothing done Close fits may kept lined = absurd may
 
 fits_local : (done : Draft) (h : ModuleHead) (ls : List Named) (os : List DraftOperation) (v : Named) → DraftFits (done ++ module_item h ls os ∷ [])
-    → MayStandInModule (length ls) (length os) (Local v) → ShortLineFits (Local v) → variable_at (next_line done + 1 + length ls) v ≡ v
+    → MayStandInModule (length ls) (length os) (Local v) → ListingLineFits (Local v) → variable_at (next_line done + 1 + length ls) v ≡ v
     → DraftFits (done ++ module_item h (ls ++ v ∷ []) os ∷ [])
-fits_local done h ls [] v fits may short at =
+fits_local done h ls [] v fits may kept at =
     joined done (module_item h (ls ++ v ∷ []) []) (front done (module_item h ls []) fits) (room done (module_item h ls []) fits)
-    (module_local (next_line done) h ls v (last done (module_item h ls []) fits) short at may.1)
-fits_local done h ls (o ∷ os) v fits may short at = absurd (omega (arith, may.0))
+    (module_local (next_line done) h ls v (last done (module_item h ls []) fits) kept at may.1)
+fits_local done h ls (o ∷ os) v fits may kept at = absurd (omega (arith, may.0))
 
 fits_operation : (done : Draft) (h : ModuleHead) (ls : List Named) (os : List DraftOperation) (l : ListingLine) (o : DraftOperation) (k n : ℕ) → l ≡ line_of k o
-    → DraftFits (done ++ module_item h ls os ∷ []) → MayStandInModule (length ls) (length os) (line_of k o) → ShortLineFits (line_of k o) → lined_line n (line_of k o) ≡ line_of k o
+    → DraftFits (done ++ module_item h ls os ∷ []) → MayStandInModule (length ls) (length os) (line_of k o) → ListingLineFits (line_of k o) → lined_line n (line_of k o) ≡ line_of k o
     → DraftFits (done ++ module_item h ls (os ++ o ∷ []) ∷ [])
-fits_operation done h ls os l o k n is fits may short lined =
+fits_operation done h ls os l o k n is fits may kept lined =
     joined done (module_item h ls (os ++ o ∷ [])) (front done (module_item h ls os) fits) (room done (module_item h ls os) fits)
-    (module_operation (next_line done) h ls os o (last done (module_item h ls os) fits) (subst (λ j. ShortLineFits (line_of j o)) may.0 short) (cc, cc) may.1)
+    (module_operation (next_line done) h ls os o (last done (module_item h ls os) fits) (subst (λ j. ListingLineFits (line_of j o)) may.0 kept) (cc, cc) may.1)
 
 fits_order : (done : Draft) (n : Ident) (xs : List src.Order) (x : src.Order) → DraftFits (done ++ simple_item (Outside n xs) ∷ [])
-    → MayStandInClient (length xs) (Order x) → ShortLineFits (Order x) → order_at (next_line done + 1 + length xs) x ≡ x
+    → MayStandInClient (length xs) (Order x) → ListingLineFits (Order x) → order_at (next_line done + 1 + length xs) x ≡ x
     → DraftFits (done ++ simple_item (Outside n (xs ++ x ∷ [])) ∷ [])
-fits_order done n xs x fits may short at =
+fits_order done n xs x fits may kept at =
     joined done (simple_item (Outside n (xs ++ x ∷ []))) (front done (simple_item (Outside n xs)) fits) (room done (simple_item (Outside n xs)) fits)
-    (client_order (next_line done) n xs x (last done (simple_item (Outside n xs)) fits) short at may)
+    (client_order (next_line done) n xs x (last done (simple_item (Outside n xs)) fits) kept at may)
 
 line_of_local : (done : Draft) (h : ModuleHead) (ls : List Named) (os : List DraftOperation) → length os ≡ 0 → length (said_as done (InModule h ls os)) + 1 ≡ next_line done + 1 + length ls
 line_of_local done h ls [] none =
@@ -144,42 +144,42 @@ line_of_order : (done : Draft) (n : Ident) (xs : List src.Order) → length (sai
 line_of_order done n xs = omega (arith, length-append (draft_lines done) (Client n ∷ map Order xs), length-map xs Order)
 
 fits_module : (done : Draft) (h : ModuleHead) (ls : List Named) (os : List DraftOperation) (l : ListingLine) → DraftFits (done ++ module_item h ls os ∷ [])
-    → MayStandInModule (length ls) (length os) l → ShortLineFits l → lined_line (length (said_as done (InModule h ls os)) + 1) l ≡ l → DraftFits (closed (in_module_with done h ls os l))
-fits_module done h ls os Title fits may short lined = absurd may
-fits_module done h ls os (Item d) fits may short lined = absurd may
-fits_module done h ls os (Head g) fits may short lined = absurd may
-fits_module done h ls os (Local v) fits may short lined =
+    → MayStandInModule (length ls) (length os) l → ListingLineFits l → lined_line (length (said_as done (InModule h ls os)) + 1) l ≡ l → DraftFits (closed (in_module_with done h ls os l))
+fits_module done h ls os Title fits may kept lined = absurd may
+fits_module done h ls os (Item d) fits may kept lined = absurd may
+fits_module done h ls os (Head g) fits may kept lined = absurd may
+fits_module done h ls os (Local v) fits may kept lined =
     let at : variable_at (length (said_as done (InModule h ls os)) + 1) v ≡ v = cc in
-    fits_local done h ls os v fits may short (subst (λ k. variable_at k v ≡ v) (line_of_local done h ls os may.0) at)
-fits_module done h ls os (Operation k p d i) fits may short lined =
-    fits_operation done h ls os (Operation k p d i) (record { place = p; depth = d; instruction = i }) k (length (said_as done (InModule h ls os)) + 1) refl fits may short lined
-fits_module done h ls os End fits may short lined = fits
-fits_module done h ls os (Client n) fits may short lined = absurd may
-fits_module done h ls os (Order x) fits may short lined = absurd may
-fits_module done h ls os Close fits may short lined = absurd may
+    fits_local done h ls os v fits may kept (subst (λ k. variable_at k v ≡ v) (line_of_local done h ls os may.0) at)
+fits_module done h ls os (Operation k p d i) fits may kept lined =
+    fits_operation done h ls os (Operation k p d i) (record { place = p; depth = d; instruction = i }) k (length (said_as done (InModule h ls os)) + 1) refl fits may kept lined
+fits_module done h ls os End fits may kept lined = fits
+fits_module done h ls os (Client n) fits may kept lined = absurd may
+fits_module done h ls os (Order x) fits may kept lined = absurd may
+fits_module done h ls os Close fits may kept lined = absurd may
 
 fits_client : (done : Draft) (n : Ident) (xs : List src.Order) (l : ListingLine) → DraftFits (done ++ simple_item (Outside n xs) ∷ [])
-    → MayStandInClient (length xs) l → ShortLineFits l → lined_line (length (said_as done (InClient n xs)) + 1) l ≡ l → DraftFits (closed (in_client_with done n xs l))
-fits_client done n xs Title fits may short lined = absurd may
-fits_client done n xs (Item d) fits may short lined = absurd may
-fits_client done n xs (Head h) fits may short lined = absurd may
-fits_client done n xs (Local v) fits may short lined = absurd may
-fits_client done n xs (Operation k p d i) fits may short lined = absurd may
-fits_client done n xs End fits may short lined = absurd may
-fits_client done n xs (Client m) fits may short lined = absurd may
-fits_client done n xs (Order x) fits may short lined =
+    → MayStandInClient (length xs) l → ListingLineFits l → lined_line (length (said_as done (InClient n xs)) + 1) l ≡ l → DraftFits (closed (in_client_with done n xs l))
+fits_client done n xs Title fits may kept lined = absurd may
+fits_client done n xs (Item d) fits may kept lined = absurd may
+fits_client done n xs (Head h) fits may kept lined = absurd may
+fits_client done n xs (Local v) fits may kept lined = absurd may
+fits_client done n xs (Operation k p d i) fits may kept lined = absurd may
+fits_client done n xs End fits may kept lined = absurd may
+fits_client done n xs (Client m) fits may kept lined = absurd may
+fits_client done n xs (Order x) fits may kept lined =
     let at : order_at (length (said_as done (InClient n xs)) + 1) x ≡ x = cc in
-    fits_order done n xs x fits may short (subst (λ k. order_at k x ≡ x) (line_of_order done n xs) at)
-fits_client done n xs Close fits may short lined = fits
+    fits_order done n xs x fits may kept (subst (λ k. order_at k x ≡ x) (line_of_order done n xs) at)
+fits_client done n xs Close fits may kept lined = fits
 
-fits_as : (done : Draft) (b : Begun) (l : ListingLine) → DraftFits (closed_as done b) → MayFollow (source_of done) b l → ShortLineFits l
+fits_as : (done : Draft) (b : Begun) (l : ListingLine) → DraftFits (closed_as done b) → MayFollow (source_of done) b l → ListingLineFits l
     → lined_line (length (said_as done b) + 1) l ≡ l → DraftFits (closed (going_on done b l))
-fits_as done Nothing l fits may short lined =
+fits_as done Nothing l fits may kept lined =
     let line : length (draft_lines done) + 1 ≡ next_line done = omega arith in
-    fits_nothing done l fits may short (subst (λ k. lined_line k l ≡ l) line lined)
-fits_as done (InModule h ls os) l fits may short lined = fits_module done h ls os l fits may short lined
-fits_as done (InClient n xs) l fits may short lined = fits_client done n xs l fits may short lined
+    fits_nothing done l fits may kept (subst (λ k. lined_line k l ≡ l) line lined)
+fits_as done (InModule h ls os) l fits may kept lined = fits_module done h ls os l fits may kept lined
+fits_as done (InClient n xs) l fits may kept lined = fits_client done n xs l fits may kept lined
 
 -- with one line more it stays within the limits
-pub fits_more : (s : SoFar) (l : ListingLine) → DraftFits (closed s) → MayStand s l → ShortLineFits l → lined_line (length (said s) + 1) l ≡ l → DraftFits (closed (with_line s l))
-fits_more s l fits may short lined = fits_as s.done s.begun l fits may short lined
+pub fits_more : (s : SoFar) (l : ListingLine) → DraftFits (closed s) → MayStand s l → ListingLineFits l → lined_line (length (said s) + 1) l ≡ l → DraftFits (closed (with_line s l))
+fits_more s l fits may kept lined = fits_as s.done s.begun l fits may kept lined

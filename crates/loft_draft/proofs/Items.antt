@@ -8,7 +8,8 @@ use Rattle.loft_tree.specs.declared.limits.TheConstants.{MAX_SCHEDULERS, MAX_EVE
 use Rattle.loft_tree.specs.Source.{Declaration, Scheduler, Event, Shared, Module, Start, Outside, Source}
 use Rattle.loft_tree.specs.Fits.{Each, DeclarationFits, SourceFits, is_scheduler, is_event, is_shared, is_module, is_start, is_outside}
 use Rattle.loft_rows.specs.Rows.{Title}
-use Rattle.loft_draft.specs.Drafts.{Draft, DraftItem, source_of, item_lines, draft_lines, ItemHolds, ShortLineFits, IsBare, lined_from, DraftFits}
+use Rattle.loft_draft.specs.Drafts.{Draft, DraftItem, source_of, item_lines, draft_lines, ItemHolds, IsBare, lined_from, DraftFits}
+use Rattle.loft_rows.specs.RowsFit.{ListingLineFits}
 use Rattle.loft_draft.specs.Lined.{lined_declaration}
 use Rattle.loft_draft.specs.Taking.{HasRoom}
 use Rattle.loft_draft.proofs.Lists.{each_append, each_left, each_right, one, count_end}
@@ -151,7 +152,7 @@ lined_back n (x ∷ xs) ys same =
 pub record ItemKeeps (line : ℕ) (i : DraftItem) : Type 0 where
   pub declaration : DeclarationFits i.declaration
   pub holds : ItemHolds i
-  pub lines : Each ShortLineFits (item_lines i)
+  pub lines : Each ListingLineFits (item_lines i)
   pub lined : lined_declaration line i.declaration ≡ i.declaration
   pub bare : Each IsBare i.operations
 
@@ -162,7 +163,7 @@ pub joined : (d : Draft) (i : DraftItem) → DraftFits d → HasRoom (source_of 
 joined d i fits room keeps = record {
   source = subst SourceFits (sym (source_end d i)) (source_join (source_of d) i.declaration fits.source keeps.declaration room);
   items = each_append ItemHolds d (i ∷ []) fits.items (keeps.holds, tt);
-  lines = subst (Each ShortLineFits) (sym (lines_end d i)) (each_append ShortLineFits (draft_lines d) (item_lines i) fits.lines keeps.lines);
+  lines = subst (Each ListingLineFits) (sym (lines_end d i)) (each_append ListingLineFits (draft_lines d) (item_lines i) fits.lines keeps.lines);
   lined = lined_append 2 d (i ∷ []) ∙ ap (λ is. is ++ lined_item (next_line d) i ∷ []) fits.lined ∙ ap (λ v. d ++ record { declaration = v; operations = i.operations } ∷ []) keeps.lined;
   bare = each_append AreBare d (i ∷ []) fits.bare (keeps.bare, tt);
 }
@@ -171,7 +172,7 @@ pub front : (d : Draft) (i : DraftItem) → DraftFits (d ++ i ∷ []) → DraftF
 front d i fits = record {
   source = source_left (source_of d) (i.declaration ∷ []) (subst SourceFits (source_end d i) fits.source);
   items = each_left ItemHolds d (i ∷ []) fits.items;
-  lines = each_left ShortLineFits (draft_lines d) (item_lines i) (subst (Each ShortLineFits) (lines_end d i) fits.lines);
+  lines = each_left ListingLineFits (draft_lines d) (item_lines i) (subst (Each ListingLineFits) (lines_end d i) fits.lines);
   lined = lined_front 2 d (i ∷ []) fits.lined;
   bare = each_left AreBare d (i ∷ []) fits.bare;
 }
@@ -187,7 +188,7 @@ last d i fits =
     record {
       declaration = (each_right DeclarationFits (source_of d) (i.declaration ∷ []) source.each).0;
       holds = (each_right ItemHolds d (i ∷ []) fits.items).0;
-      lines = each_right ShortLineFits (draft_lines d) (item_lines i) (subst (Each ShortLineFits) (lines_end d i) fits.lines);
+      lines = each_right ListingLineFits (draft_lines d) (item_lines i) (subst (Each ListingLineFits) (lines_end d i) fits.lines);
       lined = ap (λ j. j.declaration) same;
       bare = (each_right AreBare d (i ∷ []) fits.bare).0;
     }

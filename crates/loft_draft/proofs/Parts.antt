@@ -7,7 +7,8 @@ use Rattle.loft_tree.specs.Source.{Ident, Named, ModuleHead, Declaration, Schedu
 use Rattle.loft_tree.specs.Fits.{Each, NameFits, OrderFits}
 use Rattle.loft_code.specs.declared.limits.TheConstants.{MAX_OPERATIONS}
 use Rattle.loft_rows.specs.Rows.{ListingLine, Item, Head, Local, Operation, End, Client, Order, Close}
-use Rattle.loft_draft.specs.Drafts.{DraftOperation, ShortLineFits, IsBare, operation_lines}
+use Rattle.loft_draft.specs.Drafts.{DraftOperation, IsBare, operation_lines}
+use Rattle.loft_rows.specs.RowsFit.{ListingLineFits}
 use Rattle.loft_draft.specs.Lined.{head_at, variable_at, name_at, order_at, locals_from, orders_from, lined_declaration}
 use Rattle.loft_draft.specs.Taking.{module_item, simple_item}
 use Rattle.loft_draft.proofs.Lists.{each_append, each_left, each_right}
@@ -41,42 +42,36 @@ operations_end n (x ∷ xs) o =
 
 -- ---- declarations of one line
 
-pub one_line : (line : ℕ) (d : Declaration) → ShortLineFits (Item d) → lined_declaration line d ≡ d → ItemKeeps line (simple_item d)
-one_line line (Scheduler n) fits lined = record { declaration = fits.0.1; holds = refl; lines = (fits, tt); lined = lined; bare = tt }
-one_line line (Event n s) fits lined = record { declaration = fits.0.1; holds = refl; lines = (fits, tt); lined = lined; bare = tt }
-one_line line (Shared n s v) fits lined = record { declaration = fits.0.1; holds = refl; lines = (fits, tt); lined = lined; bare = tt }
-one_line line (Module h ls b) fits lined = absurd fits.0.0
-one_line line (Start s c args n) fits lined = record { declaration = fits.0.1; holds = refl; lines = (fits, tt); lined = lined; bare = tt }
-one_line line (Outside n xs) fits lined = absurd fits.0.0
+pub one_line : (line : ℕ) (d : Declaration) → ListingLineFits (Item d) → lined_declaration line d ≡ d → ItemKeeps line (simple_item d)
+one_line line (Scheduler n) fits lined = record { declaration = fits.1; holds = refl; lines = (fits, tt); lined = lined; bare = tt }
+one_line line (Event n s) fits lined = record { declaration = fits.1; holds = refl; lines = (fits, tt); lined = lined; bare = tt }
+one_line line (Shared n s v) fits lined = record { declaration = fits.1; holds = refl; lines = (fits, tt); lined = lined; bare = tt }
+one_line line (Module h ls b) fits lined = absurd fits.0
+one_line line (Start s c args n) fits lined = record { declaration = fits.1; holds = refl; lines = (fits, tt); lined = lined; bare = tt }
+one_line line (Outside n xs) fits lined = absurd fits.0
 
 -- ---- modules
 
-end_short : ShortLineFits End
-end_short = (tt, lit≤ tt)
-
-close_short : ShortLineFits Close
-close_short = (tt, lit≤ tt)
-
-pub module_begins : (line : ℕ) (h : ModuleHead) → ShortLineFits (Head h) → head_at line h ≡ h → ItemKeeps line (module_item h [] [])
+pub module_begins : (line : ℕ) (h : ModuleHead) → ListingLineFits (Head h) → head_at line h ≡ h → ItemKeeps line (module_item h [] [])
 module_begins line h fits lined = record {
   declaration = record {
-    name = fits.0.name;
-    parameters = fits.0.parameters;
-    few_parameters = fits.0.few_parameters;
-    begin = fits.0.begin;
-    end = fits.0.end;
+    name = fits.name;
+    parameters = fits.parameters;
+    few_parameters = fits.few_parameters;
+    begin = fits.begin;
+    end = fits.end;
     each_local = tt;
     few_locals = lit≤ tt;
     statements = tt;
     few_statements = lit≤ tt;
   };
   holds = (refl, lit≤ tt);
-  lines = (fits, (end_short, tt));
+  lines = (fits, (tt, tt));
   lined = ap (λ x. Module x [] Done) lined;
   bare = tt;
 }
 
-pub module_local : (line : ℕ) (h : ModuleHead) (ls : List Named) (v : Named) → ItemKeeps line (module_item h ls []) → ShortLineFits (Local v)
+pub module_local : (line : ℕ) (h : ModuleHead) (ls : List Named) (v : Named) → ItemKeeps line (module_item h ls []) → ListingLineFits (Local v)
     → variable_at (line + 1 + length ls) v ≡ v → length ls < MAX_LOCALS → ItemKeeps line (module_item h (ls ++ v ∷ []) [])
 module_local line h ls v keeps fits at few =
     let head : head_at line h ≡ h = cc (keeps.lined) in
@@ -88,7 +83,7 @@ module_local line h ls v keeps fits at few =
         few_parameters = keeps.declaration.few_parameters;
         begin = keeps.declaration.begin;
         end = keeps.declaration.end;
-        each_local = each_append (λ x. NameFits x.name) ls (v ∷ []) keeps.declaration.each_local (fits.0, tt);
+        each_local = each_append (λ x. NameFits x.name) ls (v ∷ []) keeps.declaration.each_local (fits, tt);
         few_locals = omega (arith, length-append ls (v ∷ []));
         statements = tt;
         few_statements = lit≤ tt;
@@ -96,7 +91,7 @@ module_local line h ls v keeps fits at few =
       holds = (refl, lit≤ tt);
       lines = (
         keeps.lines.0,
-        subst (λ xs. Each ShortLineFits (xs ++ End ∷ [])) (sym (map-append Local ls (v ∷ []))) (between ShortLineFits (map Local ls) (Local v ∷ []) (End ∷ []) keeps.lines.1 (fits, tt)),
+        subst (λ xs. Each ListingLineFits (xs ++ End ∷ [])) (sym (map-append Local ls (v ∷ []))) (between ListingLineFits (map Local ls) (Local v ∷ []) (End ∷ []) keeps.lines.1 (fits, tt)),
       );
       lined =
           ap (λ x. Module x (locals_from (line + 1) (ls ++ v ∷ [])) Done) head
@@ -105,41 +100,41 @@ module_local line h ls v keeps fits at few =
     }
 
 pub module_operation : (line : ℕ) (h : ModuleHead) (ls : List Named) (os : List DraftOperation) (o : DraftOperation) → ItemKeeps line (module_item h ls os)
-    → ShortLineFits (line_of (length os) o) → IsBare o → length os < MAX_OPERATIONS → ItemKeeps line (module_item h ls (os ++ o ∷ []))
+    → ListingLineFits (line_of (length os) o) → IsBare o → length os < MAX_OPERATIONS → ItemKeeps line (module_item h ls (os ++ o ∷ []))
 module_operation line h ls os o keeps fits bare few =
-    let rest = each_right ShortLineFits (map Local ls) (operation_lines 0 os ++ End ∷ []) keeps.lines.1 in
-    let fits0 : ShortLineFits (line_of (0 + length os) o) = subst (λ k. ShortLineFits (line_of k o)) (sym (zero-add (length os))) fits in
-    let grown = subst (λ xs. Each ShortLineFits (xs ++ End ∷ [])) (sym (operations_end 0 os o)) (between ShortLineFits (operation_lines 0 os) (line_of (0 + length os) o ∷ []) (End ∷ []) rest (fits0, tt)) in
+    let rest = each_right ListingLineFits (map Local ls) (operation_lines 0 os ++ End ∷ []) keeps.lines.1 in
+    let fits0 : ListingLineFits (line_of (0 + length os) o) = subst (λ k. ListingLineFits (line_of k o)) (sym (zero-add (length os))) fits in
+    let grown = subst (λ xs. Each ListingLineFits (xs ++ End ∷ [])) (sym (operations_end 0 os o)) (between ListingLineFits (operation_lines 0 os) (line_of (0 + length os) o ∷ []) (End ∷ []) rest (fits0, tt)) in
     record {
       declaration = keeps.declaration;
       holds = (refl, omega (arith, length-append os (o ∷ [])));
-      lines = (keeps.lines.0, each_append ShortLineFits (map Local ls) (operation_lines 0 (os ++ o ∷ []) ++ End ∷ []) (each_left ShortLineFits (map Local ls) (operation_lines 0 os ++ End ∷ []) keeps.lines.1) grown);
+      lines = (keeps.lines.0, each_append ListingLineFits (map Local ls) (operation_lines 0 (os ++ o ∷ []) ++ End ∷ []) (each_left ListingLineFits (map Local ls) (operation_lines 0 os ++ End ∷ []) keeps.lines.1) grown);
       lined = keeps.lined;
       bare = each_append IsBare os (o ∷ []) keeps.bare (bare, tt);
     }
 
 -- ---- clients
 
-pub client_begins : (line : ℕ) (n : Ident) → ShortLineFits (Client n) → name_at line n ≡ n → ItemKeeps line (simple_item (Outside n []))
+pub client_begins : (line : ℕ) (n : Ident) → ListingLineFits (Client n) → name_at line n ≡ n → ItemKeeps line (simple_item (Outside n []))
 client_begins line n fits lined = record {
-  declaration = (fits.0, tt, lit≤ tt);
+  declaration = (fits, tt, lit≤ tt);
   holds = refl;
-  lines = (fits, (close_short, tt));
+  lines = (fits, (tt, tt));
   lined = ap (λ x. Outside x []) lined;
   bare = tt;
 }
 
-pub client_order : (line : ℕ) (n : Ident) (xs : List src.Order) (x : src.Order) → ItemKeeps line (simple_item (Outside n xs)) → ShortLineFits (Order x)
+pub client_order : (line : ℕ) (n : Ident) (xs : List src.Order) (x : src.Order) → ItemKeeps line (simple_item (Outside n xs)) → ListingLineFits (Order x)
     → order_at (line + 1 + length xs) x ≡ x → length xs < MAX_ORDERS → ItemKeeps line (simple_item (Outside n (xs ++ x ∷ [])))
 client_order line n xs x keeps fits at few =
     let name : name_at line n ≡ n = cc (keeps.lined) in
     let orders : orders_from (line + 1) xs ≡ xs = cc (keeps.lined) in
     record {
-      declaration = (keeps.declaration.0, each_append OrderFits xs (x ∷ []) keeps.declaration.1 (fits.0, tt), omega (arith, length-append xs (x ∷ [])));
+      declaration = (keeps.declaration.0, each_append OrderFits xs (x ∷ []) keeps.declaration.1 (fits, tt), omega (arith, length-append xs (x ∷ [])));
       holds = refl;
       lines = (
         keeps.lines.0,
-        subst (λ ys. Each ShortLineFits (ys ++ Close ∷ [])) (sym (map-append Order xs (x ∷ []))) (between ShortLineFits (map Order xs) (Order x ∷ []) (Close ∷ []) keeps.lines.1 (fits, tt)),
+        subst (λ ys. Each ListingLineFits (ys ++ Close ∷ [])) (sym (map-append Order xs (x ∷ []))) (between ListingLineFits (map Order xs) (Order x ∷ []) (Close ∷ []) keeps.lines.1 (fits, tt)),
       );
       lined =
           ap (λ y. Outside y (orders_from (line + 1) (xs ++ x ∷ []))) name

@@ -2,6 +2,7 @@
 use Rattle.std.proofs.Common.{◌≡◌, ℕ, ◌+◌, ◌≤◌, List, [], ◌∷◌, ◌++◌, length, Option, Some, None, IfSome, Result, Ok, Err, IfOk, refl, sym, ap, subst, ◌∙◌, length-append, arith}
 use Rattle.loft_rows.specs.Rows.{ListingLine, Title, line_text}
 use Rattle.loft_base.specs.declared.errors.NoMemory.{NoMemory}
+use Rattle.loft_draft.specs.declared.draft.TheConstants.{MAX_LISTING_LEN}
 use Rattle.loft_draft.specs.declared.draft.Draft.{Draft as DraftInMemory}
 use Rattle.loft_draft.specs.declared.draft.Drafted.{Drafted}
 use Rattle.loft_draft.specs.declared.sofar.SoFar.{SoFar as SoFarInMemory}
@@ -38,6 +39,10 @@ goes_on text m more rest after line reading l on =
       number = omega (arith, reading.number, length-append ls (l ∷ []));
       few = omega (arith, reading.few, on.shorter);
     }
+
+-- what is left is no longer than the text
+pub left_short : (text : List ℕ) (m : SoFarInMemory) (rest : List ℕ) (line : ℕ) → Reading text m rest line → length text ≤ MAX_LISTING_LEN → length rest ≤ MAX_LISTING_LEN
+left_short text m rest line reading short = omega (arith, reading.few, reading.number, short)
 
 -- no line goes on
 pub record Stopped (m : SoFarInMemory) (rest : List ℕ) (line : ℕ) : Type 0 where

@@ -2,7 +2,7 @@
 use Rattle.std.proofs.Common.{◌≡◌, ℕ, ◌+◌, ◌<◌, ◌≤◌, List, [], ◌∷◌, ◌++◌, length, Option, Some, None, IfSome, map, refl, sym, ap, subst, ◌∙◌, append_assoc, zero-add, length-append, arith}
 use Rattle.std.specs.Option.{option_map}
 use Rattle.std.proofs.lemmas.List.{length-map}
-use Rattle.loft_lex.specs.declared.TheConstants.{MAX_TEXT_LEN}
+use Rattle.loft_lex.specs.declared.TheConstants.{MAX_OFFSET}
 use Rattle.loft_tree.specs.Source as src
 use Rattle.loft_tree.specs.Source.{Declaration, Named, Scheduler, Event, Shared, Module, Start, Outside, Source}
 use Rattle.loft_tree.specs.View.{head_of, named_of, order_of}
@@ -14,6 +14,7 @@ use Rattle.loft_rows.specs.RowsFit.{IsLine}
 use Rattle.loft_rows.specs.RowView.{row_of}
 use Rattle.loft_rows.specs.Feeds.{EndsAtItsFeed}
 use Rattle.loft_rows.proofs.Feeds.{line_ends_at_feed}
+use Rattle.loft_draft.specs.declared.draft.TheConstants.{MAX_LISTING_LEN}
 use Rattle.loft_draft.specs.declared.closed.Closed.{Closed}
 use Rattle.loft_draft.specs.declared.sofar.Open.TheVariants as begun
 use Rattle.loft_draft.specs.declared.sofar.OpenClient.{OpenClient}
@@ -142,21 +143,22 @@ operation_goes m o rest after k op written next few s holds =
 
 -- ---- the line with which a text begins
 
+pub line_short : (text written after : List ℕ) → length text ≤ MAX_LISTING_LEN → text ≡ written ++ after → length written ≤ MAX_OFFSET
+line_short text written after short whole = omega (arith, short, ap length whole, length-append written after)
+
 -- a text is cut so into its first line and what stands after it, and the line says this
 pub record IsFirst (text written after : List ℕ) (row : Row) : Type 0 where
   pub feed : EndsAtItsFeed written
   pub whole : text ≡ written ++ after
   pub cut : (line rest : List ℕ) → EndsAtItsFeed line → text ≡ line ++ rest → (written ≡ line) × (after ≡ rest)
-  pub short : length written ≤ MAX_TEXT_LEN
   pub says : IsLine written (row_of row)
   pub only : (l : ListingLine) → IsLine written l → bare_line (row_of row) ≡ bare_line l
 
 pub row_stands : (n : ℕ) (text written after : List ℕ) (row : Row) → IsFirst text written after row → StandsAt n text after (lined_line n (row_of row))
 row_stands n text written after row is =
     let same = is.says.written ∙ sym (line_at_text n (row_of row) is.says.fits) in
-    let P : List ℕ → Type 0 = λ t. length t ≤ MAX_TEXT_LEN in
     record {
-      fits = (line_at_fits n (row_of row) is.says.fits, subst P same is.short);
+      fits = line_at_fits n (row_of row) is.says.fits;
       lined = line_twice n n (row_of row) is.says.fits;
       written = is.whole ∙ ap (λ t. t ++ after) same;
     }
@@ -164,9 +166,9 @@ row_stands n text written after row is =
 pub row_only : (n : ℕ) (text written after : List ℕ) (row : Row) → IsFirst text written after row → (k : ListingLine) (rest : List ℕ) → StandsAt n text rest k
     → (k ≡ lined_line n (row_of row)) × (rest ≡ after)
 row_only n text written after row is k rest stands =
-    let parts = is.cut (line_text k) rest (line_ends_at_feed k stands.fits.0) stands.written in
-    let same = is.only k (record { fits = stands.fits.0; written = parts.0 }) in
-    (sym stands.lined ∙ sym (same_lined n (row_of row) k is.says.fits stands.fits.0 same), sym parts.1)
+    let parts = is.cut (line_text k) rest (line_ends_at_feed k stands.fits) stands.written in
+    let same = is.only k (record { fits = stands.fits; written = parts.0 }) in
+    (sym stands.lined ∙ sym (same_lined n (row_of row) k is.says.fits stands.fits same), sym parts.1)
 
 shorter : (text written after : List ℕ) → EndsAtItsFeed written → text ≡ written ++ after → length after < length text
 shorter text written after (front, ends, plain) whole =

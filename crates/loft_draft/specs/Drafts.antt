@@ -1,7 +1,6 @@
 -- Listings with names as they are written (docs/CODE.md, "What a listing says").
 use Rattle.std.specs.Prelude.{◌≡◌, ℕ, ◌+◌, ◌≤◌, List, [], ◌∷◌, ◌++◌, length, map}
 use Rattle.std.specs.List.{flat_map}
-use Rattle.loft_lex.specs.declared.TheConstants.{MAX_TEXT_LEN}
 use Rattle.loft_tree.specs.Source.{PlaceName, Declaration, Scheduler, Event, Shared, Module, Start, Outside, Source, Done}
 use Rattle.loft_tree.specs.Fits.{Each, SourceFits}
 use Rattle.loft_code.specs.declared.limits.TheConstants.{MAX_OPERATIONS}
@@ -66,10 +65,6 @@ HasOperations (Outside name orders) os = os ≡ []
 abbrev pub ItemHolds : DraftItem → Type 0
 ItemHolds i = HasOperations i.declaration i.operations
 
--- a line that a listing can have, of at most 4 MiB
-abbrev pub ShortLineFits : ListingLine → Type 0
-ShortLineFits l = ListingLineFits l × (length (line_text l) ≤ MAX_TEXT_LEN)
-
 -- ---- offsets: of a name outside operations it is the number of its line, from 1, and in operations it is 0
 
 abbrev pub IsBare : DraftOperation → Type 0
@@ -84,7 +79,7 @@ lined_from line (i ∷ is) =
 pub record DraftFits (d : Draft) : Type 0 where
   pub source : SourceFits (source_of d)
   pub items : Each ItemHolds d
-  pub lines : Each ShortLineFits (draft_lines d)
+  pub lines : Each ListingLineFits (draft_lines d)
   pub lined : lined_from 2 d ≡ d
   pub bare : Each (λ i. Each IsBare i.operations) d
 

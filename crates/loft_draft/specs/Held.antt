@@ -6,6 +6,7 @@ use Rattle.loft_tree.specs.View.{named_of, head_of, order_of}
 use Rattle.loft_tree.specs.declared.limits.TheConstants.{MAX_MODULES, MAX_CLIENTS}
 use Rattle.loft_tree.specs.Fits.{is_scheduler, is_event, is_shared, is_module, is_start, is_outside}
 use Rattle.loft_rows.specs.Rows.{ListingLine, line_text}
+use Rattle.loft_rows.specs.RowsFit.{ListingLineFits}
 use Rattle.loft_draft.specs.declared.counts.Counts.{Counts}
 use Rattle.loft_draft.specs.declared.closed.Closed.{Closed}
 use Rattle.loft_draft.specs.declared.sofar.Open.{Open}
@@ -15,7 +16,7 @@ use Rattle.loft_draft.specs.declared.take.Taken.{Taken}
 use Rattle.loft_draft.specs.declared.take.Taken.TheVariants as taken
 use Rattle.loft_draft.specs.declared.read.Next.{Next}
 use Rattle.loft_draft.specs.declared.read.Next.TheVariants as next
-use Rattle.loft_draft.specs.Drafts.{Draft, DraftOperation, ShortLineFits, source_of, operation_lines, lines_text}
+use Rattle.loft_draft.specs.Drafts.{Draft, DraftOperation, source_of, operation_lines, lines_text}
 use Rattle.loft_draft.specs.InMemory.{IsInMemory}
 use Rattle.loft_draft.specs.Taking.{Begun, Nothing, InModule, InClient, SoFar, MayStand, with_line, lined_line}
 
@@ -61,7 +62,7 @@ TakesIn m begun rest l t after = Takes (record { done = m; begun = begun }) rest
 
 -- the text begins with this fitting line, which is line n
 pub record StandsAt (n : ℕ) (text after : List ℕ) (l : ListingLine) : Type 0 where
-  pub fits : ShortLineFits l
+  pub fits : ListingLineFits l
   pub lined : lined_line n l ≡ l
   pub written : text ≡ line_text l ++ after
 

@@ -15,7 +15,6 @@ use crate::draft::{Drafted, MAX_LISTING_LEN};
 use crate::sofar::{Open, SoFar};
 use crate::take::{Spot, Taken};
 use loft_base::{NoMemory, Room};
-use loft_lex::MAX_TEXT_LEN;
 use loft_rows::{first_line, read_row};
 use std::alloc::Global;
 
@@ -38,14 +37,12 @@ fn take_line<'a>(
     line: u32,
     text: &'a [u8],
 ) -> Result<Next<'a>, NoMemory>
+    requires short { length text.now ≤ MAX_LISTING_LEN }
     ensures { IfOk result (Follows sofar.entry line text.now) }
 {
     let Some((written, after)) = first_line(text) else {
         return Ok(Next::Stop(sofar));
     };
-    if written.len() > MAX_TEXT_LEN {
-        return Ok(Next::Stop(sofar));
-    }
     let Some(row) = read_row(alloc, written)? else {
         return Ok(Next::Stop(sofar));
     };
@@ -115,8 +112,8 @@ fn read_lines<'a>(alloc: Global, text: &'a [u8]) -> Result<Drafted<'a>, NoMemory
 
 /// What a listing says, with names as they are written, and of its operations the text
 /// (docs/CODE.md, "What a listing says"). Where the text is no listing, what the lines before its
-/// stop say: the first line that is none of a listing, has more than 4 MiB, may not stand there, is
-/// one more than a limit allows, or isn't there. The text has at most 128 MiB.
+/// stop say: the first line that is none of a listing, may not stand there, is one more than a limit
+/// allows, or isn't there. The text has at most 128 MiB.
 ///
 /// # Errors
 ///

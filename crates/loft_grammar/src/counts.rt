@@ -39,8 +39,8 @@ pub enum Counted {
     Choice,
 }
 
-/// How many of each there were so far. What isn't always limited is counted in 32 bits, which no text of at most 4 MiB
-/// passes.
+/// How many of each there were so far. What isn't always limited is counted in 32 bits, which no text of
+/// less than 4 GiB passes.
 #[derive(Clone, Copy)]
 pub struct Counts {
     pub schedulers: u16,

@@ -31,7 +31,7 @@ fn one_more<L: Limited>(left: usize, what: Counted, counts: Counts) -> Result<Co
     }
     match counts.one_more(what) {
         Some(counts) => Ok(counts),
-        // No text of at most 4 MiB has so many.
+        // No text of less than 4 GiB has so many.
         None => Err(Stop::NoMemory),
     }
 }

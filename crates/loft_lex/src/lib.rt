@@ -27,6 +27,9 @@ pub use word::Word;
 /// The most bytes that a text may have: 4 MiB.
 pub const MAX_TEXT_LEN: usize = 4194304;
 
+/// The largest offset, which has 32 bits: the most bytes of a text that symbols can be read of.
+pub const MAX_OFFSET: usize = 4294967295;
+
 /// The tokens of a text.
 ///
 /// # Errors

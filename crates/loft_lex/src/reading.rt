@@ -4,7 +4,7 @@ ghost use Rattle.std.specs.Prelude.{◌≤◌, IfOk, IfErr, length};
 ghost use Rattle.loft_lex.specs.TextSymbols.{symbols_seen, SymbolsOf};
 ghost use Rattle.loft_lex.specs.Tokens.{IsFirstFault};
 
-use crate::MAX_TEXT_LEN;
+use crate::MAX_OFFSET;
 use crate::front::{Step, next_step};
 use crate::symbol::Symbol;
 use crate::token::LexError;
@@ -17,7 +17,7 @@ use std::alloc::Global;
 /// The first lexical fault of the text in reading order and its offset; `NoMemory` where the memory
 /// for the symbols ran out, whatever the text is.
 pub fn read_symbols<'a>(alloc: Global, text: &'a [u8]) -> Result<Vec<Symbol<'a>>, LexError>
-    requires { length text.now ≤ MAX_TEXT_LEN }
+    requires { length text.now ≤ MAX_OFFSET }
     ensures found { IfOk result (λ found. SymbolsOf text.now (symbols_seen found.items)) }
     ensures fault { IfErr result (IsFirstFault text.now) }
 {

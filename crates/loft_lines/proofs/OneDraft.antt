@@ -5,7 +5,8 @@ use Rattle.std.specs.List.{Contains, flat_map}
 use Rattle.loft_tree.specs.Fits.{Each}
 use Rattle.loft_tree.specs.Source.{Source}
 use Rattle.loft_rows.specs.Rows.{Close, End, ListingLine, Title, line_text}
-use Rattle.loft_draft.specs.Drafts.{Draft, DraftFits, IsListing, ShortLineFits, draft_lines, item_lines, lines_text, source_of}
+use Rattle.loft_draft.specs.Drafts.{Draft, DraftFits, IsListing, draft_lines, item_lines, lines_text, source_of}
+use Rattle.loft_rows.specs.RowsFit.{ListingLineFits}
 use Rattle.loft_draft.specs.Stops.{IsBegun, StopsAt, closings}
 use Rattle.loft_draft.specs.Taking.{Begun, InClient, InModule, MayFollow, Nothing, SoFar, closing, lined_line}
 use Rattle.loft_draft.proofs.Following.{line_there}
@@ -27,8 +28,8 @@ each_at : {A : Type 0} (P : A → Type 0) (xs : List A) (x : A) (ys : List A) �
 each_at P [] x ys all = all.0
 each_at P (y ∷ xs) x ys all = each_at P xs x ys all.1
 
-fits_at : (d : Draft) → DraftFits d → (p : List ListingLine) (l : ListingLine) (more : List ListingLine) → draft_lines d ≡ p ++ l ∷ more → ShortLineFits l
-fits_at d fits p l more is = each_at ShortLineFits p l more (subst (Each ShortLineFits) is fits.lines)
+fits_at : (d : Draft) → DraftFits d → (p : List ListingLine) (l : ListingLine) (more : List ListingLine) → draft_lines d ≡ p ++ l ∷ more → ListingLineFits l
+fits_at d fits p l more is = each_at ListingLineFits p l more (subst (Each ListingLineFits) is fits.lines)
 
 -- two drafts go on with one line where their texts do
 one_at : (d e : Draft) → DraftFits d → DraftFits e → (p : List ListingLine) (l k : ListingLine) (ls ks : List ListingLine) (a b : List ℕ)
@@ -36,8 +37,8 @@ one_at : (d e : Draft) → DraftFits d → DraftFits e → (p : List ListingLine
 one_at d e fits fit p l k ls ks a b is also same =
     let first = fits_at d fits p l ls is in
     let second = fits_at e fit p k ks also in
-    let next = one_next l k a b first.0 second.0 same in
-    (sym (placed d fits p l ls is) ∙ same_lined (length p + 1) l k first.0 second.0 next.0 ∙ placed e fit p k ks also, next.1)
+    let next = one_next l k a b first second same in
+    (sym (placed d fits p l ls is) ∙ same_lined (length p + 1) l k first second next.0 ∙ placed e fit p k ks also, next.1)
 
 -- one line more that both have
 further : (p : List ListingLine) (l : ListingLine) (ls all : List ListingLine) → all ≡ p ++ l ∷ ls → all ≡ (p ++ l ∷ []) ++ ls

@@ -3,7 +3,7 @@ use Rattle.std.specs.Prelude.{◌≡◌, ℕ, ◌≤◌, List, [], ◌∷◌, le
 use Rattle.std.specs.Global.{Vec}
 use Rattle.loft_base.specs.declared.errors.NoMemory.{NoMemory}
 use Rattle.loft_lex.specs.declared.symbol.Symbol.{Symbol as SymbolInMemory}
-use Rattle.loft_lex.specs.declared.TheConstants.{MAX_TEXT_LEN}
+use Rattle.loft_lex.specs.declared.TheConstants.{MAX_OFFSET}
 use Rattle.loft_lex.specs.declared.token.Token.{Token}
 use Rattle.loft_lex.specs.Cut.{Cut}
 use Rattle.loft_lex.specs.Symbol.{symbols}
@@ -14,7 +14,7 @@ use Rattle.loft_grammar.specs.declared.cursor.Cursor.{Cursor}
 
 -- the symbols that were found in a text; there are none where it has a lexical fault or is too long
 abbrev pub IsCut : List ℕ → Option (Vec SymbolInMemory) → Type 0
-IsCut text None = length text ≤ MAX_TEXT_LEN → (ts : List Token) → Cut text (Ok ts) → ⊥
+IsCut text None = length text ≤ MAX_OFFSET → (ts : List Token) → Cut text (Ok ts) → ⊥
 IsCut text (Some found) = SymbolsOf text (symbols_seen found.items)
 
 -- what was read, if no symbol is left

@@ -18,7 +18,7 @@ ghost use Rattle.loft_grammar.specs.View.{symbols_at, state_at};
 use loft_base::NoMemory;
 use loft_form::Stop;
 use loft_grammar::{LineLimits, Reader, SourceLimits};
-use loft_lex::{LexError, MAX_TEXT_LEN, Symbol, read_symbols};
+use loft_lex::{LexError, MAX_OFFSET, Symbol, read_symbols};
 use loft_parts::body::statement;
 use loft_parts::expression::whole;
 use loft_parts::head::{head, local};
@@ -32,7 +32,7 @@ use std::alloc::Global;
 fn symbols_of<'a>(alloc: Global, text: &'a [u8]) -> Result<Option<Vec<Symbol<'a>>>, NoMemory>
     ensures { IfOk result (IsCut text.now) }
 {
-    if text.len() > MAX_TEXT_LEN {
+    if text.len() > MAX_OFFSET {
         return Ok(None);
     }
     match read_symbols(alloc, text) {
@@ -69,7 +69,7 @@ fn all_of<'a, T: Drop>(part: T, at: Reader<'a>) -> Result<Option<T>, NoMemory>
     }
 }
 
-/// The statement that the text is, within the limits of a line; nothing where it is none, or has more than 4 MiB
+/// The statement that the text is, within the limits of a line; nothing where it is none, or has 4 GiB or more
 /// (docs/LANGUAGE.md, "Parts of a source").
 ///
 /// # Errors
@@ -79,7 +79,7 @@ pub fn read_statement(alloc: Global, text: &[u8]) -> Result<Option<Stmt>, NoMemo
     ensures read { IfOk result (λ found. IfSome found (λ v.
         SpellsPart line_limits statement text.now (statement_of v))) }
     ensures only { (x : Statement)
-        → SpellsPart line_limits statement text.now x → length text.now ≤ MAX_TEXT_LEN
+        → SpellsPart line_limits statement text.now x → length text.now ≤ MAX_OFFSET
         → IfOk result (λ found. option_map statement_of found ≡ Some x) }
     ensures fits { IfOk result (λ found. IfSome found (λ v. LineFits (statement_of v))) }
 {
@@ -93,7 +93,7 @@ pub fn read_statement(alloc: Global, text: &[u8]) -> Result<Option<Stmt>, NoMemo
     }
 }
 
-/// The expression that the text is; nothing where it is none, or has more than 4 MiB
+/// The expression that the text is; nothing where it is none, or has 4 GiB or more
 /// (docs/LANGUAGE.md, "Parts of a source").
 ///
 /// # Errors
@@ -103,7 +103,7 @@ pub fn read_expression(alloc: Global, text: &[u8]) -> Result<Option<Expr>, NoMem
     ensures read { IfOk result (λ found. IfSome found (λ v.
         SpellsPart limits whole text.now (expression_of v))) }
     ensures only { (x : Expression)
-        → SpellsPart limits whole text.now x → length text.now ≤ MAX_TEXT_LEN
+        → SpellsPart limits whole text.now x → length text.now ≤ MAX_OFFSET
         → IfOk result (λ found. option_map expression_of found ≡ Some x) }
     ensures fits { IfOk result (λ found. IfSome found (λ v.
         ExpressionFits nesting (expression_of v))) }
@@ -118,7 +118,7 @@ pub fn read_expression(alloc: Global, text: &[u8]) -> Result<Option<Expr>, NoMem
     }
 }
 
-/// The declaration that the text is; nothing where it is none, or has more than 4 MiB
+/// The declaration that the text is; nothing where it is none, or has 4 GiB or more
 /// (docs/LANGUAGE.md, "Parts of a source").
 ///
 /// # Errors
@@ -128,7 +128,7 @@ pub fn read_declaration(alloc: Global, text: &[u8]) -> Result<Option<Item>, NoMe
     ensures read { IfOk result (λ found. IfSome found (λ v.
         SpellsPart limits item text.now (declaration_of v))) }
     ensures only { (x : Declaration)
-        → SpellsPart limits item text.now x → length text.now ≤ MAX_TEXT_LEN
+        → SpellsPart limits item text.now x → length text.now ≤ MAX_OFFSET
         → IfOk result (λ found. option_map declaration_of found ≡ Some x) }
     ensures fits { IfOk result (λ found. IfSome found (λ v. DeclarationFits (declaration_of v))) }
 {
@@ -142,7 +142,7 @@ pub fn read_declaration(alloc: Global, text: &[u8]) -> Result<Option<Item>, NoMe
     }
 }
 
-/// The line of a module up to its local variables that the text is; nothing where it is none, or has more than 4 MiB
+/// The line of a module up to its local variables that the text is; nothing where it is none, or has 4 GiB or more
 /// (docs/LANGUAGE.md, "Parts of a source").
 ///
 /// # Errors
@@ -152,7 +152,7 @@ pub fn read_head(alloc: Global, text: &[u8]) -> Result<Option<ModuleHead>, NoMem
     ensures read { IfOk result (λ found. IfSome found (λ v.
         SpellsPart limits head text.now (head_of v))) }
     ensures only { (x : Head)
-        → SpellsPart limits head text.now x → length text.now ≤ MAX_TEXT_LEN
+        → SpellsPart limits head text.now x → length text.now ≤ MAX_OFFSET
         → IfOk result (λ found. option_map head_of found ≡ Some x) }
     ensures fits { IfOk result (λ found. IfSome found (λ v. HeadFits (head_of v))) }
 {
@@ -166,7 +166,7 @@ pub fn read_head(alloc: Global, text: &[u8]) -> Result<Option<ModuleHead>, NoMem
     }
 }
 
-/// The local variable that the text declares; nothing where it is none, or has more than 4 MiB
+/// The local variable that the text declares; nothing where it is none, or has 4 GiB or more
 /// (docs/LANGUAGE.md, "Parts of a source").
 ///
 /// # Errors
@@ -176,7 +176,7 @@ pub fn read_local(alloc: Global, text: &[u8]) -> Result<Option<Variable>, NoMemo
     ensures read { IfOk result (λ found. IfSome found (λ v.
         SpellsPart limits local text.now (named_of v))) }
     ensures only { (x : Named)
-        → SpellsPart limits local text.now x → length text.now ≤ MAX_TEXT_LEN
+        → SpellsPart limits local text.now x → length text.now ≤ MAX_OFFSET
         → IfOk result (λ found. option_map named_of found ≡ Some x) }
     ensures fits { IfOk result (λ found. IfSome found (λ v. NamedFits (named_of v))) }
 {
@@ -190,7 +190,7 @@ pub fn read_local(alloc: Global, text: &[u8]) -> Result<Option<Variable>, NoMemo
     }
 }
 
-/// The order of an outside client that the text is; nothing where it is none, or has more than 4 MiB
+/// The order of an outside client that the text is; nothing where it is none, or has 4 GiB or more
 /// (docs/LANGUAGE.md, "Parts of a source").
 ///
 /// # Errors
@@ -200,7 +200,7 @@ pub fn read_order(alloc: Global, text: &[u8]) -> Result<Option<OutsideOrder>, No
     ensures read { IfOk result (λ found. IfSome found (λ v.
         SpellsPart limits order text.now (order_of v))) }
     ensures only { (x : Order)
-        → SpellsPart limits order text.now x → length text.now ≤ MAX_TEXT_LEN
+        → SpellsPart limits order text.now x → length text.now ≤ MAX_OFFSET
         → IfOk result (λ found. option_map order_of found ≡ Some x) }
     ensures fits { IfOk result (λ found. IfSome found (λ v. OrderFits (order_of v))) }
 {

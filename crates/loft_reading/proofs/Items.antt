@@ -13,7 +13,8 @@ use Rattle.loft_scopes.specs.Modules.{next_module}
 use Rattle.loft_scopes.specs.Scopes.{Declared}
 use Rattle.loft_code.specs.Operations.{Line}
 use Rattle.loft_rows.specs.Rows.{Local, End}
-use Rattle.loft_draft.specs.Drafts.{Draft, DraftItem, DraftOperation, DraftFits, HasOperations, ItemHolds, IsBare, ShortLineFits, declaration_lines, item_lines, lined_from, lines_text, operation_lines}
+use Rattle.loft_draft.specs.Drafts.{Draft, DraftItem, DraftOperation, DraftFits, HasOperations, ItemHolds, IsBare, declaration_lines, item_lines, lined_from, lines_text, operation_lines}
+use Rattle.loft_rows.specs.RowsFit.{ListingLineFits}
 use Rattle.loft_draft.specs.InMemory.{operations_text}
 use Rattle.loft_draft.specs.Lined.{head_at, lined_declaration}
 use Rattle.loft_wrong.specs.Wrong.{first_operation, modules_wrong, operations_wrong, IsLeast}
@@ -43,13 +44,13 @@ length_operations number (o ∷ os) = let rest = length_operations (number + 1) 
 none_said : (os : List DraftOperation) → os ≡ [] → Says (lines_text (operation_lines 0 os)) 0 os
 none_said os none = subst (λ xs. Says (lines_text (operation_lines 0 xs)) 0 xs) (sym none) (record { fits = tt; bare = tt; written = refl })
 
-pub declaration_says : (d : Declaration) (os : List DraftOperation) → HasOperations d os → Each ShortLineFits (declaration_lines d os) → Each IsBare os
+pub declaration_says : (d : Declaration) (os : List DraftOperation) → HasOperations d os → Each ListingLineFits (declaration_lines d os) → Each IsBare os
     → Says (lines_text (operation_lines 0 os)) 0 os
 declaration_says (Scheduler name) os holds fits bare = none_said os holds
 declaration_says (Event name scheduler) os holds fits bare = none_said os holds
 declaration_says (Shared name scheduler value) os holds fits bare = none_said os holds
 declaration_says (Module head locals body) os holds fits bare = record {
-  fits = each_left ShortLineFits (operation_lines 0 os) (End ∷ []) (each_right ShortLineFits (map Local locals) (operation_lines 0 os ++ End ∷ []) fits.1);
+  fits = each_left ListingLineFits (operation_lines 0 os) (End ∷ []) (each_right ListingLineFits (map Local locals) (operation_lines 0 os ++ End ∷ []) fits.1);
   bare = bare;
   written = refl;
 }
@@ -129,7 +130,7 @@ module _ (ds : List Declared) where
       pub declares : declarations ≡ map (λ i. i.declaration) items
       pub written : texts ≡ map operations_text items
       pub holds : Each ItemHolds items
-      pub fits : Each ShortLineFits (flat_map item_lines items)
+      pub fits : Each ListingLineFits (flat_map item_lines items)
       pub bare : Each (λ i. Each IsBare i.operations) items
       pub lined : lined_from line items ≡ items
       pub code : done ++ modules_from ds number items ≡ modules_from ds 0 d
@@ -160,7 +161,7 @@ module _ (ds : List Declared) where
 
     first_of : (declaration : Declaration) (text : List ℕ) (declarations : List Declaration) (texts : List (List ℕ)) (number : ℕ) (done : List (List Line)) (items : Draft) (line : ℕ)
         → declaration ∷ declarations ≡ map (λ i. i.declaration) items → text ∷ texts ≡ map operations_text items
-        → Each ItemHolds items → Each ShortLineFits (flat_map item_lines items) → Each (λ i. Each IsBare i.operations) items → lined_from line items ≡ items
+        → Each ItemHolds items → Each ListingLineFits (flat_map item_lines items) → Each (λ i. Each IsBare i.operations) items → lined_from line items ≡ items
         → done ++ modules_from ds number items ≡ modules_from ds 0 d → modules_wrong ds number items ≡ modules_wrong ds 0 d
         → FirstItem declaration text declarations texts number done
     first_of declaration text declarations texts number done [] line declares written holds fits bare lined code wrong = absurd (cc declares)
@@ -168,7 +169,7 @@ module _ (ds : List Declared) where
         let first : declaration ≡ i.declaration = cc declares in
         let others : declarations ≡ map (λ x. x.declaration) is = cc declares in
         let says : Says (operations_text i) 0 i.operations =
-        declaration_says i.declaration i.operations holds.0 (each_left ShortLineFits (item_lines i) (flat_map item_lines is) fits) bare.0 in
+        declaration_says i.declaration i.operations holds.0 (each_left ListingLineFits (item_lines i) (flat_map item_lines is) fits) bare.0 in
         let here : text ≡ operations_text i = cc written in
         let there : texts ≡ map operations_text is = cc written in
         record {
@@ -180,7 +181,7 @@ module _ (ds : List Declared) where
             declares = others;
             written = there;
             holds = holds.1;
-            fits = each_right ShortLineFits (item_lines i) (flat_map item_lines is) fits;
+            fits = each_right ListingLineFits (item_lines i) (flat_map item_lines is) fits;
             bare = bare.1;
             lined = rest_lined line i is lined;
             code = ap (λ ls. ls ++ modules_from ds (next_module number i.declaration) is) put

@@ -15,7 +15,8 @@ use Rattle.loft_names.proofs.HeadsMeaning.{none_left, none_right}
 use Rattle.loft_code.specs.declared.limits.TheConstants.{MAX_OPERATIONS}
 use Rattle.loft_code.specs.Fits.{HeadsKeep, LinesFit, RawFits}
 use Rattle.loft_rows.specs.Rows.{Local, End}
-use Rattle.loft_draft.specs.Drafts.{Draft, DraftOperation, DraftFits, HasOperations, ItemHolds, ShortLineFits, declaration_lines, item_lines, operation_lines, source_of}
+use Rattle.loft_draft.specs.Drafts.{Draft, DraftOperation, DraftFits, HasOperations, ItemHolds, declaration_lines, item_lines, operation_lines, source_of}
+use Rattle.loft_rows.specs.RowsFit.{ListingLineFits}
 use Rattle.loft_wrong.specs.Wrong.{declaration_misplaced, heads_in, modules_wrong, wrong_lines}
 use Rattle.loft_wrong.proofs.Threads.{starts_begin, clients_begin}
 use Rattle.loft_reading.specs.Numbered.{module_lines, modules_from, numbered, numbered_line}
@@ -39,23 +40,23 @@ modules_length ds m (i ∷ is) = length_by ds m i.declaration i.operations is (�
 
 -- ---- operations
 
-declaration_keeps : (ds : List Declared) (m : ℕ) (x : Declaration) (os : List DraftOperation) → HasOperations x os → Each ShortLineFits (declaration_lines x os) → Each LinesFit (module_lines ds m x os)
+declaration_keeps : (ds : List Declared) (m : ℕ) (x : Declaration) (os : List DraftOperation) → HasOperations x os → Each ListingLineFits (declaration_lines x os) → Each LinesFit (module_lines ds m x os)
 declaration_keeps ds m (Scheduler name) os has fits = tt
 declaration_keeps ds m (Event name scheduler) os has fits = tt
 declaration_keeps ds m (Shared name scheduler value) os has fits = tt
 declaration_keeps ds m (Module head locals body) os has fits =
-    let inside = each_right ShortLineFits (map Local locals) (operation_lines 0 os ++ End ∷ []) fits.1 in
-    let lines = each_left ShortLineFits (operation_lines 0 os) (End ∷ []) inside in
+    let inside = each_right ListingLineFits (map Local locals) (operation_lines 0 os ++ End ∷ []) fits.1 in
+    let lines = each_left ListingLineFits (operation_lines 0 os) (End ∷ []) inside in
     let few : length (map (numbered_line ds (Within m)) os) ≤ MAX_OPERATIONS = subst (λ (n : ℕ). n ≤ MAX_OPERATIONS) (sym (length-map os (numbered_line ds (Within m)))) has.1 in
     (record { each = operations_keep ds (Within m) 0 os lines; few = few }, tt)
 declaration_keeps ds m (Start scheduler called arguments name) os has fits = tt
 declaration_keeps ds m (Outside name orders) os has fits = tt
 
-modules_keep : (ds : List Declared) (m : ℕ) (d : Draft) → Each ItemHolds d → Each ShortLineFits (flat_map item_lines d) → Each LinesFit (modules_from ds m d)
+modules_keep : (ds : List Declared) (m : ℕ) (d : Draft) → Each ItemHolds d → Each ListingLineFits (flat_map item_lines d) → Each LinesFit (modules_from ds m d)
 modules_keep ds m [] hold fits = tt
 modules_keep ds m (i ∷ is) hold fits =
-    let first = declaration_keeps ds m i.declaration i.operations hold.0 (each_left ShortLineFits (item_lines i) (flat_map item_lines is) fits) in
-    let others = modules_keep ds (next_module m i.declaration) is hold.1 (each_right ShortLineFits (item_lines i) (flat_map item_lines is) fits) in
+    let first = declaration_keeps ds m i.declaration i.operations hold.0 (each_left ListingLineFits (item_lines i) (flat_map item_lines is) fits) in
+    let others = modules_keep ds (next_module m i.declaration) is hold.1 (each_right ListingLineFits (item_lines i) (flat_map item_lines is) fits) in
     each-append LinesFit (module_lines ds m i.declaration i.operations) (modules_from ds (next_module m i.declaration) is) first others
 
 -- ---- declarations

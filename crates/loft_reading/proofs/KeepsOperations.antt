@@ -10,7 +10,8 @@ use Rattle.loft_code.specs.Fits.{OperationFits}
 use Rattle.loft_rows.specs.Instructions as instruction
 use Rattle.loft_rows.specs.Instructions.{Instruction}
 use Rattle.loft_rows.specs.RowsFit.{InstructionFits}
-use Rattle.loft_draft.specs.Drafts.{DraftOperation, operation_lines, ShortLineFits}
+use Rattle.loft_draft.specs.Drafts.{DraftOperation, operation_lines}
+use Rattle.loft_rows.specs.RowsFit.{ListingLineFits}
 use Rattle.loft_reading.specs.Numbered.{numbered_statement, numbered_instruction, numbered_line}
 use Rattle.loft_reading.proofs.KeepsValues.{exp_keeps, value_keeps, values_keep}
 
@@ -49,6 +50,6 @@ module _ (ds : List Declared) (scope : Scope) where
   operation_keeps instruction.End fits = tt
 
   -- the operations of a module, where their lines fit
-  pub operations_keep : (number : ℕ) (os : List DraftOperation) → Each ShortLineFits (operation_lines number os) → Each code.LineFits (map (numbered_line ds scope) os)
+  pub operations_keep : (number : ℕ) (os : List DraftOperation) → Each ListingLineFits (operation_lines number os) → Each code.LineFits (map (numbered_line ds scope) os)
   operations_keep number [] fits = tt
-  operations_keep number (o ∷ os) fits = (operation_keeps o.instruction fits.0.0.3, operations_keep (number + 1) os fits.1)
+  operations_keep number (o ∷ os) fits = (operation_keeps o.instruction fits.0.3, operations_keep (number + 1) os fits.1)

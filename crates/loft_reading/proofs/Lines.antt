@@ -1,8 +1,7 @@
 -- The lines of operations.
-use Rattle.std.proofs.Common.{◌≡◌, ℕ, ◌+◌, ◌≤◌, List, [], ◌∷◌, ◌++◌, length, Some, refl, sym, ap, subst, ◌∙◌, arith}
+use Rattle.std.proofs.Common.{◌≡◌, ℕ, ◌+◌, ◌<◌, ◌^◌, List, [], ◌∷◌, ◌++◌, length, Some, refl, sym, ap, ◌∙◌, arith}
 use Rattle.std.specs.Option.{option_map}
 use Rattle.std.proofs.lemmas.List.{length-append}
-use Rattle.loft_lex.specs.declared.TheConstants.{MAX_TEXT_LEN}
 use Rattle.loft_tree.specs.Source.{PlaceName}
 use Rattle.loft_rows.specs.Feeds.{EndsAtItsFeed}
 use Rattle.loft_rows.specs.Instructions.{Instruction, feed}
@@ -48,7 +47,7 @@ first_operation_line text number o os says = record { fits = says.fits.0; bare =
 
 pub first_ends : (text : List ℕ) (number : ℕ) (o : DraftOperation) (os : List DraftOperation) → Says text number (o ∷ os)
     → EndsAtItsFeed (line_text (Operation number o.place o.depth o.instruction))
-first_ends text number o os says = line_ends_at_feed (Operation number o.place o.depth o.instruction) says.fits.0.0
+first_ends text number o os says = line_ends_at_feed (Operation number o.place o.depth o.instruction) says.fits.0
 
 pub others_said : (text rest : List ℕ) (number : ℕ) (o : DraftOperation) (os : List DraftOperation) → Says text number (o ∷ os)
     → rest ≡ lines_text (operation_lines (number + 1) os) → Says rest (number + 1) os
@@ -64,5 +63,6 @@ not_empty text line rest (front, ends, plain) whole none =
     let zero_long : length (line ++ rest) ≡ 0 = ap length (sym whole ∙ none) in
     absurd (omega arith)
 
-pub is_short : (text : List ℕ) (number : ℕ) (o : DraftOperation) → IsOperation text number o → length text ≤ MAX_TEXT_LEN
-is_short text number o is = let same : length text ≡ length (line_text (Operation number o.place o.depth o.instruction)) = ap length is.written in let short = is.fits.1 in subst (λ n. n ≤ MAX_TEXT_LEN) (sym same) short
+-- the line with which a text begins has an offset's length, where the text has
+pub line_short : (text line rest : List ℕ) → length text < 2 ^ 32 → text ≡ line ++ rest → length line < 2 ^ 32
+line_short text line rest short whole = omega (arith, short, ap length whole, length-append line rest)

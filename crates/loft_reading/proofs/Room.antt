@@ -10,7 +10,8 @@ use Rattle.loft_rows.specs.Instructions.{feed}
 use Rattle.loft_rows.specs.Rows.{ListingLine, Title, Head, Local, End, line_text}
 use Rattle.loft_rows.proofs.Feeds.{line_ends_at_feed}
 use Rattle.loft_draft.specs.declared.draft.TheConstants.{MAX_LISTING_LEN}
-use Rattle.loft_draft.specs.Drafts.{Draft, DraftOperation, DraftFits, IsListing, HasOperations, ItemHolds, ShortLineFits, declaration_lines, item_lines, lined_from, lines_text, operation_lines, draft_lines, source_of}
+use Rattle.loft_draft.specs.Drafts.{Draft, DraftOperation, DraftFits, IsListing, HasOperations, ItemHolds, declaration_lines, item_lines, lined_from, lines_text, operation_lines, draft_lines, source_of}
+use Rattle.loft_rows.specs.RowsFit.{ListingLineFits}
 use Rattle.loft_draft.specs.InMemory.{IsInMemory, operations_text}
 use Rattle.loft_draft.specs.declared.draft.Draft.{Draft as DraftInMemory}
 use Rattle.loft_draft.specs.Lined.{lined_declaration}
@@ -20,15 +21,15 @@ use Rattle.loft_reading.proofs.Items.{at_line, each_left, each_right, first_line
 
 -- ---- each line takes a byte at least
 
-line_long : (l : ListingLine) → ShortLineFits l → 1 ≤ length (line_text l)
+line_long : (l : ListingLine) → ListingLineFits l → 1 ≤ length (line_text l)
 line_long l fits =
-    let (front, ends, plain) = line_ends_at_feed l fits.0 in
+    let (front, ends, plain) = line_ends_at_feed l fits in
     let same : length (line_text l) ≡ length (front ++ feed) = ap length ends in
     let long : length (front ++ feed) ≡ length front + length feed = length-append front feed in
     let one : length feed ≡ 1 = refl in
     omega arith
 
-pub lines_long : (ls : List ListingLine) → Each ShortLineFits ls → length ls ≤ length (lines_text ls)
+pub lines_long : (ls : List ListingLine) → Each ListingLineFits ls → length ls ≤ length (lines_text ls)
 lines_long [] fits = omega arith
 lines_long (l ∷ ls) fits =
     let first = line_long l fits.0 in
@@ -47,7 +48,7 @@ no_operations first os begin none =
     omega arith
 
 module_room : (line : ℕ) (head : ModuleHead) (locals : List Named) (body : Statements) (os : List DraftOperation) → head.name.at ≡ line
-    → Each ShortLineFits (declaration_lines (Module head locals body) os)
+    → Each ListingLineFits (declaration_lines (Module head locals body) os)
     → line + length (lines_text (declaration_lines (Module head locals body) os)) < 2 ^ 32
     → HasRoom (Module head locals body) (lines_text (operation_lines 0 os))
 module_room line head locals body os at fits room =
@@ -57,11 +58,11 @@ module_room line head locals body os at fits room =
     let after : length (lines_text (map Local locals ++ (operation_lines 0 os ++ End ∷ []))) ≡ length (lines_text (map Local locals)) + length (lines_text (operation_lines 0 os ++ End ∷ [])) =
     lines_both (map Local locals) (operation_lines 0 os ++ End ∷ []) in
     let end : length (lines_text (operation_lines 0 os ++ End ∷ [])) ≡ length (lines_text (operation_lines 0 os)) + length (lines_text (End ∷ [])) = lines_both (operation_lines 0 os) (End ∷ []) in
-    let local = lines_long (map Local locals) (each_left ShortLineFits (map Local locals) (operation_lines 0 os ++ End ∷ []) fits.1) in
+    let local = lines_long (map Local locals) (each_left ListingLineFits (map Local locals) (operation_lines 0 os ++ End ∷ []) fits.1) in
     let many : length (map Local locals) ≡ length locals = length-map locals Local in
     omega arith
 
-declaration_room : (line : ℕ) (d : Declaration) (os : List DraftOperation) → HasOperations d os → lined_declaration line d ≡ d → Each ShortLineFits (declaration_lines d os)
+declaration_room : (line : ℕ) (d : Declaration) (os : List DraftOperation) → HasOperations d os → lined_declaration line d ≡ d → Each ListingLineFits (declaration_lines d os)
     → line + length (lines_text (declaration_lines d os)) < 2 ^ 32 → HasRoom d (lines_text (operation_lines 0 os))
 declaration_room line (Scheduler name) os holds lined fits room = no_operations 0 os refl holds
 declaration_room line (Event name scheduler) os holds lined fits room = no_operations 0 os refl holds
@@ -72,13 +73,13 @@ declaration_room line (Outside name orders) os holds lined fits room = no_operat
 
 -- ---- all
 
-items_room : (is : Draft) (line : ℕ) → Each ItemHolds is → Each ShortLineFits (flat_map item_lines is) → lined_from line is ≡ is
+items_room : (is : Draft) (line : ℕ) → Each ItemHolds is → Each ListingLineFits (flat_map item_lines is) → lined_from line is ≡ is
     → line + length (lines_text (flat_map item_lines is)) < 2 ^ 32 → HaveRoom (source_of is) (map operations_text is)
 items_room [] line holds fits lined room = tt
 items_room (i ∷ is) line holds fits lined room =
     let both = lines_both (item_lines i) (flat_map item_lines is) in
-    let here = each_left ShortLineFits (item_lines i) (flat_map item_lines is) fits in
-    let there = each_right ShortLineFits (item_lines i) (flat_map item_lines is) fits in
+    let here = each_left ListingLineFits (item_lines i) (flat_map item_lines is) fits in
+    let there = each_right ListingLineFits (item_lines i) (flat_map item_lines is) fits in
     let long = lines_long (item_lines i) here in
     let first : line + length (lines_text (item_lines i)) < 2 ^ 32 = omega arith in
     let later : line + length (item_lines i) + length (lines_text (flat_map item_lines is)) < 2 ^ 32 = omega arith in (

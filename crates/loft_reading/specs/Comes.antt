@@ -9,7 +9,8 @@ use Rattle.loft_rows.specs.Rows.{Operation, line_text}
 use Rattle.loft_rows.specs.declared.row.OperationRow.{OperationRow}
 use Rattle.loft_rows.specs.declared.row.Row.{Row}
 use Rattle.loft_rows.specs.declared.row.Row.TheVariants as row
-use Rattle.loft_draft.specs.Drafts.{Draft, DraftItem, DraftOperation, draft_lines, ItemHolds, ShortLineFits, IsBare, operation_lines, lines_text}
+use Rattle.loft_draft.specs.Drafts.{Draft, DraftItem, DraftOperation, draft_lines, ItemHolds, IsBare, operation_lines, lines_text}
+use Rattle.loft_rows.specs.RowsFit.{ListingLineFits}
 use Rattle.loft_draft.specs.declared.draft.TheConstants.{MAX_LISTING_LEN}
 use Rattle.loft_wrong.specs.Wrong.{first_operation, operations_wrong, wrong_lines, IsLeast}
 use Rattle.loft_wrong.specs.DraftOf.{draft_of, bare_operation}
@@ -20,7 +21,7 @@ use Rattle.loft_reading.specs.declared.error.ListError.TheVariants as error
 
 -- the text says these operations, numbered from this number on
 pub record Says (text : List ℕ) (number : ℕ) (os : List DraftOperation) : Type 0 where
-  pub fits : Each ShortLineFits (operation_lines number os)
+  pub fits : Each ListingLineFits (operation_lines number os)
   pub bare : Each IsBare os
   pub written : text ≡ lines_text (operation_lines number os)
 
@@ -37,7 +38,7 @@ if_operation row.Close = None
 
 -- the text is the line of this operation, which has this number
 pub record IsOperation (text : List ℕ) (number : ℕ) (o : DraftOperation) : Type 0 where
-  pub fits : ShortLineFits (Operation number o.place o.depth o.instruction)
+  pub fits : ListingLineFits (Operation number o.place o.depth o.instruction)
   pub bare : IsBare o
   pub written : text ≡ line_text (Operation number o.place o.depth o.instruction)
 

@@ -35,6 +35,7 @@ fn if_operation(row: Row) -> Option<OperationRow>
 
 /// The operation that a line is, where it is one.
 fn operation_in(alloc: Global, line: &[u8]) -> Result<Option<OperationRow>, NoMemory>
+    requires short { length line.now < 2 ^ 32 }
     ensures fits { IfOk result (λ found. IfSome found (λ row. InstructionFits (deed_of row.deed))) }
     ensures only { (number : ℕ) (o : DraftOperation) → IsOperation line.now number o
         → IfOk result (λ found.
@@ -52,6 +53,7 @@ fn next_operation<'a>(
     alloc: Global,
     text: &'a [u8],
 ) -> Result<Option<(OperationRow, &'a [u8])>, NoMemory>
+    requires short { length text.now < 2 ^ 32 }
     ensures shorter { IfOk result (λ found. IfSome found (λ p. length p.1.now < length text.now)) }
     ensures fits { IfOk result (λ found. IfSome found (λ p. InstructionFits (deed_of p.0.deed))) }
     ensures next { (number : ℕ) (os : List DraftOperation) → Says text.now number os

@@ -18,9 +18,8 @@ use Rattle.loft_names.proofs.HeadsNumbers.{each_declared_has}
 use Rattle.loft_names.proofs.HoldsPrograms.{uses_agree}
 use Rattle.loft_code.specs.Fits.{RawFits}
 use Rattle.loft_code.specs.Operations.{Automata}
-use Rattle.loft_rows.specs.Rows.{ListingLine, Title, bare_line, line_text}
-use Rattle.loft_rows.specs.RowsFit.{ListingLineFits}
-use Rattle.loft_draft.specs.Drafts.{Draft, DraftFits, ShortLineFits, draft_lines, source_of}
+use Rattle.loft_rows.specs.Rows.{Title, bare_line, line_text}
+use Rattle.loft_draft.specs.Drafts.{Draft, DraftFits, draft_lines, source_of}
 use Rattle.loft_wrong.specs.Wrong.{declaration_misplaced, heads_in, modules_wrong, wrong_lines}
 use Rattle.loft_reading.specs.Lists.{Lists}
 use Rattle.loft_reading.specs.Numbered.{modules_from, numbered}
@@ -64,12 +63,8 @@ lines_same d fits right =
       lines = follows_all (modules_from ds 0 d);
     }) uses.0 fits.source.each fits.lines.1 uses.1)
 
-line_fits : (ls : List ListingLine) → Each ShortLineFits ls → Each ListingLineFits ls
-line_fits [] fit = tt
-line_fits (l ∷ ls) fit = (fit.0.0, line_fits ls fit.1)
-
 same_texts : (d : Draft) → DraftFits d → wrong_lines d ≡ [] → map line_text (listing_lines (numbered d)) ≡ map line_text (draft_lines d)
-same_texts d fits right = ap (map line_text) (lines_same d fits right) ∙ texts_back (draft_lines d) (line_fits (draft_lines d) fits.lines)
+same_texts d fits right = ap (map line_text) (lines_same d fits right) ∙ texts_back (draft_lines d) fits.lines
 
 pub text_is_written : (text : List ℕ) (c : Automata) → Lists text c → text ≡ listing_text c
 text_is_written text c (d, lists) =

@@ -22,7 +22,6 @@ pub mod LinesFit
 pub mod LinesSame
 pub mod Lining
 pub mod SourceSaid
-pub mod LinesShort
 pub mod Roundtrip
 pub mod NamesBack
 pub mod ValuesBack
@@ -31,6 +30,4 @@ pub mod DeclarationsBack
 pub mod ListingBack
 pub mod Canonical
 pub mod CompiledListed
-pub mod Sizes
-pub mod LineSizes
 pub mod OneAnswer

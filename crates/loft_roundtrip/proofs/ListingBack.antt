@@ -22,7 +22,8 @@ use Rattle.loft_code.specs.Operations.{Line}
 use Rattle.loft_rows.specs.Rows as rows
 use Rattle.loft_rows.specs.Rows.{ListingLine, bare_line}
 use Rattle.loft_draft.specs.Drafts as drafts
-use Rattle.loft_draft.specs.Drafts.{Draft, DraftItem, DraftOperation, ShortLineFits, source_of}
+use Rattle.loft_draft.specs.Drafts.{Draft, DraftItem, DraftOperation, source_of}
+use Rattle.loft_rows.specs.RowsFit.{ListingLineFits}
 use Rattle.loft_listing.specs.Called.{called, called_variable, client_declaration, event_declaration, scheduler_declaration, shared_declaration, start_declaration}
 use Rattle.loft_listing.specs.Listing.{operations_of}
 use Rattle.loft_listing.specs.Lines.{declaration_lines, item_lines, lines_if, module_lines, operation_lines}
@@ -80,7 +81,7 @@ module _ (h : Heads) (modules : List (List Line)) (ds : List Declared) where
 
   module _ (each : Each (HasHead h) ds) where
     module_read : (k : DeclarationCounts) (head : src.ModuleHead) (locals : List Named) (body : src.Statements) (os : List DraftOperation) (is : Draft) → AreLeft h modules ds k (item (Module head locals body) os ∷ is)
-        → DeclarationAgrees ds k.modules (Module head locals body) → DeclarationFits (Module head locals body) → Each ShortLineFits (drafts.declaration_lines (Module head locals body) os)
+        → DeclarationAgrees ds k.modules (Module head locals body) → DeclarationFits (Module head locals body) → Each ListingLineFits (drafts.declaration_lines (Module head locals body) os)
         → operations_wrong ds (Within k.modules) (first_operation (Module head locals body)) os ≡ []
         → item_lines h modules (item_of k (Module head locals body)) ≡ map bare_line (drafts.declaration_lines (Module head locals body) os)
     module_read k head locals body os is l agrees fits fit none =
@@ -88,8 +89,8 @@ module _ (h : Heads) (modules : List (List Line)) (ds : List Declared) where
         let there : slice_get h.modules k.modules ≡ Some signature = follows_head _ _ _ _ l.heads in
         let lines : List Line = map (numbered_line ds (Within k.modules)) os in
         let has : slice_get modules k.modules ≡ Some lines = follows_head _ _ _ _ l.lines in
-        let inside = each_right ShortLineFits (map rows.Local locals) (drafts.operation_lines 0 os ++ rows.End ∷ []) fit.1 in
-        let operations = operations_read ds h each k.modules signature there 0 (first_operation (Module head locals body)) os (each_left ShortLineFits (drafts.operation_lines 0 os) (rows.End ∷ []) inside) none in
+        let inside = each_right ListingLineFits (map rows.Local locals) (drafts.operation_lines 0 os ++ rows.End ∷ []) fit.1 in
+        let operations = operations_read ds h each k.modules signature there 0 (first_operation (Module head locals body)) os (each_left ListingLineFits (drafts.operation_lines 0 os) (rows.End ∷ []) inside) none in
         let rest : operation_lines h signature 0 lines ++ rows.End ∷ [] ≡ map bare_line (drafts.operation_lines 0 os ++ rows.End ∷ []) =
         ap (λ ls. ls ++ rows.End ∷ []) operations ∙ sym (map-append bare_line (drafts.operation_lines 0 os) (rows.End ∷ [])) in
         ap (lines_if (λ x. module_lines h x (operations_of modules k.modules))) there
@@ -98,7 +99,7 @@ module _ (h : Heads) (modules : List (List Line)) (ds : List Declared) where
         ∷ locals_lines locals (operation_lines h signature 0 lines ++ rows.End ∷ []) (drafts.operation_lines 0 os ++ rows.End ∷ []) rest i)
 
     item_read : (k : DeclarationCounts) (x : Declaration) (os : List DraftOperation) (is : Draft) → AreLeft h modules ds k (item x os ∷ is) → DeclarationAgrees ds k.modules x → DeclarationFits x
-        → Each ShortLineFits (drafts.declaration_lines x os) → operations_wrong ds (Within k.modules) (first_operation x) os ≡ []
+        → Each ListingLineFits (drafts.declaration_lines x os) → operations_wrong ds (Within k.modules) (first_operation x) os ≡ []
         → item_lines h modules (item_of k x) ≡ map bare_line (drafts.declaration_lines x os)
     item_read k (Scheduler name) os is l agrees fits fit none = ap (lines_if (λ x. declaration_lines (scheduler_declaration x))) (follows_head _ _ _ _ l.schedulers)
     item_read k (Event name scheduler) os is l agrees fits fit none =
@@ -117,14 +118,14 @@ module _ (h : Heads) (modules : List (List Line)) (ds : List Declared) where
         ∙ ap (λ ls. rows.Client (bare_name name) ∷ ls) (orders_lines orders)
 
     -- the lines of the code of a draft are those of the draft, without offsets
-    pub lines_read : (k : DeclarationCounts) (d : Draft) → AreLeft h modules ds k d → UsesAgree ds k.modules (source_of d) → Each DeclarationFits (source_of d) → Each ShortLineFits (flat_map drafts.item_lines d)
+    pub lines_read : (k : DeclarationCounts) (d : Draft) → AreLeft h modules ds k d → UsesAgree ds k.modules (source_of d) → Each DeclarationFits (source_of d) → Each ListingLineFits (flat_map drafts.item_lines d)
         → modules_wrong ds k.modules d ≡ [] → flat_map (item_lines h modules) (items_in k (source_of d)) ≡ map bare_line (flat_map drafts.item_lines d)
     lines_read k [] l agree fits fit none = refl
     lines_read k (i ∷ is) l agree fits fit none =
         let x : Declaration = i.declaration in
         let wrong = operations_wrong ds (Within k.modules) (first_operation x) i.operations in
-        let first = item_read k x i.operations is l agree.0 fits.0 (each_left ShortLineFits (drafts.item_lines i) (flat_map drafts.item_lines is) fit) (none_left wrong _ none) in
+        let first = item_read k x i.operations is l agree.0 fits.0 (each_left ListingLineFits (drafts.item_lines i) (flat_map drafts.item_lines is) fit) (none_left wrong _ none) in
         let rest = lines_read (after k x) is (are_left k x i.operations is l) (subst (λ (n : ℕ). UsesAgree ds n (source_of is)) (same_next k x) agree.1) fits.1
-        (each_right ShortLineFits (drafts.item_lines i) (flat_map drafts.item_lines is) fit)
+        (each_right ListingLineFits (drafts.item_lines i) (flat_map drafts.item_lines is) fit)
         (subst (λ (n : ℕ). modules_wrong ds n is ≡ []) (same_next k x) (none_right wrong (modules_wrong ds (next_module k.modules x) is) none)) in
         (λ j. first j ++ rest j) ∙ sym (map-append bare_line (drafts.item_lines i) (flat_map drafts.item_lines is))

@@ -20,7 +20,8 @@ use Rattle.loft_rows.specs.RowsFit.{InstructionFits, IsStatementOf}
 use Rattle.loft_rows.specs.Sorts.{sort_of_statement}
 use Rattle.loft_rows.specs.declared.sort.StatementSort.TheVariants.{Action, Stop}
 use Rattle.loft_draft.specs.Drafts as drafts
-use Rattle.loft_draft.specs.Drafts.{DraftOperation, ShortLineFits}
+use Rattle.loft_draft.specs.Drafts.{DraftOperation}
+use Rattle.loft_rows.specs.RowsFit.{ListingLineFits}
 use Rattle.loft_listing.specs.Called.{called_creation, called_place}
 use Rattle.loft_listing.specs.Lines.{called_operation, operation_lines}
 use Rattle.loft_wrong.specs.Named.{creation_names, instruction_names, operation_names, place_names, statement_names}
@@ -112,10 +113,10 @@ module _ (ds : List Declared) (h : Heads) (each : Each (HasHead h) ds) (m : ℕ)
   is_right false line rest none = absurd cc
 
   -- the operations of a module, where their lines fit and none of them is wrong
-  pub operations_read : (number line : ℕ) (os : List DraftOperation) → Each ShortLineFits (drafts.operation_lines number os) → operations_wrong ds (Within m) line os ≡ []
+  pub operations_read : (number line : ℕ) (os : List DraftOperation) → Each ListingLineFits (drafts.operation_lines number os) → operations_wrong ds (Within m) line os ≡ []
       → operation_lines h signature number (map (numbered_line ds (Within m)) os) ≡ map bare_line (drafts.operation_lines number os)
   operations_read number line [] fit none = refl
   operations_read number line (o ∷ os) fit none =
       let right = is_right (operation_names ds (Within m) o) line (operations_wrong ds (Within m) (line + 1) os) none in
       let parts = and_parts (place_names ds (Within m) o.place) (instruction_names ds (Within m) o.instruction) right.0 in
-      (λ i. rows.Operation number (place_read o.place parts.0 i) o.depth (instruction_read o.instruction fit.0.0.3 parts.1 i) ∷ operations_read (number + 1) (line + 1) os fit.1 right.1 i)
+      (λ i. rows.Operation number (place_read o.place parts.0 i) o.depth (instruction_read o.instruction fit.0.3 parts.1 i) ∷ operations_read (number + 1) (line + 1) os fit.1 right.1 i)

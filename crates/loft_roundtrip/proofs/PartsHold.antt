@@ -144,7 +144,7 @@ client_keeps h (c ∷ cs) hold named fit = (record { holds = hold.0; named = nam
 
 -- each module of code that keeps its limits and is valid passes
 pub modules_pass : (ps : List Part) → RawFits (together ps) → Valid (together ps) → AllPass (heads_in ps) (lines_in ps)
-modules_pass ps fits valid = λ k m lines is has. all_pass (together ps) fits.heads.modules valid k m lines is has (each_get LinesFit (lines_in ps) k lines fits.each has).few
+modules_pass ps fits valid = λ k m lines is has. all_pass (together ps) valid k m lines is has (each_get LinesFit (lines_in ps) k lines fits.each has).few
 
 pub parts_keep : (ps : List Part) → RawFits (together ps) → Valid (together ps) → ThreadsNamed (heads_in ps) → Each (PartKeeps (heads_in ps)) ps
 parts_keep ps fits valid named =

@@ -1,28 +1,21 @@
 -- What valid code keeps in each operation.
-use Rattle.std.proofs.Common.{◌≡◌, ℕ, ◌+◌, ◌<◌, ◌≤◌, Bool, true, false, not, ◌&&◌, ◌||◌, ◌==◌, List, [], ◌∷◌, length, suc, take, Option, Some, None, refl, sym, ap, ◌∙◌, arith}
+use Rattle.std.proofs.Common.{◌≡◌, ℕ, ◌+◌, ◌<◌, ◌≤◌, Bool, true, false, not, ◌&&◌, ◌||◌, ◌==◌, List, length, take, Option, Some, None, refl, sym, ap, ◌∙◌, arith}
 use Rattle.std.specs.Prelude.{slice_get, nat_lt, nat_le, if◌then◌else◌}
 use Rattle.std.proofs.lemmas.List.{length-take}
 use Rattle.std.proofs.lemmas.List.Sums.{count_by-le-length}
-use Rattle.std.proofs.lemmas.Bool.{and_parts, eqb-true, leb-true, ltb-true, ltb-false}
+use Rattle.std.proofs.lemmas.Bool.{eqb-true, ltb-true, ltb-false}
 use Rattle.loft_base.specs.declared.ids.ModuleId.{ModuleId}
 use Rattle.loft_lex.specs.Bytes.{max_number}
 use Rattle.loft_tree.specs.declared.heads.Signature.{Signature}
 use Rattle.loft_tree.specs.declared.heads.Heads.{Heads}
-use Rattle.loft_tree.specs.declared.kinds.Kind.{Kind}
-use Rattle.loft_tree.specs.declared.heads.SlotHead.{SlotHead}
-use Rattle.loft_tree.specs.declared.limits.TheConstants.{MAX_ARGUMENTS, MAX_CHOICES}
-use Rattle.loft_tree.specs.HeadsFit.{kinds_of}
-use Rattle.loft_tree.specs.Resolved as r
-use Rattle.loft_tree.specs.Resolved.{Action, Exp, Pause}
-use Rattle.loft_code.specs.Kinds.{action_agrees, arguments_agree, call_agrees, has_bad_kind, has_kind, operation_agrees, thread_if}
 use Rattle.loft_tree.specs.Fits.{Each}
-use Rattle.loft_tree.specs.NamedFits.{SignatureHolds, slots_of}
-use Rattle.loft_names.proofs.HeadsLists.{each_from_get, each_get}
+use Rattle.loft_tree.specs.NamedFits.{slots_of}
+use Rattle.loft_names.proofs.HeadsLists.{each_from_get}
 use Rattle.loft_code.specs.declared.limits.TheConstants.{MAX_DEPTH, MAX_OPERATIONS}
 use Rattle.loft_code.specs.declared.error.CodeError.{CodeError}
-use Rattle.loft_code.specs.declared.error.CodeError.TheVariants.{JumpOut, BadName, BadStop, BadPlace, BadCount, KindMismatch}
+use Rattle.loft_code.specs.declared.error.CodeError.TheVariants.{JumpOut, BadName, BadStop, BadPlace, BadCount}
 use Rattle.loft_code.specs.Places.{has_bad_place}
-use Rattle.loft_code.specs.Names.{has_bad_name, has_choices, has_events, has_place, operation_has, pause_has, value_has}
+use Rattle.loft_code.specs.Names.{has_bad_name, has_place, operation_has}
 use Rattle.loft_code.specs.Operations.{Operation, Do, Hold, Call, Branch, Enter, Count, Turn, Jump, End, Line, Automata, is_last, stop_of}
 use Rattle.loft_code.specs.Valid.{Valid, error_at, error_in, has_bad_count, has_bad_stop, is_stop, is_wrong_stop, jumps_out, leads_out, line_error, module_error, op_at, stops_before, test_in}
 
@@ -38,42 +31,11 @@ IsSmall (Turn t) = t ≤ max_number
 IsSmall (Jump t) = t ≤ max_number
 IsSmall End = Unit {0}
 
--- few enough arguments and events
-abbrev pub IsFewAction : Action → Type 0
-IsFewAction (r.Assign target value) = Unit {0}
-IsFewAction (r.Make target s m arguments) = length arguments ≤ MAX_ARGUMENTS
-IsFewAction (r.PrintText line value) = Unit {0}
-IsFewAction (r.PrintValue value) = Unit {0}
-IsFewAction (r.Generate event value) = Unit {0}
-IsFewAction (r.ControlThread control thread s) = Unit {0}
-IsFewAction (r.Broadcast event value) = Unit {0}
-
-abbrev pub IsFewPause : Pause → Type 0
-IsFewPause (r.Cooperate instants) = Unit {0}
-IsFewPause (r.Await events limit) = length events ≤ MAX_CHOICES
-IsFewPause (r.Get event index target) = Unit {0}
-IsFewPause (r.Join thread limit) = Unit {0}
-IsFewPause (r.Link s) = Unit {0}
-IsFewPause r.Unlink = Unit {0}
-IsFewPause r.Halt = Unit {0}
-
-abbrev pub IsFewOperation : Operation → Type 0
-IsFewOperation (Do action) = IsFewAction action
-IsFewOperation (Hold k pause) = IsFewPause pause
-IsFewOperation (Call k m arguments) = length arguments ≤ MAX_ARGUMENTS
-IsFewOperation (Branch t test) = Unit {0}
-IsFewOperation Enter = Unit {0}
-IsFewOperation (Count count) = Unit {0}
-IsFewOperation (Turn t) = Unit {0}
-IsFewOperation (Jump t) = Unit {0}
-IsFewOperation End = Unit {0}
-
 -- an operation of a module with this signature
 pub record LinePasses (h : Heads) (m : Signature) (l : Line) : Type 0 where
   pub named : (has_place h l.place && operation_has h (slots_of m) l.operation) ≡ true
   pub numbers : IsSmall l.operation
   pub depth : l.depth ≤ MAX_DEPTH
-  pub few : IsFewOperation l.operation
 
 -- ---- tests
 
@@ -118,83 +80,28 @@ depth_small lines p l right =
     let off : nat_lt MAX_DEPTH l.depth ≡ false = (neither _ (nat_lt MAX_DEPTH l.depth) right).1 in
     ltb-false MAX_DEPTH l.depth off
 
--- ---- arguments and events
-
-kinds_length : (vs : List SlotHead) → length (kinds_of vs) ≡ length vs
-kinds_length [] = refl
-kinds_length (v ∷ vs) = ap suc (kinds_length vs)
-
-as_many : (slots kinds : List Kind) (es : List Exp) → arguments_agree slots kinds es ≡ true → length es ≡ length kinds
-as_many slots [] [] is = refl
-as_many slots [] (e ∷ es) is = absurd cc
-as_many slots (kind ∷ kinds) [] is = absurd cc
-as_many slots (kind ∷ kinds) (e ∷ es) is = ap suc (as_many slots kinds es (and_parts (has_kind slots kind e) (arguments_agree slots kinds es) is).1)
-
-module _ (h : Heads) (modules : Each (SignatureHolds h) h.modules) (slots : List Kind) where
-  call_few : (m : ModuleId) (o : Option Signature) (es : List Exp) → slice_get h.modules m.0 ≡ o → call_agrees slots o es ≡ true → length es ≤ MAX_ARGUMENTS
-  call_few m None es there is = absurd cc
-  call_few m (Some x) es there is =
-      let many = as_many slots (kinds_of x.parameters) es is in
-      let few = (each_get (SignatureHolds h) h.modules m.0 x modules there).few_parameters in
-      omega (arith, many, kinds_length x.parameters, few)
-
-  action_few : (a : Action) → action_agrees slots h a ≡ true → IsFewAction a
-  action_few (r.Assign target value) is = tt
-  action_few (r.Make target s m arguments) is = call_few m (slice_get h.modules m.0) arguments refl (and_parts (thread_if slots target) (call_agrees slots (slice_get h.modules m.0) arguments) is).1
-  action_few (r.PrintText line value) is = tt
-  action_few (r.PrintValue value) is = tt
-  action_few (r.Generate event value) is = tt
-  action_few (r.ControlThread control thread s) is = tt
-  action_few (r.Broadcast event value) is = tt
-
-  pause_few : (p : Pause) → pause_has h slots p ≡ true → IsFewPause p
-  pause_few (r.Cooperate instants) has = tt
-  pause_few (r.Await events limit) has =
-      let choices = (and_parts (has_choices h events) (value_has h slots limit) has).0 in
-      let some = (and_parts (nat_le 1 (length events) && nat_le (length events) MAX_CHOICES) (has_events h events) choices).0 in
-      leb-true (length events) MAX_CHOICES (and_parts (nat_le 1 (length events)) (nat_le (length events) MAX_CHOICES) some).1
-  pause_few (r.Get event index target) has = tt
-  pause_few (r.Join thread limit) has = tt
-  pause_few (r.Link s) has = tt
-  pause_few r.Unlink has = tt
-  pause_few r.Halt has = tt
-
-  operation_few : (o : Operation) → operation_has h slots o ≡ true → operation_agrees slots h o ≡ true → IsFewOperation o
-  operation_few (Do action) has is = action_few action is
-  operation_few (Hold k pause) has is = pause_few pause has
-  operation_few (Call k m arguments) has is = call_few m (slice_get h.modules m.0) arguments refl is
-  operation_few (Branch t test) has is = tt
-  operation_few Enter has is = tt
-  operation_few (Count count) has is = tt
-  operation_few (Turn t) has is = tt
-  operation_few (Jump t) has is = tt
-  operation_few End has is = tt
-
 -- an operation without an error
-passes : (h : Heads) → Each (SignatureHolds h) h.modules → (m : ModuleId) (signature : Signature) (lines : List Line) (p : ℕ) (l : Line) → length lines ≤ MAX_OPERATIONS → line_error h m signature lines p l ≡ None → LinePasses h signature l
-passes h modules m signature lines p l few none =
+passes : (h : Heads) (m : ModuleId) (signature : Signature) (lines : List Line) (p : ℕ) (l : Line) → length lines ≤ MAX_OPERATIONS → line_error h m signature lines p l ≡ None → LinePasses h signature l
+passes h m signature lines p l few none =
     let one = not_first (jumps_out lines p l.operation) (JumpOut (op_at m p)) _ none in
     let two = not_first (has_bad_name h (slots_of signature) l) (BadName (op_at m p)) _ one.1 in
     let three = not_first (has_bad_stop lines p l.operation) (BadStop (op_at m p)) _ two.1 in
     let four = not_first (has_bad_place h signature lines p l) (BadPlace (op_at m p)) _ three.1 in
     let five = not_first (has_bad_count lines p l) (BadCount (op_at m p)) _ four.1 in
-    let six = not_first (has_bad_kind h (slots_of signature) l) (KindMismatch (op_at m p)) None five.1 in
     let named = not_false (has_place h l.place && operation_has h (slots_of signature) l.operation) two.0 in
     let leads = neither (leads_out lines p l.operation) ((p + 1 == length lines) && not (is_last l.operation)) one.0 in
     record {
       named = named;
       numbers = numbers_small lines p l.operation few leads.0 three.0;
       depth = depth_small lines p l five.0;
-      few = operation_few h modules (slots_of signature) l.operation (and_parts (has_place h l.place) (operation_has h (slots_of signature) l.operation) named).1
-          (not_false (operation_agrees (slots_of signature) h l.operation) six.0);
     }
 
 -- the operations of valid code
-pub all_pass : (c : Automata) → Each (SignatureHolds c.heads) c.heads.modules → Valid c → (k : ℕ) (m : Signature) (lines : List Line) → slice_get c.heads.modules k ≡ Some m → slice_get c.modules k ≡ Some lines → length lines ≤ MAX_OPERATIONS
+pub all_pass : (c : Automata) → Valid c → (k : ℕ) (m : Signature) (lines : List Line) → slice_get c.heads.modules k ≡ Some m → slice_get c.modules k ≡ Some lines → length lines ≤ MAX_OPERATIONS
     → Each (LinePasses c.heads m) lines
-all_pass c modules valid k m lines is has few = each_from_get (LinePasses c.heads m) lines (λ p l at.
+all_pass c valid k m lines is has few = each_from_get (LinePasses c.heads m) lines (λ p l at.
     let id : ModuleId = record { 0 = k } in
     let none : error_at c id p ≡ None = valid id p in
     let here : module_error c.heads id (Some m) (Some lines) p ≡ None = (λ i. module_error c.heads id (sym is i) (sym has i) p) ∙ none in
     let error : error_in c.heads id m lines p (Some l) ≡ None = ap (error_in c.heads id m lines p) (sym at) ∙ here in
-    passes c.heads modules id m lines p l few error)
+    passes c.heads id m lines p l few error)

@@ -1,5 +1,5 @@
 -- What is written of code is a listing of the code.
-use Rattle.std.proofs.Common.{◌≡◌, List, [], ◌∷◌, ◌++◌, map, refl, sym, subst, ap, ◌∙◌, lit≤}
+use Rattle.std.proofs.Common.{◌≡◌, List, [], ◌∷◌, ◌++◌, map, refl, sym, subst, ap, ◌∙◌}
 use Rattle.std.specs.List.{flat_map}
 use Rattle.loft_tree.specs.declared.heads.Heads.{Heads}
 use Rattle.loft_tree.specs.Fits.{Each}
@@ -23,7 +23,6 @@ use Rattle.loft_roundtrip.proofs.HeadsAgain.{heads_again}
 use Rattle.loft_roundtrip.proofs.ModulesAgain.{modules_again}
 use Rattle.loft_roundtrip.proofs.PartsHold.{PartKeeps, modules_pass, parts_keep}
 use Rattle.loft_roundtrip.proofs.LinesFit.{said_lines_fit}
-use Rattle.loft_roundtrip.proofs.LinesShort.{said_lines_short}
 use Rattle.loft_roundtrip.proofs.LinesSame.{items_lines, part_lines, same_texts}
 use Rattle.loft_roundtrip.proofs.Lining.{lined_again}
 use Rattle.loft_roundtrip.proofs.SourceSaid.{all_bare, items_hold, none_wrong, says, source_fits}
@@ -55,7 +54,7 @@ of_parts ps lines fits valid named =
     let draft_fits : DraftFits d = record {
       source = source_fits 2 ps fits.heads keep;
       items = items_hold h 2 ps keep;
-      lines = ((tt, lit≤ tt), said_lines_short h 2 ps keep lines_fit);
+      lines = (tt, lines_fit);
       lined = lined_again 2 _;
       bare = all_bare h 2 ps;
     } in (

@@ -4,7 +4,7 @@ use Rattle.std.specs.Prelude.{IfOk}
 use Rattle.std.specs.Option.{option_map}
 use Rattle.std.proofs.lemmas.List.{append-nil, length-append}
 use Rattle.loft_base.specs.declared.errors.NoMemory.{NoMemory}
-use Rattle.loft_lex.specs.declared.TheConstants.{MAX_TEXT_LEN}
+use Rattle.loft_lex.specs.declared.TheConstants.{MAX_OFFSET}
 use Rattle.loft_tree.specs.Source as src
 use Rattle.loft_tree.specs.Source.{Ident, Variable, Statement, Declaration}
 use Rattle.loft_tree.specs.View.{expression_of, statement_of, named_of, head_of, order_of, declaration_of}
@@ -41,7 +41,7 @@ use Rattle.loft_rows.specs.Instructions.{feed, statement_text}
 
 -- a reader answers with each part that the text is
 abbrev Reads : {X A : Type 0} → (X → A) → Limits Language → Form A → List ℕ → Result (Option X) NoMemory → Type 0
-Reads {X} {A} of lim f text result = (y : A) → SpellsPart lim f text y → length text ≤ MAX_TEXT_LEN → IfOk result (λ found. option_map of found ≡ Some y)
+Reads {X} {A} of lim f text result = (y : A) → SpellsPart lim f text y → length text ≤ MAX_OFFSET → IfOk result (λ found. option_map of found ≡ Some y)
 
 found_bare : {X A : Type 0} (of : X → A) (bare : A → A) (found : Option X) (x y : A) → option_map of found ≡ Some y → bare y ≡ bare x → option_map (λ v. bare (of v)) found ≡ Some (bare x)
 found_bare of bare None x y is same = cc
@@ -56,7 +56,7 @@ some_found of bare found v x is same = let h : option_map (λ y. bare (of y)) (S
 
 -- so what it finds in a text that reads as a part is that part, but for offsets
 reads_found : {X A : Type 0} (of : X → A) (bare : A → A) (lim : Limits Language) (f : Form A) (text : List ℕ) (result : Result (Option X) NoMemory) (x : A)
-    → Reads of lim f text result → ReadsAs lim f bare text x → length text ≤ MAX_TEXT_LEN → IfOk result (λ found. option_map (λ v. bare (of v)) found ≡ Some (bare x))
+    → Reads of lim f text result → ReadsAs lim f bare text x → length text ≤ MAX_OFFSET → IfOk result (λ found. option_map (λ v. bare (of v)) found ≡ Some (bare x))
 reads_found of bare lim f text (Ok found) x only (y, spells, same) short = found_bare of bare found x y (only y spells short) same
 reads_found of bare lim f text (Err e) x only reads short = tt
 

@@ -91,7 +91,7 @@ fn client(alloc: Global, line: &[u8]) -> Result<Option<Ident>, NoMemory>
     }
 }
 
-/// What a text says that is known to be a line of a listing, of at most 4 MiB (docs/CODE.md, "Lines of
+/// What a text says that is known to be a line of a listing, of less than 4 GiB (docs/CODE.md, "Lines of
 /// a listing"). Of another text it may answer anything: where it isn't known, `read_row` compares.
 ///
 /// # Errors

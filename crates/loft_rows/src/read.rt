@@ -10,7 +10,7 @@ use crate::part::find_row;
 use crate::put::put_row;
 use crate::row::Row;
 use loft_base::{NoMemory, Out};
-use loft_lex::MAX_TEXT_LEN;
+use loft_lex::MAX_OFFSET;
 use std::alloc::Global;
 
 /// Whether the line says this.
@@ -36,7 +36,7 @@ fn keep_written<T: Drop>(value: T, written: Result<bool, NoMemory>) -> Result<Op
     }
 }
 
-/// What a line of a listing says, with its line feed; nothing where it is none, or has more than 4 MiB
+/// What a line of a listing says, with its line feed; nothing where it is none, or has 4 GiB or more
 /// (docs/CODE.md, "Lines of a listing").
 ///
 /// # Errors
@@ -44,7 +44,7 @@ fn keep_written<T: Drop>(value: T, written: Result<bool, NoMemory>) -> Result<Op
 /// `NoMemory` where memory runs out, whatever the line is.
 pub fn read_row(alloc: Global, line: &[u8]) -> Result<Option<Row>, NoMemory>
     ensures read { IfOk result (λ found. IfSome found (λ row. IsLine line.now (row_of row))) }
-    ensures only { (l : ListingLine) → IsLine line.now l → length line.now ≤ MAX_TEXT_LEN
+    ensures only { (l : ListingLine) → IsLine line.now l → length line.now ≤ MAX_OFFSET
         → IfOk result (λ found. option_map (λ row. bare_line (row_of row)) found
         ≡ Some (bare_line l)) }
 {

@@ -6,7 +6,7 @@ use Rattle.loft_draft.specs.Drafts.{Draft, IsListing}
 use Rattle.loft_draft.specs.Held.{Follows}
 use Rattle.loft_draft.specs.InMemory.{IsInMemory}
 use Rattle.loft_draft.specs.Stops.{StopsAt}
-use Rattle.loft_draft.proofs.Reading.{begins, goes_on, stopped, reads_same, finished, whole, stops, only, only_stops}
+use Rattle.loft_draft.proofs.Reading.{begins, goes_on, left_short, stopped, reads_same, finished, whole, stops, only, only_stops}
 use Rattle.loft_draft.proofs.read.read_lines.Goals as goal
 
 pub lines-init : goal.lines-init
@@ -60,3 +60,6 @@ returns-in-Stop-clause-only_stops c d n at =
     let Q : Drafted → Type 0 = λ r. (r.stop ≡ Some n) × IsInMemory r.draft d in
     finished c.in-Stop.same c.lines.rest.now c.lines.line Q c.finish.result c.finish.ensures
     (λ r finishes. only_stops text c.in-Stop.same c.lines.rest.now c.lines.line r.draft r.stop reading last finishes d n at)
+
+pub take_line-requires : goal.take_line-requires
+take_line-requires c = record { short = left_short c.args.text.now c.lines.sofar c.lines.rest.now c.lines.line c.lines.invariant c.requires }

@@ -1,5 +1,4 @@
-use Rattle.std.proofs.Common.{◌≡◌, ◌≤◌, ◌++◌, length, refl, sym, ap, subst, ◌∙◌, arith}
-use Rattle.loft_lex.specs.declared.TheConstants.{MAX_TEXT_LEN}
+use Rattle.std.proofs.Common.{◌++◌, refl, sym, ap, subst, ◌∙◌}
 use Rattle.loft_rows.specs.Rows.{line_text}
 use Rattle.loft_rows.specs.RowView.{row_of}
 use Rattle.loft_rows.proofs.Feeds.{line_ends_at_feed}
@@ -7,28 +6,18 @@ use Rattle.loft_draft.specs.declared.take.Taken.{Taken}
 use Rattle.loft_draft.specs.Held.{Takes}
 use Rattle.loft_draft.specs.Taking.{lined_line}
 use Rattle.loft_draft.proofs.Offsets.{line_at_text}
-use Rattle.loft_draft.proofs.TakenLines.{IsFirst, row_goes, row_stays, found_row, found_none, found_says}
+use Rattle.loft_draft.proofs.TakenLines.{IsFirst, line_short, row_goes, row_stays, found_row, found_none, found_says}
 use Rattle.loft_draft.proofs.read.take_line.Goals as goal
 
 pub returns-in_default : goal.returns-in_default
-returns-in_default c = (refl, λ s l after holds stands may. c.in_default.ensures.only (line_text l) after (line_ends_at_feed l stands.fits.0) stands.written)
-
-pub returns-then-written-gt-MAX_TEXT_LEN : goal.returns-then-written-gt-MAX_TEXT_LEN
-returns-then-written-gt-MAX_TEXT_LEN c = (
-  refl,
-  λ s l after holds stands may.
-      (let parts = c.in-Some.ensures.only (line_text l) after (line_ends_at_feed l stands.fits.0) stands.written in
-      let same : length c.in-Some.written.now ≡ length (line_text l) = ap length parts.0 in
-      let short : length (line_text l) ≤ MAX_TEXT_LEN = stands.fits.1 in
-      absurd (omega (arith, c.if-written-gt-MAX_TEXT_LEN.true))),
-)
+returns-in_default c = (refl, λ s l after holds stands may. c.in_default.ensures.only (line_text l) after (line_ends_at_feed l stands.fits) stands.written)
 
 pub returns-in_default-2 : goal.returns-in_default-2
 returns-in_default-2 c = (
   refl,
   λ s l after holds stands may.
-      (let parts = c.in-Some.ensures.only (line_text l) after (line_ends_at_feed l stands.fits.0) stands.written in
-      found_none c.in_ok-row.field-0 l c.in_default-2.is (c.in_ok-row.ensures.only l (record { fits = stands.fits.0; written = parts.0 }) c.if-written-gt-MAX_TEXT_LEN.false)),
+      (let parts = c.in-Some.ensures.only (line_text l) after (line_ends_at_feed l stands.fits) stands.written in
+      found_none c.in_ok-row.field-0 l c.in_default-2.is (c.in_ok-row.ensures.only l (record { fits = stands.fits; written = parts.0 }) (line_short c.args.text.now c.in-Some.written.now c.in-Some.after.now c.requires.short c.in-Some.ensures.cut.1))),
 )
 
 pub take-taken-requires-clause-written : goal.take-taken-requires-clause-written
@@ -45,9 +34,8 @@ returns-in-Ok-More c =
       feed = c.in-Some.ensures.cut.0;
       whole = c.in-Some.ensures.cut.1;
       cut = c.in-Some.ensures.only;
-      short = c.if-written-gt-MAX_TEXT_LEN.false;
       says = found_says c.in_ok-row.field-0 row written c.in-Some-2.is c.in_ok-row.ensures.read;
-      only = λ l is. found_row c.in_ok-row.field-0 row l c.in-Some-2.is (c.in_ok-row.ensures.only l is c.if-written-gt-MAX_TEXT_LEN.false);
+      only = λ l is. found_row c.in_ok-row.field-0 row l c.in-Some-2.is (c.in_ok-row.ensures.only l is (line_short c.args.text.now c.in-Some.written.now c.in-Some.after.now c.requires.short c.in-Some.ensures.cut.1));
     } in
     let P : Taken → Type 0 = λ t. Takes c.args.sofar c.args.text.now (lined_line c.args.line (row_of row)) t after in
     (lined_line c.args.line (row_of row), row_goes c.args.sofar c.in-Ok-More.more c.args.line c.args.text.now written after row first (subst P c.in-Ok-More.field-0-is (subst P (sym c.in-Ok-More.ensures.same) (c.take-taken.ensures.taken c.in-Ok-More.ensures.whole))))
@@ -61,9 +49,8 @@ returns-in-Ok-Stop c =
       feed = c.in-Some.ensures.cut.0;
       whole = c.in-Some.ensures.cut.1;
       cut = c.in-Some.ensures.only;
-      short = c.if-written-gt-MAX_TEXT_LEN.false;
       says = found_says c.in_ok-row.field-0 row written c.in-Some-2.is c.in_ok-row.ensures.read;
-      only = λ l is. found_row c.in_ok-row.field-0 row l c.in-Some-2.is (c.in_ok-row.ensures.only l is c.if-written-gt-MAX_TEXT_LEN.false);
+      only = λ l is. found_row c.in_ok-row.field-0 row l c.in-Some-2.is (c.in_ok-row.ensures.only l is (line_short c.args.text.now c.in-Some.written.now c.in-Some.after.now c.requires.short c.in-Some.ensures.cut.1));
     } in
     let P : Taken → Type 0 = λ t. Takes c.args.sofar c.args.text.now (lined_line c.args.line (row_of row)) t after in
     let stays = subst P c.in-Ok-Stop.field-0-is (subst P (sym c.in-Ok-Stop.ensures.same) (c.take-taken.ensures.taken c.in-Ok-Stop.ensures.whole)) in

@@ -32,3 +32,8 @@ loop-lines-preserved c = record {
       goes_on c.args.table.now c.args.scope (c.offsets_are_free.ensures c.args.table.now c.args.scope) c.args.first os (map line_of c.loop-lines.lines.items) (map line_of c.push.new.self.items)
       c.loop-lines.line c.loop-lines.rest.now (c.in-Some.row, c.in-Some.after) g next right put;
 }
+
+pub next_operation-requires : goal.next_operation-requires
+next_operation-requires c =
+    let room : c.loop-lines.line + length c.loop-lines.rest.now < 2 ^ 32 = c.loop-lines.invariant.room in
+    record { short = omega arith }

@@ -4,7 +4,7 @@ use Rattle.loft_rows.specs.Rows.{Operation, line_text}
 use Rattle.loft_draft.specs.Drafts.{operation_lines, lines_text}
 use Rattle.loft_wrong.specs.DraftOf.{bare_operation, draft_of}
 use Rattle.loft_reading.specs.Comes.{IsOperation}
-use Rattle.loft_reading.proofs.Lines.{first_operation_line, first_ends, others_said, not_empty}
+use Rattle.loft_reading.proofs.Lines.{first_operation_line, first_ends, others_said, not_empty, line_short}
 use Rattle.loft_reading.proofs.module.next_operation.Goals as goal
 
 pub returns-in_default-clause-next : goal.returns-in_default-clause-next
@@ -32,3 +32,6 @@ returns-in-None-clause-next c number (o ∷ os) says =
     let found : option_map (λ row. bare_operation (draft_of row)) c.in_ok-row.field-0 ≡ Some o = c.in_ok-row.ensures.only number o is in
     let same = rw c.in-None.is at found in
     absurd (cc same)
+
+pub operation_in-requires : goal.operation_in-requires
+operation_in-requires c = record { short = line_short c.args.text.now c.in-Some.line.now c.in-Some.rest.now c.requires.short c.in-Some.ensures.cut.1 }
