@@ -38,7 +38,7 @@ one_at d e fits fit p l k ls ks a b is also same =
     let first = fits_at d fits p l ls is in
     let second = fits_at e fit p k ks also in
     let next = one_next l k a b first second same in
-    (sym (placed d fits p l ls is) ∙ same_lined (length p + 1) l k first.0 second.0 next.0 ∙ placed e fit p k ks also, next.1)
+    (sym (placed d fits p l ls is) ∙ same_lined (length p + 1) l k first second next.0 ∙ placed e fit p k ks also, next.1)
 
 -- one line more that both have
 further : (p : List ListingLine) (l : ListingLine) (ls all : List ListingLine) → all ≡ p ++ l ∷ ls → all ≡ (p ++ l ∷ []) ++ ls
