@@ -5,7 +5,7 @@ use Rattle.loft_step.specs.Midst.{progress_outcome}
 use Rattle.loft_job.proofs.Gathered.{gathered}
 use Rattle.loft_job.proofs.stepping.gather.Goals as goal
 
-pub returns-in_ok-tell-in-Goes-clause-sent : goal.returns-in_ok-tell-in-Goes-clause-sent
-returns-in_ok-tell-in-Goes-clause-sent c = λ a.
-    gathered a c.in-Goes.run' c.forget_acts.new.self c.acts.result.now c.args.orders.now c.tell.new.sent c.acts.ensures c.in_ok-tell-in-Goes.ensures (c.forget_acts.ensures.outcome a)
+pub returns-in_ok-tell_all-in-Goes-clause-sent : goal.returns-in_ok-tell_all-in-Goes-clause-sent
+returns-in_ok-tell_all-in-Goes-clause-sent c = λ a.
+    gathered a c.in-Goes.run' c.forget_acts.new.self c.acts.result.now c.args.orders.now c.tell_all.new.sent c.acts.ensures c.in_ok-tell_all-in-Goes.ensures (c.forget_acts.ensures.outcome a)
     ∙ ap (λ (p : Progress). c.args.orders.now ++ block_sent (progress_outcome a p)) (sym c.in-Goes.is)
