@@ -1,8 +1,6 @@
 //! Lines that are read ahead: the parts of a line one after another, as long as whole spellings of them are there.
 
 ghost use Rattle.std.specs.Prelude.{◌≡◌, ◌+◌, ◌<◌, ◌≤◌, ◌∷◌, ◌++◌, drop, length, take, true, List};
-ghost use Rattle.loft_spelling.specs.Sets.{is_digit};
-ghost use Rattle.loft_shape.specs.Sets.{set_of};
 ghost use Rattle.loft_shape.specs.Grammar.{after, after_value, begins_number, frames, head_is, id, stop, thread};
 ghost use Rattle.loft_shape.specs.declared.part.Part.{Part};
 ghost use Rattle.loft_shape.specs.declared.part.Part.TheVariants as part;
