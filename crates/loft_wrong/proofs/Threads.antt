@@ -146,8 +146,8 @@ module _ (ds : List Declared) (p : Source) where
 
 pub starts_begin : (p : Source) → SourceFits p → faults p ≡ [] → flat_map (declaration_misplaced (declared p) (heads_in p)) p ≡ []
     → Each (StartFits (heads_of (declared p) p)) (starts_in (declared p) p)
-starts_begin p fits faultless none = starts_fit (declared p) p p (heads_kept p fits faultless).starts none
+starts_begin p fits faultless none = starts_fit (declared p) p p (heads_kept p fits faultless).within.starts none
 
 pub clients_begin : (p : Source) → SourceFits p → faults p ≡ [] → flat_map (declaration_misplaced (declared p) (heads_in p)) p ≡ []
     → Each (ClientFits (heads_of (declared p) p)) (clients_in (declared p) p)
-clients_begin p fits faultless none = clients_fit (declared p) p p (heads_kept p fits faultless).clients none
+clients_begin p fits faultless none = clients_fit (declared p) p p (heads_kept p fits faultless).within.clients none
