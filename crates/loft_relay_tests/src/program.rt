@@ -5,7 +5,7 @@ ghost use Rattle.loft_tree.specs.declared.heads.HeadItem.TheVariants.{Scheduler 
 
 use loft_base::{EventId, NoMemory, SchedId, Sequence};
 use loft_code::{Code, CodeProgram, RawCode, validate};
-use loft_tree::{EventHead, HeadItem, Heads, Name};
+use loft_tree::{EventHead, HeadItem, Heads, Name, SharedHeads};
 use std::alloc::Global;
 
 /// What the program declares.
@@ -34,7 +34,7 @@ fn heads(alloc: Global) -> Result<Heads, NoMemory>
     Ok(Heads {
         schedulers,
         events,
-        shared: Sequence::new(alloc),
+        shared: SharedHeads::none(alloc),
         modules: Sequence::new(alloc),
         starts: Sequence::new(alloc),
         clients: Sequence::new(alloc),

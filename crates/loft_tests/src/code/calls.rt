@@ -9,7 +9,7 @@ ghost use Rattle.loft_code.specs.Fits.{LinesFit};
 use super::at;
 use loft_base::{ModuleId, NoMemory, SchedId, Sequence};
 use loft_code::{CodeError, CodeLine, CodeProgram, ModuleCode, Op, Pause, RawCode, validate};
-use loft_tree::{HeadItem, Heads, NamedExpr, Place, Signature};
+use loft_tree::{HeadItem, Heads, NamedExpr, Place, SharedHeads, Signature};
 use std::alloc::Global;
 use std::test::Fail;
 
@@ -42,7 +42,7 @@ fn heads(alloc: Global) -> Result<Heads, NoMemory>
     Ok(Heads {
         schedulers: Sequence::new(alloc),
         events: Sequence::new(alloc),
-        shared: Sequence::new(alloc),
+        shared: SharedHeads::none(alloc),
         modules,
         starts: Sequence::new(alloc),
         clients: Sequence::new(alloc),
