@@ -53,12 +53,7 @@ fn tell_act(alloc: Global, place: Place, sent: &mut Sents, act: &Act) -> Result<
 /// # Errors
 ///
 /// Out of memory.
-pub fn tell_all(
-    alloc: Global,
-    place: Place,
-    sent: &mut Sents,
-    acts: &[Act],
-) -> Result<(), NoMemory>
+pub fn tell_all(alloc: Global, place: Place, sent: &mut Sents, acts: &[Act]) -> Result<(), NoMemory>
     ensures { OnOk result (sent.new ≡ sent.old ++ sent_by place acts.now) }
 {
     for act in acts {
