@@ -75,25 +75,3 @@ fn a_suspended_number_stands_still(rt: HostRuntime) -> Result<(), Fail> {
     assert_eq!(rt; sent.len(), 0);
     Ok(())
 }
-
-/// Two threads have one id: the first is found, and then the other one. Stopped, and linked again, it
-/// is found at its new place.
-#[test]
-fn threads_are_found_by_their_ids(rt: HostRuntime) -> Result<(), Fail> {
-    let alloc = rt.alloc();
-    let mut line = Line::new(alloc, 0, 100)?;
-    line.link(thread(alloc, 0, Wait::Halt))?;
-    line.link(thread(alloc, 1, Wait::Halt))?;
-    line.link(thread(alloc, 1, Wait::New))?;
-    assert!(rt; line.stop(alloc, name(1)));
-    assert!(rt; line.suspend(name(1), true)?);
-    assert!(rt; line.stop(alloc, name(1)));
-    assert!(rt; !line.suspend(name(1), true)?);
-    line.link(thread(alloc, 1, Wait::New))?;
-    assert!(rt; line.suspend(name(1), true)?);
-    let standings = line.standings(alloc)?;
-    assert_eq!(rt; standings.len(), 2);
-    assert!(rt; standings.as_slice()[1].suspended);
-    assert!(rt; matches!(standings.as_slice()[1].thread.wait, Wait::New));
-    Ok(())
-}
