@@ -1,5 +1,5 @@
 -- The stops of a module, by their numbers.
-use Rattle.std.proofs.Common.{◌≡◌, ℕ, zero, suc, ◌+◌, ◌<◌, ◌≤◌, ◌⊎◌, inl, inr, Bool, true, false, List, [], ◌∷◌, refl, sym, ap, subst, ◌∙◌, length, take, cond, count_by, is_some, eq-eqb, Option, Some, None, arith}
+use Rattle.std.proofs.Common.{◌≡◌, ℕ, zero, suc, ◌+◌, ◌<◌, ◌≤◌, ◌⊎◌, inl, inr, Bool, true, false, List, [], ◌∷◌, refl, sym, ap, subst, ◌∙◌, take, cond, count_by, is_some, eq-eqb, Option, Some, None, arith}
 use Rattle.std.proofs.lemmas.Bool.{eqb-true, cases_lt}
 use Rattle.std.proofs.lemmas.Option.{slice_get_within, slice_get_cases}
 use Rattle.std.proofs.lemmas.List.{take-take}
@@ -28,9 +28,6 @@ is_same o k is = ap (λ (x : Option ℕ). is_number x k) is ∙ eq-eqb k k refl
 
 -- ---- the search
 
-pub lies_in_all : (lines : List Line) (n k : ℕ) → n ≡ length lines → LiesIn lines k 0 n
-lies_in_all lines n k all p l at stop = (omega arith, omega (arith, slice_get_within lines p l at, all))
-
 -- the stop at an operation
 abbrev stop_in : List Line → ℕ → Option ℕ
 stop_in lines p = option_and_then (λ (l : Line). stop_of l.operation) (slice_get lines p)
@@ -44,18 +41,7 @@ same_stop o j k one other = ap (λ (x : Option ℕ). unwrap_or x 0) (sym one ∙
 no_stop : (o : Option ℕ) (k : ℕ) → o ≡ None → o ≡ Some k → ⊥
 no_stop o k none some = absurd (let e : None ≡ Some k = sym none ∙ some in cc)
 
--- stop k isn't in a part without stops
-pub lies_behind : (lines : List Line) (k low high to : ℕ) → LiesIn lines k low high → HasNoStop lines low to → LiesIn lines k to high
-lies_behind lines k low high to lies none p l at stop = elim (cases_lt p to) [
-  | inl lt ↦ absurd (no_stop (stop_of l.operation) k (none p l (lies p l at stop).0 lt at) stop)
-  | inr ge ↦ (ge, (lies p l at stop).1)
-]
-
 module _ (lines : List Line) (numbered : StopsAreNumbered lines) (k low high to op j : ℕ) (found : IsLastStop lines low to op j) where
-  -- the last stop of a part has the number
-  pub first_there : j ≡ k → stop_from 0 lines k ≡ Some op
-  first_there same = (numbered op k found.line found.here (found.stop ∙ ap (λ (n : ℕ). Some n) same)).first
-
   number_is : (p : ℕ) (l : Line) → p ≡ op → slice_get lines p ≡ Some l → stop_of l.operation ≡ Some k → j ≡ k
   number_is p l here at stop =
       same_stop (stop_in lines op) j k (stop_there lines op found.line (Some j) found.here found.stop)
