@@ -179,6 +179,11 @@ failed_does (inr is) part no_room by_lines = record {
   by_lines = by_lines;
 }
 
+-- memory ran out before anything was written
+pub no_memory_does : {c : FileCommand} {x : Input} {old : Option (List ℕ)} {room : ℕ} {lines : Bool} (result : Result (Unit {0}) Stopped)
+    → result ≡ Err stopped.NoMemory → Does c x result old old room room lines lines
+no_memory_does {c = c} {x = x} result is = failed_does (inr is) (not_begun (IsAnswerFor c x) refl) (λ e. absurd cc) (λ t. t)
+
 -- what stops a command whose text can't be written
 pub write_stops : (w : WriteError) (result : Result (Unit {0}) Stopped) → result ≡ Err (stop_of_write w) → result ≡ Err stopped.SinkFault ⊎ result ≡ Err stopped.NoMemory
 write_stops write.Sink result is = inl is

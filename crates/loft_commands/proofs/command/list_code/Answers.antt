@@ -14,13 +14,18 @@ use Rattle.loft_words.specs.Command.{Compile}
 use Rattle.loft_refusal.specs.Input.{ASource}
 use Rattle.loft_commands.specs.Promise.{IsAnswerFor}
 use Rattle.loft_commands.proofs.AnswerLines.{listing_lines}
-use Rattle.loft_commands.proofs.Doing.{done_does, failed_does, write_stops, write_blamed}
+use Rattle.loft_commands.proofs.Doing.{done_does, failed_does, no_memory_does, write_stops, write_blamed}
 use Rattle.loft_commands.proofs.Written.{appends, begun}
 use Rattle.loft_commands.proofs.command.list_code.Goals as goal
 
 pub write_lines-requires : goal.write_lines-requires
 write_lines-requires g c =
     ap are_lines (c.as_slice.ensures.value ∙ c.in_ok-text.ensures) ∙ listing_lines (compiled (resolved_of (program_of c.in_ok-placed.placed)))
+
+pub returns-in_err-text-clause-does : goal.returns-in_err-text-clause-does
+returns-in_err-text-clause-does g c = λ file.
+    let p = err_from_is_err_and c.from_residual-in_err-text.result c.from_residual-in_err-text.ensures.1 in
+    no_memory_does c.from_residual-in_err-text.result (p.1 ∙ ap (λ (e : Stopped). Err e) p.2)
 
 pub returns-in_err-write_lines-clause-does : goal.returns-in_err-write_lines-clause-does
 returns-in_err-write_lines-clause-does g c = λ file.
