@@ -30,7 +30,7 @@ use Rattle.loft_tree.specs.declared.named.Target.{Target}
 use Rattle.loft_tree.specs.declared.named.Target.TheVariants as target
 use Rattle.loft_tree.specs.declared.named.LinkItem.{LinkItem}
 use Rattle.loft_tree.specs.declared.named.LinkItem.TheVariants as link
-use Rattle.loft_tree.specs.NamedTree.{EventUse, NamedExpression, Number, Slot, Shared, Special, Unary, Binary, NamedCreation, NamedStatement, Assign, AssignCreate, Create, PrintText, PrintValue, Cooperate, Generate, Await, Select, Get, Join, ControlThread, Broadcast, Link, Unlink, Run, Halt, If, While, Repeat, NamedStatements, Done, Then, NamedModule, NamedProgram}
+use Rattle.loft_tree.specs.NamedTree.{EventUse, NamedExpression, Number, Slot, Shared, Special, Unary, Binary, NamedCreation, NamedAction, Assign, Make, PrintText, PrintValue, Generate, ControlThread, Broadcast, NamedPause, Cooperate, Await, Get, Join, Link, Unlink, Halt, NamedStatement, Do, Hold, Run, If, While, Repeat, NamedStatements, Done, Then, NamedModule, NamedProgram}
 use Rattle.loft_tree.specs.Fits.{Each, IfThere, NumberFits, SignedFits}
 use Rattle.loft_tree.specs.HeadsFit.{agree, kinds_of}
 use Rattle.loft_tree.specs.KindOf.{builtin_kind, compares}
@@ -238,34 +238,40 @@ module _ (h : Heads) (slots : List Kind) where
     pub scheduler : IsScheduler h c.scheduler
     pub call : IsCall n (slice_get h.modules c.module.0) c.arguments
 
-  -- two events or more that are declared, and few enough
+  -- events that are declared: at least one, and few enough
   pub record ChoicesHold (events : List EventUse) : Type 0 where
     pub each : Each IsEvent events
-    pub several : 2 ≤ length events
+    pub some : 1 ≤ length events
     pub few : length events ≤ MAX_CHOICES
 
   -- ---- statements
 
+  -- an action, where n nestings may still be opened
+  abbrev pub ActionHolds : NamedAction → ℕ → Type 0
+  ActionHolds (Assign target value) n = (kind : Kind) × TargetHasKind target kind × IsOf kind n value
+  ActionHolds (Make target creation) n = IfThere (λ t. TargetHasKind t Thread) target × CreationHolds n creation
+  ActionHolds (PrintText line value) n = IsTrue (is_text line) × IfThere (IsValue n) value
+  ActionHolds (PrintValue value) n = IsValue n value
+  ActionHolds (Generate event value) n = IsEvent event × IfThere (IsOf Int n) value
+  ActionHolds (ControlThread control thread scheduler) n = IsOf Thread n thread × IsScheduler h scheduler
+  ActionHolds (Broadcast event value) n = IsEvent event × IfThere (IsOf Int n) value
+
+  -- the same of a pause
+  abbrev pub PauseHolds : NamedPause → ℕ → Type 0
+  PauseHolds (Cooperate instants) n = IfThere (IsOf Int n) instants
+  PauseHolds (Await events limit) n = ChoicesHold events × IfThere (IsOf Int n) limit
+  PauseHolds (Get event index target) n = IsEvent event × IsOf Int n index × TargetHasKind target Int
+  PauseHolds (Join thread limit) n = IsOf Thread n thread × IfThere (IsOf Int n) limit
+  PauseHolds (Link scheduler) n = IsScheduler h scheduler
+  PauseHolds Unlink n = Unit {0}
+  PauseHolds Halt n = Unit {0}
+
   -- statements, where n nestings may still be opened; an `if` or a loop opens one for all that stands in it
   abbrev mutual
     pub StatementHolds : NamedStatement → ℕ → Type 0
-    StatementHolds (Assign target value) n = (kind : Kind) × TargetHasKind target kind × IsOf kind n value
-    StatementHolds (AssignCreate target at creation) n = TargetHasKind target Thread × CreationHolds n creation
-    StatementHolds (Create at creation) n = CreationHolds n creation
-    StatementHolds (PrintText at line value) n = IsTrue (is_text line) × IfThere (IsValue n) value
-    StatementHolds (PrintValue at value) n = IsValue n value
-    StatementHolds (Cooperate at stop instants) n = IfThere (IsOf Int n) instants
-    StatementHolds (Generate at event value) n = IsEvent event × IfThere (IsOf Int n) value
-    StatementHolds (Await at stop event limit) n = IsEvent event × IfThere (IsOf Int n) limit
-    StatementHolds (Select at stop events limit) n = ChoicesHold events × IfThere (IsOf Int n) limit
-    StatementHolds (Get at stop event index target) n = IsEvent event × IsOf Int n index × TargetHasKind target Int
-    StatementHolds (Join at stop thread limit) n = IsOf Thread n thread × IfThere (IsOf Int n) limit
-    StatementHolds (ControlThread at control thread scheduler) n = IsOf Thread n thread × IsScheduler h scheduler
-    StatementHolds (Broadcast at event value) n = IsEvent event × IfThere (IsOf Int n) value
-    StatementHolds (Link at stop scheduler) n = IsScheduler h scheduler
-    StatementHolds (Unlink at stop) n = Unit {0}
+    StatementHolds (Do at action) n = ActionHolds action n
+    StatementHolds (Hold at stop pause) n = PauseHolds pause n
     StatementHolds (Run at stop called m arguments) n = IsCall n (slice_get h.modules m.0) arguments
-    StatementHolds (Halt at stop) n = Unit {0}
     StatementHolds (If at test first second) n = (m : ℕ) × (n ≡ m + 1) × IsOf Int m test × StatementsHold first m × StatementsHold second m
     StatementHolds (While at test body) n = (m : ℕ) × (n ≡ m + 1) × IsOf Int m test × StatementsHold body m
     StatementHolds (Repeat at count body) n = (m : ℕ) × (n ≡ m + 1) × IsOf Int m count × StatementsHold body m

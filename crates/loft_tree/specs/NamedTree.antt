@@ -33,26 +33,35 @@ pub record NamedCreation : Type 0 where
   pub «module» : ModuleId
   pub arguments : List NamedExpression
 
--- A statement; `at` is the offset of its word, and a stop bears its number.
+-- what a statement does that goes on at the next one at once, or ends its thread
+pub data NamedAction : Type 0 where
+  Assign : (target : Target) (value : NamedExpression) → NamedAction
+  -- a thread is made, and the variable is set to it, if there is one
+  Make : (target : Option Target) (creation : NamedCreation) → NamedAction
+  PrintText : (line : List ℕ) (value : Option NamedExpression) → NamedAction
+  PrintValue : (value : NamedExpression) → NamedAction
+  Generate : (event : EventUse) (value : Option NamedExpression) → NamedAction
+  ControlThread : (control : Control) (thread : NamedExpression) (scheduler : SchedId) → NamedAction
+  Broadcast : (event : EventUse) (value : Option NamedExpression) → NamedAction
+
+-- what a stop waits for, but for `run`
+pub data NamedPause : Type 0 where
+  Cooperate : (instants : Option NamedExpression) → NamedPause
+  -- one event of these: one for `await`, two or more for `select`
+  Await : (events : List EventUse) (limit : Option NamedExpression) → NamedPause
+  Get : (event : EventUse) (index : NamedExpression) (target : Target) → NamedPause
+  Join : (thread : NamedExpression) (limit : Option NamedExpression) → NamedPause
+  Link : (scheduler : SchedId) → NamedPause
+  Unlink : NamedPause
+  Halt : NamedPause
+
+-- A statement: it does an action, holds at a stop, runs a module, or has bodies. `at` is the offset of its word, or of the
+-- variable of an assignment without a `create`; a stop bears its number.
 mutual
   pub data NamedStatement : Type 0 where
-    Assign : (target : Target) (value : NamedExpression) → NamedStatement
-    AssignCreate : (target : Target) (at : ℕ) (creation : NamedCreation) → NamedStatement
-    Create : (at : ℕ) (creation : NamedCreation) → NamedStatement
-    PrintText : (at : ℕ) (line : List ℕ) (value : Option NamedExpression) → NamedStatement
-    PrintValue : (at : ℕ) (value : NamedExpression) → NamedStatement
-    Cooperate : (at stop : ℕ) (instants : Option NamedExpression) → NamedStatement
-    Generate : (at : ℕ) (event : EventUse) (value : Option NamedExpression) → NamedStatement
-    Await : (at stop : ℕ) (event : EventUse) (limit : Option NamedExpression) → NamedStatement
-    Select : (at stop : ℕ) (events : List EventUse) (limit : Option NamedExpression) → NamedStatement
-    Get : (at stop : ℕ) (event : EventUse) (index : NamedExpression) (target : Target) → NamedStatement
-    Join : (at stop : ℕ) (thread : NamedExpression) (limit : Option NamedExpression) → NamedStatement
-    ControlThread : (at : ℕ) (control : Control) (thread : NamedExpression) (scheduler : SchedId) → NamedStatement
-    Broadcast : (at : ℕ) (event : EventUse) (value : Option NamedExpression) → NamedStatement
-    Link : (at stop : ℕ) (scheduler : SchedId) → NamedStatement
-    Unlink : (at stop : ℕ) → NamedStatement
+    Do : (at : ℕ) (action : NamedAction) → NamedStatement
+    Hold : (at stop : ℕ) (pause : NamedPause) → NamedStatement
     Run : (at stop called : ℕ) («module» : ModuleId) (arguments : List NamedExpression) → NamedStatement
-    Halt : (at stop : ℕ) → NamedStatement
     If : (at : ℕ) (test : NamedExpression) (first second : NamedStatements) → NamedStatement
     While : (at : ℕ) (test : NamedExpression) (body : NamedStatements) → NamedStatement
     Repeat : (at : ℕ) (count : NamedExpression) (body : NamedStatements) → NamedStatement

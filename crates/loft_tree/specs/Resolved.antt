@@ -1,5 +1,5 @@
 -- A program with numbers in place of names and without the offsets of its text: what runs (docs/SEMANTICS.md, "Machine").
-use Rattle.std.specs.Prelude.{ℕ, ℤ, List, [], ◌∷◌, map, Option, Some, None}
+use Rattle.std.specs.Prelude.{ℕ, ℤ, List, map, Option}
 use Rattle.std.specs.Option.{option_map}
 use Rattle.loft_base.specs.declared.ids.SchedId.{SchedId}
 use Rattle.loft_base.specs.declared.ids.EventId.{EventId}
@@ -13,7 +13,7 @@ use Rattle.loft_tree.specs.declared.heads.Heads.{Heads}
 use Rattle.loft_tree.specs.declared.named.Target.{Target as NamedTarget}
 use Rattle.loft_tree.specs.declared.named.Target.TheVariants as named_target
 use Rattle.loft_tree.specs.NamedTree as named
-use Rattle.loft_tree.specs.NamedTree.{EventUse, NamedExpression, NamedCreation, NamedStatement, NamedStatements, NamedProgram}
+use Rattle.loft_tree.specs.NamedTree.{EventUse, NamedExpression, NamedAction, NamedPause, NamedStatement, NamedStatements, NamedProgram}
 
 pub data Exp : Type 0 where
   Number : (value : ℤ) → Exp
@@ -97,28 +97,32 @@ target_of (named_target.Shared at shared) = ToShared shared
 abbrev pub events_of : List EventUse → List EventId
 events_of es = map (λ e. e.event) es
 
-abbrev pub make_of : Option Target → NamedCreation → Step
-make_of target c = Do (Make target c.scheduler c.module (exps_of c.arguments))
+abbrev pub target_if : Option NamedTarget → Option Target
+target_if t = option_map target_of t
+
+abbrev pub action_of : NamedAction → Action
+action_of (named.Assign target value) = Assign (target_of target) (exp_of value)
+action_of (named.Make target creation) = Make (target_if target) creation.scheduler creation.module (exps_of creation.arguments)
+action_of (named.PrintText line value) = PrintText line (exp_if value)
+action_of (named.PrintValue value) = PrintValue (exp_of value)
+action_of (named.Generate event value) = Generate event.event (exp_if value)
+action_of (named.ControlThread control thread scheduler) = ControlThread control (exp_of thread) scheduler
+action_of (named.Broadcast event value) = Broadcast event.event (exp_if value)
+
+abbrev pub pause_of : NamedPause → Pause
+pause_of (named.Cooperate instants) = Cooperate (exp_if instants)
+pause_of (named.Await events limit) = Await (events_of events) (exp_if limit)
+pause_of (named.Get event index target) = Get event.event (exp_of index) (target_of target)
+pause_of (named.Join thread limit) = Join (exp_of thread) (exp_if limit)
+pause_of (named.Link scheduler) = Link scheduler
+pause_of named.Unlink = Unlink
+pause_of named.Halt = Halt
 
 abbrev mutual
   pub step_of : NamedStatement → Step
-  step_of (named.Assign target value) = Do (Assign (target_of target) (exp_of value))
-  step_of (named.AssignCreate target at creation) = make_of (Some (target_of target)) creation
-  step_of (named.Create at creation) = make_of None creation
-  step_of (named.PrintText at line value) = Do (PrintText line (exp_if value))
-  step_of (named.PrintValue at value) = Do (PrintValue (exp_of value))
-  step_of (named.Cooperate at stop instants) = Hold stop (Cooperate (exp_if instants))
-  step_of (named.Generate at event value) = Do (Generate event.event (exp_if value))
-  step_of (named.Await at stop event limit) = Hold stop (Await (event.event ∷ []) (exp_if limit))
-  step_of (named.Select at stop events limit) = Hold stop (Await (events_of events) (exp_if limit))
-  step_of (named.Get at stop event index target) = Hold stop (Get event.event (exp_of index) (target_of target))
-  step_of (named.Join at stop thread limit) = Hold stop (Join (exp_of thread) (exp_if limit))
-  step_of (named.ControlThread at control thread scheduler) = Do (ControlThread control (exp_of thread) scheduler)
-  step_of (named.Broadcast at event value) = Do (Broadcast event.event (exp_if value))
-  step_of (named.Link at stop scheduler) = Hold stop (Link scheduler)
-  step_of (named.Unlink at stop) = Hold stop Unlink
+  step_of (named.Do at action) = Do (action_of action)
+  step_of (named.Hold at stop pause) = Hold stop (pause_of pause)
   step_of (named.Run at stop called «module» arguments) = Call stop «module» (exps_of arguments)
-  step_of (named.Halt at stop) = Hold stop Halt
   step_of (named.If at test first second) = Choose (exp_of test) (body_of first) (body_of second)
   step_of (named.While at test body) = Loop (exp_of test) (body_of body)
   step_of (named.Repeat at count body) = Times (exp_of count) (body_of body)

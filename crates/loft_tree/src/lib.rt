@@ -1,6 +1,7 @@
 //! Programs: what a source text says, and the same with numbers in place of names.
 #![tactic(auto)]
 
+mod action;
 mod copy;
 mod expression;
 mod heads;
@@ -10,9 +11,11 @@ pub mod limits;
 mod named;
 mod program;
 mod shared_heads;
+mod shared_text;
 mod statement;
 mod stopping;
 
+pub use action::{Action, Pause};
 pub use expression::Expr;
 pub use heads::{
     Arguments, Client, ClientOrder, EventHead, HeadItem, Heads, Name, Names, Place, SharedHead,
@@ -25,5 +28,6 @@ pub use named::{
 };
 pub use program::{Argument, Item, ModuleHead, OutsideOrder, PlaceName, Program, Variable};
 pub use shared_heads::SharedHeads;
+pub use shared_text::SharedText;
 pub use statement::{Creation, EventName, Stmt, Text};
 pub use stopping::stops;

@@ -5,9 +5,9 @@ ghost use Rattle.loft_tree.specs.declared.limits.TheConstants.{MAX_STATEMENTS};
 ghost use Rattle.loft_tree.specs.NamedView.{statements_of};
 ghost use Rattle.loft_tree.specs.Stops.{size};
 
+use crate::action::{Action, Pause};
 use crate::heads::Heads;
-use crate::kinds::{BinaryOperator, Builtin, Control, UnaryOperator};
-use crate::statement::Text;
+use crate::kinds::{BinaryOperator, Builtin, UnaryOperator};
 use loft_base::{EventId, ModuleId, SchedId, SharedId};
 use std::marker::Model;
 
@@ -61,100 +61,20 @@ pub struct NamedCreation {
     pub arguments: Vec<NamedExpr>,
 }
 
-/// A statement; `at` is the offset of its word. The stops of a module are numbered from 1 in text order.
+/// A statement: it does an action, holds at a stop, runs a module, or has bodies. `at` is the offset of its word, or of the
+/// variable of an assignment without a `create`. The stops of a module are numbered from 1 in text order.
 #[derive(Drop)]
 pub enum NamedStmt {
-    /// `x = E;`
-    Assign {
-        target: Target,
-        value: NamedExpr,
-    },
-    /// `t = create S.m(E, F);`
-    AssignCreate {
-        target: Target,
+    /// A statement that goes on at the next one at once, or ends its thread.
+    Do {
         at: u32,
-        creation: NamedCreation,
+        action: Action,
     },
-    /// `create S.m(E, F);`
-    Create {
-        at: u32,
-        creation: NamedCreation,
-    },
-    /// `print "..";` or `print "..", E;`
-    PrintText {
-        at: u32,
-        text: Text,
-        value: Option<NamedExpr>,
-    },
-    /// `print E;`
-    PrintValue {
-        at: u32,
-        value: NamedExpr,
-    },
-    /// `cooperate;` or `cooperate E;`
-    Cooperate {
+    /// A stop but for `run`.
+    Hold {
         at: u32,
         stop: u32,
-        instants: Option<NamedExpr>,
-    },
-    /// `generate e;` or `generate e, E;`
-    Generate {
-        at: u32,
-        event: EventUse,
-        value: Option<NamedExpr>,
-    },
-    /// `await e;` or `await e for E;`
-    Await {
-        at: u32,
-        stop: u32,
-        event: EventUse,
-        limit: Option<NamedExpr>,
-    },
-    /// `select e, g;` or `select e, g for E;`
-    Select {
-        at: u32,
-        stop: u32,
-        events: Vec<EventUse>,
-        limit: Option<NamedExpr>,
-    },
-    /// `get e at E into x;`
-    Get {
-        at: u32,
-        stop: u32,
-        event: EventUse,
-        index: NamedExpr,
-        target: Target,
-    },
-    /// `join E;` or `join E for F;`
-    Join {
-        at: u32,
-        stop: u32,
-        thread: NamedExpr,
-        limit: Option<NamedExpr>,
-    },
-    /// `stop E in S;`, `suspend E in S;` or `resume E in S;`
-    Control {
-        at: u32,
-        control: Control,
-        thread: NamedExpr,
-        scheduler: SchedId,
-    },
-    /// `broadcast e;` or `broadcast e, E;`
-    Broadcast {
-        at: u32,
-        event: EventUse,
-        value: Option<NamedExpr>,
-    },
-    /// `link S;`
-    Link {
-        at: u32,
-        stop: u32,
-        scheduler: SchedId,
-    },
-    /// `unlink;`
-    Unlink {
-        at: u32,
-        stop: u32,
+        pause: Pause,
     },
     /// `run m(E, F);`, where the module's name stands at the offset `called`.
     Run {
@@ -163,11 +83,6 @@ pub enum NamedStmt {
         called: u32,
         module: ModuleId,
         arguments: Vec<NamedExpr>,
-    },
-    /// `halt;`
-    Halt {
-        at: u32,
-        stop: u32,
     },
     /// `if (E) then X else Y end`
     If {

@@ -14,22 +14,14 @@ fn stops_in(statement: &NamedStmt) -> u32
     ensures { result ≡ stops_in (statement_of statement.now) }
 {
     match statement {
-        NamedStmt::Cooperate { .. }
-        | NamedStmt::Await { .. }
-        | NamedStmt::Select { .. }
-        | NamedStmt::Get { .. }
-        | NamedStmt::Join { .. }
-        | NamedStmt::Link { .. }
-        | NamedStmt::Unlink { .. }
-        | NamedStmt::Run { .. }
-        | NamedStmt::Halt { .. } => 1,
+        NamedStmt::Do { .. } => 0,
+        NamedStmt::Hold { .. } | NamedStmt::Run { .. } => 1,
         NamedStmt::If { first, second, .. } => {
             body_stops(first.as_slice()) + body_stops(second.as_slice())
         }
         NamedStmt::While { body, .. } | NamedStmt::Repeat { body, .. } => {
             body_stops(body.as_slice())
         }
-        _ => 0,
     }
 }
 
