@@ -5,15 +5,17 @@ ghost use Rattle.loft_tree.specs.HeadsFit.{kinds_of};
 ghost use Rattle.loft_tree.specs.KindOf.{builtin_kind, compares};
 ghost use Rattle.loft_tree.specs.NamedView.{value_of};
 ghost use Rattle.loft_tree.specs.NamedFits.{slots_of};
-ghost use Rattle.loft_tree.specs.Resolved.{exp_if, target_of};
-ghost use Rattle.loft_code.specs.View.{exp_in, exps_in, target_in, action_of, pause_of, operation_of, line_of};
+ghost use Rattle.loft_tree.specs.Resolved.{exp_if, target_of, target_if};
+ghost use Rattle.loft_code.specs.View.{exp_in, exps_in, action_of, pause_of, operation_of, line_of};
 ghost use Rattle.loft_code.specs.Kinds.{same_kind, kind_or_int, kind_of, operands_agree, agrees, has_kind, int_if, agrees_if, arguments_agree, call_agrees, target_kind, thread_if, action_agrees, pause_agrees, operation_agrees, has_bad_kind};
 
-use crate::op::{Action, Op, Pause};
+use crate::op::Op;
 use crate::raw::CodeLine;
 use crate::slots::slot_kind;
 use loft_base::ModuleId;
-use loft_tree::{BinaryOperator, Builtin, Heads, Kind, NamedExpr, Signature, SlotHead, Target};
+use loft_tree::{
+    Action, BinaryOperator, Builtin, Heads, Kind, NamedExpr, Pause, Signature, SlotHead, Target,
+};
 
 /// Whether two kinds are the same.
 fn same_kind(left: Kind, right: Kind) -> bool
@@ -195,7 +197,7 @@ fn target_kind(signature: &Signature, target: Target) -> Kind
 
 /// Whether a variable that a new thread is assigned to, if there is one, is a thread.
 fn thread_if(signature: &Signature, target: Option<Target>) -> bool
-    ensures { result ≡ thread_if (slots_of signature.now) (target_in target) }
+    ensures { result ≡ thread_if (slots_of signature.now) (target_if target) }
 {
     match target {
         Some(target) => same_kind(target_kind(signature, target), Kind::Thread),
@@ -211,14 +213,14 @@ fn action_agrees(heads: &Heads, signature: &Signature, action: &Action) -> bool
         Action::Assign { target, value } => {
             has_kind(signature, target_kind(signature, *target), value)
         }
-        Action::Make {
-            target,
-            module,
-            arguments,
-            ..
-        } => {
+        Action::Make { target, creation } => {
             thread_if(signature, *target)
-                && call_agrees(heads, signature, *module, arguments.as_slice())
+                && call_agrees(
+                    heads,
+                    signature,
+                    creation.module,
+                    creation.arguments.as_slice(),
+                )
         }
         Action::PrintText { value, .. } => agrees_if(signature, value),
         Action::PrintValue(value) => agrees(signature, value),

@@ -3,16 +3,16 @@
 ghost use Rattle.std.specs.Prelude.{◌≡◌};
 ghost use Rattle.loft_tree.specs.NamedView.{value_of};
 ghost use Rattle.loft_tree.specs.NamedFits.{slots_of};
-ghost use Rattle.loft_tree.specs.Resolved.{exp_if, target_of};
-ghost use Rattle.loft_code.specs.View.{exp_in, exps_in, target_in, action_of, pause_of, operation_of, line_of};
+ghost use Rattle.loft_tree.specs.Resolved.{exp_if, target_of, target_if};
+ghost use Rattle.loft_code.specs.View.{exp_in, exps_in, events_in, action_of, pause_of, operation_of, line_of};
 ghost use Rattle.loft_code.specs.Names.{has_scheduler, has_event, has_shared, has_module, has_place, has_events, has_choices, exp_has, value_has, exps_have, target_has, made_has, action_has, pause_has, operation_has, has_bad_name};
 
-use crate::op::{Action, Op, Pause};
+use crate::op::Op;
 use crate::raw::CodeLine;
 use crate::slots::slot_kind;
 use loft_base::{EventId, ModuleId, SchedId, SharedId};
 use loft_tree::limits::MAX_CHOICES;
-use loft_tree::{Heads, NamedExpr, Place, Signature, Target};
+use loft_tree::{Action, EventUse, Heads, NamedExpr, Pause, Place, Signature, Target};
 
 /// Whether a scheduler is declared.
 fn has_scheduler(heads: &Heads, scheduler: SchedId) -> bool
@@ -53,11 +53,11 @@ fn has_place(heads: &Heads, place: Place) -> bool
 }
 
 /// Whether all events are declared.
-fn has_events(heads: &Heads, events: &[EventId]) -> bool
-    ensures { result ≡ has_events heads.now events.now }
+fn has_events(heads: &Heads, events: &[EventUse]) -> bool
+    ensures { result ≡ has_events heads.now (events_in events.now) }
 {
     for event in events {
-        if !has_event(heads, *event) {
+        if !has_event(heads, event.event) {
             return false;
         }
     }
@@ -65,8 +65,8 @@ fn has_events(heads: &Heads, events: &[EventId]) -> bool
 }
 
 /// The same of the events of a wait, of which there may be 1 to 8.
-fn has_choices(heads: &Heads, events: &[EventId]) -> bool
-    ensures { result ≡ has_choices heads.now events.now }
+fn has_choices(heads: &Heads, events: &[EventUse]) -> bool
+    ensures { result ≡ has_choices heads.now (events_in events.now) }
 {
     1 <= events.len() && events.len() <= MAX_CHOICES && has_events(heads, events)
 }
@@ -120,7 +120,7 @@ fn target_has(heads: &Heads, signature: &Signature, target: Target) -> bool
 
 /// The same of a variable that may be left out.
 fn made_has(heads: &Heads, signature: &Signature, target: Option<Target>) -> bool
-    ensures { result ≡ made_has heads.now (slots_of signature.now) (target_in target) }
+    ensures { result ≡ made_has heads.now (slots_of signature.now) (target_if target) }
 {
     match target {
         Some(target) => target_has(heads, signature, target),
@@ -136,21 +136,16 @@ fn action_has(heads: &Heads, signature: &Signature, action: &Action) -> bool
         Action::Assign { target, value } => {
             target_has(heads, signature, *target) && exp_has(heads, signature, value)
         }
-        Action::Make {
-            target,
-            scheduler,
-            module,
-            arguments,
-        } => {
+        Action::Make { target, creation } => {
             made_has(heads, signature, *target)
-                && has_scheduler(heads, *scheduler)
-                && has_module(heads, *module)
-                && exps_have(heads, signature, arguments.as_slice())
+                && has_scheduler(heads, creation.scheduler)
+                && has_module(heads, creation.module)
+                && exps_have(heads, signature, creation.arguments.as_slice())
         }
         Action::PrintText { value, .. } => value_has(heads, signature, value),
         Action::PrintValue(value) => exp_has(heads, signature, value),
         Action::Generate { event, value } | Action::Broadcast { event, value } => {
-            has_event(heads, *event) && value_has(heads, signature, value)
+            has_event(heads, event.event) && value_has(heads, signature, value)
         }
         Action::Control {
             thread,
@@ -174,7 +169,7 @@ fn pause_has(heads: &Heads, signature: &Signature, pause: &Pause) -> bool
             index,
             target,
         } => {
-            has_event(heads, *event)
+            has_event(heads, event.event)
                 && exp_has(heads, signature, index)
                 && target_has(heads, signature, *target)
         }

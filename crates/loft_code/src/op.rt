@@ -4,80 +4,8 @@ ghost use Rattle.std.specs.Prelude.{◌≡◌};
 ghost use Rattle.loft_code.specs.View.{operation_of};
 ghost use Rattle.loft_code.specs.Operations.{is_test, is_end, is_turn, is_last, stop_of};
 
-use crate::shared_text::SharedText;
-use loft_base::{EventId, ModuleId, SchedId};
-use loft_tree::{Control, NamedExpr, Target};
-
-/// What an operation does that goes on at the next one at once, or ends its thread.
-#[derive(Drop)]
-pub enum Action {
-    /// `x = E;`
-    Assign {
-        target: Target,
-        value: NamedExpr,
-    },
-    /// `create S.m(E, F);` or `t = create S.m(E, F);`
-    Make {
-        target: Option<Target>,
-        scheduler: SchedId,
-        module: ModuleId,
-        arguments: Vec<NamedExpr>,
-    },
-    /// `print "..";` or `print "..", E;`
-    PrintText {
-        text: SharedText,
-        value: Option<NamedExpr>,
-    },
-    /// `print E;`
-    PrintValue(NamedExpr),
-    /// `generate e;` or `generate e, E;`
-    Generate {
-        event: EventId,
-        value: Option<NamedExpr>,
-    },
-    /// `stop E in S;`, `suspend E in S;` or `resume E in S;`
-    Control {
-        control: Control,
-        thread: NamedExpr,
-        scheduler: SchedId,
-    },
-    /// `broadcast e;` or `broadcast e, E;`
-    Broadcast {
-        event: EventId,
-        value: Option<NamedExpr>,
-    },
-}
-
-/// What a stop waits for, but for `run`.
-#[derive(Drop)]
-pub enum Pause {
-    /// `cooperate;` or `cooperate E;`
-    Cooperate {
-        instants: Option<NamedExpr>,
-    },
-    /// One event of these: `await e;` with one, `select e, g;` with two or more; both also with `for E`.
-    Await {
-        events: Vec<EventId>,
-        limit: Option<NamedExpr>,
-    },
-    /// `get e at E into x;`
-    Get {
-        event: EventId,
-        index: NamedExpr,
-        target: Target,
-    },
-    /// `join E;` or `join E for F;`
-    Join {
-        thread: NamedExpr,
-        limit: Option<NamedExpr>,
-    },
-    /// `link S;`
-    Link(SchedId),
-    /// `unlink;`
-    Unlink,
-    /// `halt;`
-    Halt,
-}
+use loft_base::ModuleId;
+use loft_tree::{Action, NamedExpr, Pause};
 
 /// An operation (docs/CODE.md, "Operations"). A target is the number of an operation of the same module, from 0; a stop
 /// bears its number, from 1. Both may be any number here: `validate` refuses those that are wrong. The offsets in

@@ -3,16 +3,16 @@
 ghost use Rattle.std.specs.Prelude.{◌≡◌, ◌+◌, ◌^◌, ◌<◌, map, slice_get};
 ghost use Rattle.std.specs.Option.{option_to_list};
 ghost use Rattle.loft_tree.specs.NamedView.{value_of};
-ghost use Rattle.loft_tree.specs.Resolved.{exp_if, target_of};
-ghost use Rattle.loft_code.specs.View.{exp_in, exps_in, target_in, action_of, pause_of, operation_of, line_of};
+ghost use Rattle.loft_tree.specs.Resolved.{exp_if, target_of, target_if};
+ghost use Rattle.loft_code.specs.View.{exp_in, exps_in, events_in, action_of, pause_of, operation_of, line_of};
 ghost use Rattle.loft_code.specs.Operations.{goes_on_at};
 ghost use Rattle.loft_code.specs.Places.{is_linked, is_at, same_place, linked_action, linked_pause, linked_only, begins_at, event_is_here, shared_is_here, exp_is_here, value_is_here, exps_are_here, target_is_here, made_is_here, events_are_here, action_is_here, pause_is_here, operation_is_here, is_allowed, end_of, left_by_pause, place_left, is_elsewhere, leads_elsewhere, has_bad_place};
 
-use crate::op::{Action, Op, Pause, is_end};
+use crate::op::{Op, is_end};
 use crate::raw::CodeLine;
 use crate::ways::{Way, goes_on_at};
 use loft_base::{EventId, ModuleId, SchedId, SharedId};
-use loft_tree::{Heads, NamedExpr, Place, Signature, Target};
+use loft_tree::{Action, EventUse, Heads, NamedExpr, Pause, Place, Signature, Target};
 
 /// Whether a thread that is linked so is linked to a scheduler.
 fn is_linked(here: Place) -> bool
@@ -167,7 +167,7 @@ fn target_is_here(heads: &Heads, here: Place, target: Target) -> bool
 
 /// The same of a variable that may be left out.
 fn made_is_here(heads: &Heads, here: Place, target: Option<Target>) -> bool
-    ensures { result ≡ made_is_here heads.now here (target_in target) }
+    ensures { result ≡ made_is_here heads.now here (target_if target) }
 {
     match target {
         Some(target) => target_is_here(heads, here, target),
@@ -176,11 +176,11 @@ fn made_is_here(heads: &Heads, here: Place, target: Option<Target>) -> bool
 }
 
 /// Whether all events are where the thread is.
-fn events_are_here(heads: &Heads, here: Place, events: &[EventId]) -> bool
-    ensures { result ≡ events_are_here heads.now here events.now }
+fn events_are_here(heads: &Heads, here: Place, events: &[EventUse]) -> bool
+    ensures { result ≡ events_are_here heads.now here (events_in events.now) }
 {
     for event in events {
-        if !event_is_here(heads, here, *event) {
+        if !event_is_here(heads, here, event.event) {
             return false;
         }
     }
@@ -195,22 +195,17 @@ fn action_is_here(heads: &Heads, here: Place, action: &Action) -> bool
         Action::Assign { target, value } => {
             target_is_here(heads, here, *target) && exp_is_here(heads, here, value)
         }
-        Action::Make {
-            target,
-            scheduler,
-            module,
-            arguments,
-        } => {
+        Action::Make { target, creation } => {
             made_is_here(heads, here, *target)
-                && begins_at(heads, Place::Sched(*scheduler), *module)
-                && exps_are_here(heads, here, arguments.as_slice())
+                && begins_at(heads, Place::Sched(creation.scheduler), creation.module)
+                && exps_are_here(heads, here, creation.arguments.as_slice())
         }
         Action::PrintText { value, .. } | Action::Broadcast { value, .. } => {
             value_is_here(heads, here, value)
         }
         Action::PrintValue(value) => exp_is_here(heads, here, value),
         Action::Generate { event, value } => {
-            event_is_here(heads, here, *event) && value_is_here(heads, here, value)
+            event_is_here(heads, here, event.event) && value_is_here(heads, here, value)
         }
         Action::Control { thread, .. } => exp_is_here(heads, here, thread),
     }
@@ -230,7 +225,7 @@ fn pause_is_here(heads: &Heads, here: Place, pause: &Pause) -> bool
             index,
             target,
         } => {
-            event_is_here(heads, here, *event)
+            event_is_here(heads, here, event.event)
                 && exp_is_here(heads, here, index)
                 && target_is_here(heads, here, *target)
         }
