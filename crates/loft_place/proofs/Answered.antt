@@ -9,10 +9,10 @@ use Rattle.loft_tree.specs.declared.heads.Heads.{Heads}
 use Rattle.loft_tree.specs.declared.heads.Signature.{Signature}
 use Rattle.loft_tree.specs.declared.named.LinkItem.{LinkItem}
 use Rattle.loft_tree.specs.declared.named.LinkItem.TheVariants as link
-use Rattle.loft_tree.specs.NamedTree.{NamedStatement, Link, Unlink, Run, If, While, Repeat, NamedStatements, Done, Then, NamedModule, NamedProgram}
+use Rattle.loft_tree.specs.NamedTree.{NamedStatement, Do, Hold, Run, If, While, Repeat, NamedStatements, Done, Then, NamedModule, NamedProgram}
 use Rattle.loft_place.specs.declared.error.PlaceError.{PlaceError}
 use Rattle.loft_place.specs.declared.error.PlaceError.TheVariants.{Unlinked as NotUnlinked, Branches, LoopEnds, ModuleEnds}
-use Rattle.loft_place.specs.Links.{Need, IsThere, IsMet, AreMet, FirstUnmet, fault_of, end_of, MayStand, AllowedAt, linked_only, needs_of, MayNotStand, GoesThrough, Goes, LoopFault, BranchesFault, FaultThrough, FaultIn, ModuleGoes, ModuleFault, start_needs, order_needs, order_at, LinkHolds, LinkFault, LinksHold, LinksFault, IsPlaced, PlaceFault}
+use Rattle.loft_place.specs.Links.{Need, IsThere, IsMet, AreMet, FirstUnmet, fault_of, end_of, left_by_pause, MayStand, AllowedAt, linked_only, needs_of, MayNotStand, GoesThrough, Goes, LoopFault, BranchesFault, FaultThrough, FaultIn, ModuleGoes, ModuleFault, start_needs, order_needs, order_at, LinkHolds, LinkFault, LinksHold, LinksFault, IsPlaced, PlaceFault}
 
 -- ---- one statement
 
@@ -118,15 +118,14 @@ mutual
   through_answered (Repeat at count body) h p =
       loop_answered (MayStand h p (Repeat at count body)) (MayNotStand h p (Repeat at count body)) (FaultIn h p body) (Goes h p body) at p
       (stands_or_not h p (Repeat at count body)) (body_answered body h p)
-  through_answered (Link at stop scheduler) h p =
-      simple_answered (MayStand h p (Link at stop scheduler)) (MayNotStand h p (Link at stop scheduler)) (Sched scheduler)
-      (stands_or_not h p (Link at stop scheduler))
-  through_answered (Unlink at stop) h p =
-      simple_answered (MayStand h p (Unlink at stop)) (MayNotStand h p (Unlink at stop)) Unlinked (stands_or_not h p (Unlink at stop))
+  through_answered (Do at action) h p =
+      simple_answered (MayStand h p (Do at action)) (MayNotStand h p (Do at action)) p (stands_or_not h p (Do at action))
+  through_answered (Hold at stop pause) h p =
+      simple_answered (MayStand h p (Hold at stop pause)) (MayNotStand h p (Hold at stop pause)) (left_by_pause p pause)
+      (stands_or_not h p (Hold at stop pause))
   through_answered (Run at stop called m arguments) h p =
       simple_answered (MayStand h p (Run at stop called m arguments)) (MayNotStand h p (Run at stop called m arguments))
       (end_of (slice_get h.modules m.0)) (stands_or_not h p (Run at stop called m arguments))
-  through_answered s h p = simple_answered (MayStand h p s) (MayNotStand h p s) p (stands_or_not h p s)
 
   body_answered : (body : NamedStatements) (h : Heads) (p : Place) → Answered (Goes h p body) (FaultIn h p body)
   body_answered Done h p = inl (p, refl)

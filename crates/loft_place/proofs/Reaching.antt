@@ -10,7 +10,7 @@ use Rattle.loft_tree.specs.declared.heads.Heads.{Heads}
 use Rattle.loft_tree.specs.HeadsFit.{TakesIn, HeadsFit}
 use Rattle.loft_tree.specs.NamedFits.{NamedFits}
 use Rattle.loft_tree.specs.NamedTree.{NamedCreation, NamedStatement, Run, If, While, Repeat, NamedStatements, Done, Then, NamedModule, NamedProgram}
-use Rattle.loft_place.specs.Links.{Need, AreMet, MayStand, GoesThrough, Goes, IsPlaced, begin_of, target_needs, creation_needs}
+use Rattle.loft_place.specs.Links.{Need, AreMet, MayStand, GoesThrough, Goes, IsPlaced, begin_of, made_needs, creation_needs}
 use Rattle.loft_place.specs.Reaches.{Times, MayLead, BodyLeads, MayMeetInside, MayMeet, IsModule, MeetsWithin, Makes, IsMadeOutside, BeginsWithin, statements_in}
 use Rattle.loft_place.proofs.Declared.{module_goes, body_is_declared, start_fits, create_fits}
 
@@ -104,9 +104,8 @@ within_stands (suc depth) n m p s q fits placed begins (at, stop, called, k, arg
 -- a statement that makes a thread names the scheduler where its module begins
 made_right : (h : Heads) (p : Place) (s : NamedStatement) (creation : NamedCreation) → Makes s creation → MayStand h p s
     → begin_of (slice_get h.modules creation.«module».0) ≡ Sched creation.scheduler
-made_right h p s creation (inl (at, is)) may = (subst (MayStand h p) is may).met.0
-made_right h p s creation (inr (target, at, is)) may =
-    (after_met (target_needs h p target) (creation_needs h p creation) (subst (MayStand h p) is may).met).0
+made_right h p s creation (at, target, is) may =
+    (after_met (made_needs h p target) (creation_needs h p creation) (subst (MayStand h p) is may).met).0
 
 begins_there : (s : SchedId) (declared : Option Signature) (arguments : List Value) → TakesIn s declared arguments → begin_of declared ≡ Sched s
 begins_there s None arguments takes = absurd takes

@@ -17,7 +17,7 @@ use Rattle.loft_tree.specs.declared.named.Target.{Target}
 use Rattle.loft_tree.specs.declared.named.Target.TheVariants as target
 use Rattle.loft_tree.specs.declared.named.LinkItem.{LinkItem}
 use Rattle.loft_tree.specs.declared.named.LinkItem.TheVariants as link
-use Rattle.loft_tree.specs.NamedTree.{EventUse, NamedExpression, Number, Slot, Shared, Special, Unary, Binary, NamedCreation, NamedStatement, Assign, AssignCreate, Create, PrintText, PrintValue, Cooperate, Generate, Await, Select, Get, Join, ControlThread, Broadcast, Link, Unlink, Run, Halt, If, While, Repeat, NamedStatements, Done, Then, NamedModule, NamedProgram}
+use Rattle.loft_tree.specs.NamedTree.{EventUse, NamedExpression, Number, Slot, Shared, Special, Unary, Binary, NamedCreation, NamedAction, Assign, Make, PrintText, PrintValue, Generate, ControlThread, Broadcast, NamedPause, Cooperate, Await, Get, Join, Link, Unlink, Halt, NamedStatement, Do, Hold, Run, If, While, Repeat, NamedStatements, Done, Then, NamedModule, NamedProgram}
 use Rattle.loft_place.specs.declared.error.PlaceError.{PlaceError}
 use Rattle.loft_place.specs.declared.error.PlaceError.TheVariants.{NotHere, Unlinked as NotUnlinked, Branches, LoopEnds, ModuleEnds}
 
@@ -114,6 +114,11 @@ module _ (h : Heads) (here : Place) where
   target_needs (target.Slot slot) = []
   target_needs (target.Shared at shared) = shared_need at shared ∷ []
 
+  -- the variable that a thread which is made is set to, if there is one
+  abbrev pub made_needs : Option Target → List Need
+  made_needs None = []
+  made_needs (Some target) = target_needs target
+
   abbrev pub events_needs : List EventUse → List Need
   events_needs [] = []
   events_needs (e ∷ es) = event_need e ∷ events_needs es
@@ -125,48 +130,60 @@ creation_need h at s m = record { at = at; needs = begin_of (slice_get h.modules
 abbrev pub creation_needs : Heads → Place → NamedCreation → List Need
 creation_needs h here m = creation_need h m.at m.scheduler m.«module» ∷ terms_needs h here m.arguments
 
--- what a statement names, from left to right
+-- what an action names, from left to right
+abbrev pub action_needs : Heads → Place → NamedAction → List Need
+action_needs h here (Assign target value) = target_needs h here target ++ term_needs h here value
+action_needs h here (Make target creation) = made_needs h here target ++ creation_needs h here creation
+action_needs h here (PrintText line value) = value_needs h here value
+action_needs h here (PrintValue value) = term_needs h here value
+action_needs h here (Generate event value) = event_need h here event ∷ value_needs h here value
+action_needs h here (ControlThread control thread scheduler) = term_needs h here thread
+action_needs h here (Broadcast event value) = value_needs h here value
+
+-- the same of a pause
+abbrev pub pause_needs : Heads → Place → NamedPause → List Need
+pause_needs h here (Cooperate instants) = value_needs h here instants
+pause_needs h here (Await events limit) = events_needs h here events ++ value_needs h here limit
+pause_needs h here (Get event index target) = event_need h here event ∷ (term_needs h here index ++ target_needs h here target)
+pause_needs h here (Join thread limit) = term_needs h here thread ++ value_needs h here limit
+pause_needs h here (Link scheduler) = []
+pause_needs h here Unlink = []
+pause_needs h here Halt = []
+
+-- the same of a statement, but for its bodies
 abbrev pub needs_of : Heads → Place → NamedStatement → List Need
-needs_of h here (Assign target value) = target_needs h here target ++ term_needs h here value
-needs_of h here (AssignCreate target at creation) = target_needs h here target ++ creation_needs h here creation
-needs_of h here (Create at creation) = creation_needs h here creation
-needs_of h here (PrintText at line value) = value_needs h here value
-needs_of h here (PrintValue at value) = term_needs h here value
-needs_of h here (Cooperate at stop instants) = value_needs h here instants
-needs_of h here (Generate at event value) = event_need h here event ∷ value_needs h here value
-needs_of h here (Await at stop event limit) = event_need h here event ∷ value_needs h here limit
-needs_of h here (Select at stop events limit) = events_needs h here events ++ value_needs h here limit
-needs_of h here (Get at stop event index target) = event_need h here event ∷ (term_needs h here index ++ target_needs h here target)
-needs_of h here (Join at stop thread limit) = term_needs h here thread ++ value_needs h here limit
-needs_of h here (ControlThread at control thread scheduler) = term_needs h here thread
-needs_of h here (Broadcast at event value) = value_needs h here value
-needs_of h here (Link at stop scheduler) = []
-needs_of h here (Unlink at stop) = []
+needs_of h here (Do at action) = action_needs h here action
+needs_of h here (Hold at stop pause) = pause_needs h here pause
 needs_of h here (Run at stop called m arguments) = run_need h here called m ∷ terms_needs h here arguments
-needs_of h here (Halt at stop) = []
 needs_of h here (If at test first second) = term_needs h here test
 needs_of h here (While at test body) = term_needs h here test
 needs_of h here (Repeat at count body) = term_needs h here count
 
+-- the offset of an action's word, if only a linked thread may meet it: one that makes a thread, prints or generates
+abbrev pub linked_action : ℕ → NamedAction → Option ℕ
+linked_action at (Assign target value) = None
+linked_action at (Make target creation) = Some at
+linked_action at (PrintText line value) = Some at
+linked_action at (PrintValue value) = Some at
+linked_action at (Generate event value) = Some at
+linked_action at (ControlThread control thread scheduler) = None
+linked_action at (Broadcast event value) = None
+
+-- the same of a pause: any but `link`
+abbrev pub linked_pause : ℕ → NamedPause → Option ℕ
+linked_pause at (Cooperate instants) = Some at
+linked_pause at (Await events limit) = Some at
+linked_pause at (Get event index target) = Some at
+linked_pause at (Join thread limit) = Some at
+linked_pause at (Link scheduler) = None
+linked_pause at Unlink = Some at
+linked_pause at Halt = Some at
+
 -- the offset of the word of a statement that only a linked thread may meet
 abbrev pub linked_only : NamedStatement → Option ℕ
-linked_only (Assign target value) = None
-linked_only (AssignCreate target at creation) = Some at
-linked_only (Create at creation) = Some at
-linked_only (PrintText at line value) = Some at
-linked_only (PrintValue at value) = Some at
-linked_only (Cooperate at stop instants) = Some at
-linked_only (Generate at event value) = Some at
-linked_only (Await at stop event limit) = Some at
-linked_only (Select at stop events limit) = Some at
-linked_only (Get at stop event index target) = Some at
-linked_only (Join at stop thread limit) = Some at
-linked_only (ControlThread at control thread scheduler) = None
-linked_only (Broadcast at event value) = None
-linked_only (Link at stop scheduler) = None
-linked_only (Unlink at stop) = Some at
+linked_only (Do at action) = linked_action at action
+linked_only (Hold at stop pause) = linked_pause at pause
 linked_only (Run at stop called m arguments) = None
-linked_only (Halt at stop) = Some at
 linked_only (If at test first second) = None
 linked_only (While at test body) = None
 linked_only (Repeat at count body) = None
@@ -188,27 +205,23 @@ MayNotStand h here s e =
 
 -- ---- bodies
 
+-- where a pause leaves a thread that is linked here
+abbrev pub left_by_pause : Place → NamedPause → Place
+left_by_pause here (Cooperate instants) = here
+left_by_pause here (Await events limit) = here
+left_by_pause here (Get event index target) = here
+left_by_pause here (Join thread limit) = here
+left_by_pause here (Link scheduler) = Sched scheduler
+left_by_pause here Unlink = Unlinked
+left_by_pause here Halt = here
+
 -- A thread linked at p goes through the statement and is linked at q after it. Both branches of an `if` end in one place,
 -- and a loop ends where it began.
 abbrev mutual
   pub GoesThrough : Heads → Place → NamedStatement → Place → Type 0
-  GoesThrough h p (Assign target value) q = MayStand h p (Assign target value) × (q ≡ p)
-  GoesThrough h p (AssignCreate target at creation) q = MayStand h p (AssignCreate target at creation) × (q ≡ p)
-  GoesThrough h p (Create at creation) q = MayStand h p (Create at creation) × (q ≡ p)
-  GoesThrough h p (PrintText at line value) q = MayStand h p (PrintText at line value) × (q ≡ p)
-  GoesThrough h p (PrintValue at value) q = MayStand h p (PrintValue at value) × (q ≡ p)
-  GoesThrough h p (Cooperate at stop instants) q = MayStand h p (Cooperate at stop instants) × (q ≡ p)
-  GoesThrough h p (Generate at event value) q = MayStand h p (Generate at event value) × (q ≡ p)
-  GoesThrough h p (Await at stop event limit) q = MayStand h p (Await at stop event limit) × (q ≡ p)
-  GoesThrough h p (Select at stop events limit) q = MayStand h p (Select at stop events limit) × (q ≡ p)
-  GoesThrough h p (Get at stop event index target) q = MayStand h p (Get at stop event index target) × (q ≡ p)
-  GoesThrough h p (Join at stop thread limit) q = MayStand h p (Join at stop thread limit) × (q ≡ p)
-  GoesThrough h p (ControlThread at control thread scheduler) q = MayStand h p (ControlThread at control thread scheduler) × (q ≡ p)
-  GoesThrough h p (Broadcast at event value) q = MayStand h p (Broadcast at event value) × (q ≡ p)
-  GoesThrough h p (Link at stop scheduler) q = MayStand h p (Link at stop scheduler) × (q ≡ Sched scheduler)
-  GoesThrough h p (Unlink at stop) q = MayStand h p (Unlink at stop) × (q ≡ Unlinked)
+  GoesThrough h p (Do at action) q = MayStand h p (Do at action) × (q ≡ p)
+  GoesThrough h p (Hold at stop pause) q = MayStand h p (Hold at stop pause) × (q ≡ left_by_pause p pause)
   GoesThrough h p (Run at stop called m arguments) q = MayStand h p (Run at stop called m arguments) × (q ≡ end_of (slice_get h.modules m.0))
-  GoesThrough h p (Halt at stop) q = MayStand h p (Halt at stop) × (q ≡ p)
   GoesThrough h p (If at test first second) q = MayStand h p (If at test first second) × Goes h p first q × Goes h p second q
   GoesThrough h p (While at test body) q = MayStand h p (While at test body) × Goes h p body p × (q ≡ p)
   GoesThrough h p (Repeat at count body) q = MayStand h p (Repeat at count body) × Goes h p body p × (q ≡ p)
@@ -233,23 +246,9 @@ BranchesFault LeftFaults LeftEnds RightFaults RightEnds at e =
 -- The first fault on the way through a statement from p: all before it is correct.
 abbrev mutual
   pub FaultThrough : Heads → Place → NamedStatement → PlaceError → Type 0
-  FaultThrough h p (Assign target value) e = MayNotStand h p (Assign target value) e
-  FaultThrough h p (AssignCreate target at creation) e = MayNotStand h p (AssignCreate target at creation) e
-  FaultThrough h p (Create at creation) e = MayNotStand h p (Create at creation) e
-  FaultThrough h p (PrintText at line value) e = MayNotStand h p (PrintText at line value) e
-  FaultThrough h p (PrintValue at value) e = MayNotStand h p (PrintValue at value) e
-  FaultThrough h p (Cooperate at stop instants) e = MayNotStand h p (Cooperate at stop instants) e
-  FaultThrough h p (Generate at event value) e = MayNotStand h p (Generate at event value) e
-  FaultThrough h p (Await at stop event limit) e = MayNotStand h p (Await at stop event limit) e
-  FaultThrough h p (Select at stop events limit) e = MayNotStand h p (Select at stop events limit) e
-  FaultThrough h p (Get at stop event index target) e = MayNotStand h p (Get at stop event index target) e
-  FaultThrough h p (Join at stop thread limit) e = MayNotStand h p (Join at stop thread limit) e
-  FaultThrough h p (ControlThread at control thread scheduler) e = MayNotStand h p (ControlThread at control thread scheduler) e
-  FaultThrough h p (Broadcast at event value) e = MayNotStand h p (Broadcast at event value) e
-  FaultThrough h p (Link at stop scheduler) e = MayNotStand h p (Link at stop scheduler) e
-  FaultThrough h p (Unlink at stop) e = MayNotStand h p (Unlink at stop) e
+  FaultThrough h p (Do at action) e = MayNotStand h p (Do at action) e
+  FaultThrough h p (Hold at stop pause) e = MayNotStand h p (Hold at stop pause) e
   FaultThrough h p (Run at stop called m arguments) e = MayNotStand h p (Run at stop called m arguments) e
-  FaultThrough h p (Halt at stop) e = MayNotStand h p (Halt at stop) e
   FaultThrough h p (If at test first second) e =
       MayNotStand h p (If at test first second) e
       ⊎ (MayStand h p (If at test first second)

@@ -4,15 +4,15 @@ use Rattle.loft_base.specs.declared.ids.SchedId.{SchedId}
 use Rattle.loft_base.specs.declared.ids.ModuleId.{ModuleId}
 use Rattle.loft_base.specs.declared.ids.Value.{Value}
 use Rattle.loft_tree.specs.declared.heads.Place.{Place}
-use Rattle.loft_tree.specs.declared.heads.Place.TheVariants.{Sched, Unlinked}
+use Rattle.loft_tree.specs.declared.heads.Place.TheVariants.{Sched}
 use Rattle.loft_tree.specs.declared.heads.Signature.{Signature}
 use Rattle.loft_tree.specs.declared.heads.Start.{Start}
 use Rattle.loft_tree.specs.declared.heads.ClientOrder.TheVariants as order
 use Rattle.loft_tree.specs.declared.heads.Client.{Client}
 use Rattle.loft_tree.specs.declared.heads.Heads.{Heads}
 use Rattle.loft_tree.specs.declared.named.Target.{Target}
-use Rattle.loft_tree.specs.NamedTree.{NamedExpression, NamedCreation, NamedStatement, Assign, AssignCreate, Create, PrintText, PrintValue, Cooperate, Generate, Await, Select, Get, Join, ControlThread, Broadcast, Link, Unlink, Run, Halt, If, While, Repeat, NamedStatements, Done, Then, NamedModule, NamedProgram}
-use Rattle.loft_place.specs.Links.{end_of}
+use Rattle.loft_tree.specs.NamedTree.{NamedExpression, NamedCreation, Make, NamedStatement, Do, Hold, Run, If, While, Repeat, NamedStatements, Done, Then, NamedModule, NamedProgram}
+use Rattle.loft_place.specs.Links.{end_of, left_by_pause}
 
 -- so many times one after the other
 abbrev pub Times : (Place → Place → Type 0) → ℕ → Place → Place → Type 0
@@ -22,22 +22,8 @@ Times One (suc n) p q = (r : Place) × One p r × Times One n r q
 -- A thread that begins a statement at p may be linked at q after it, whichever branch is taken and however often a loop turns.
 abbrev mutual
   pub MayLead : Heads → NamedStatement → Place → Place → Type 0
-  MayLead h (Assign target value) p q = q ≡ p
-  MayLead h (AssignCreate target at creation) p q = q ≡ p
-  MayLead h (Create at creation) p q = q ≡ p
-  MayLead h (PrintText at line value) p q = q ≡ p
-  MayLead h (PrintValue at value) p q = q ≡ p
-  MayLead h (Cooperate at stop instants) p q = q ≡ p
-  MayLead h (Generate at event value) p q = q ≡ p
-  MayLead h (Await at stop event limit) p q = q ≡ p
-  MayLead h (Select at stop events limit) p q = q ≡ p
-  MayLead h (Get at stop event index target) p q = q ≡ p
-  MayLead h (Join at stop thread limit) p q = q ≡ p
-  MayLead h (ControlThread at control thread scheduler) p q = q ≡ p
-  MayLead h (Broadcast at event value) p q = q ≡ p
-  MayLead h (Halt at stop) p q = q ≡ p
-  MayLead h (Link at stop scheduler) p q = q ≡ Sched scheduler
-  MayLead h (Unlink at stop) p q = q ≡ Unlinked
+  MayLead h (Do at action) p q = q ≡ p
+  MayLead h (Hold at stop pause) p q = q ≡ left_by_pause p pause
   MayLead h (Run at stop called m arguments) p q = q ≡ end_of (slice_get h.modules m.0)
   MayLead h (If at test first second) p q = BodyLeads h first p q ⊎ BodyLeads h second p q
   MayLead h (While at test body) p q = (n : ℕ) × Times (BodyLeads h body) n p q
@@ -51,23 +37,9 @@ abbrev mutual
 -- turn of a loop, or after its first statement.
 abbrev mutual
   pub MayMeetInside : Heads → NamedStatement → Place → NamedStatement → Place → Type 0
-  MayMeetInside h (Assign target value) p s q = ⊥
-  MayMeetInside h (AssignCreate target at creation) p s q = ⊥
-  MayMeetInside h (Create at creation) p s q = ⊥
-  MayMeetInside h (PrintText at line value) p s q = ⊥
-  MayMeetInside h (PrintValue at value) p s q = ⊥
-  MayMeetInside h (Cooperate at stop instants) p s q = ⊥
-  MayMeetInside h (Generate at event value) p s q = ⊥
-  MayMeetInside h (Await at stop event limit) p s q = ⊥
-  MayMeetInside h (Select at stop events limit) p s q = ⊥
-  MayMeetInside h (Get at stop event index target) p s q = ⊥
-  MayMeetInside h (Join at stop thread limit) p s q = ⊥
-  MayMeetInside h (ControlThread at control thread scheduler) p s q = ⊥
-  MayMeetInside h (Broadcast at event value) p s q = ⊥
-  MayMeetInside h (Link at stop scheduler) p s q = ⊥
-  MayMeetInside h (Unlink at stop) p s q = ⊥
+  MayMeetInside h (Do at action) p s q = ⊥
+  MayMeetInside h (Hold at stop pause) p s q = ⊥
   MayMeetInside h (Run at stop called m arguments) p s q = ⊥
-  MayMeetInside h (Halt at stop) p s q = ⊥
   MayMeetInside h (If at test first second) p s q = MayMeet h first p s q ⊎ MayMeet h second p s q
   MayMeetInside h (While at test body) p s q = (n : ℕ) × (r : Place) × Times (BodyLeads h body) n p r × MayMeet h body r s q
   MayMeetInside h (Repeat at count body) p s q = (n : ℕ) × (r : Place) × Times (BodyLeads h body) n p r × MayMeet h body r s q
@@ -102,7 +74,7 @@ MeetsWithin n (suc depth) m p s q =
 
 -- the statement makes this thread
 abbrev pub Makes : NamedStatement → NamedCreation → Type 0
-Makes s creation = ((at : ℕ) × (s ≡ Create at creation)) ⊎ ((target : Target) × (at : ℕ) × (s ≡ AssignCreate target at creation))
+Makes s creation = (at : ℕ) × (target : Option Target) × (s ≡ Do at (Make target creation))
 
 -- a start, or a create among the orders of a client
 abbrev pub IsStart : Heads → SchedId → ModuleId → List Value → Type 0

@@ -1,12 +1,14 @@
 //! What statements name, and whether a thread is linked where that is.
 
 ghost use Rattle.std.specs.Prelude.{◌≡◌, [], ◌∷◌, ◌++◌, map, false, slice_get};
-ghost use Rattle.loft_tree.specs.NamedView.{term_of, value_of, event_use_of, creation_of, statement_of};
-ghost use Rattle.loft_place.specs.Links.{event_home, shared_home, begin_of, end_of, IsAnswer, shared_need, event_need, run_need, creation_need, term_needs, value_needs, terms_needs, target_needs, events_needs, creation_needs, needs_of};
+ghost use Rattle.loft_tree.specs.NamedView.{term_of, value_of, event_use_of, creation_of, action_of, pause_of, statement_of};
+ghost use Rattle.loft_place.specs.Links.{event_home, shared_home, begin_of, end_of, IsAnswer, shared_need, event_need, run_need, creation_need, term_needs, value_needs, terms_needs, target_needs, made_needs, events_needs, creation_needs, action_needs, pause_needs, needs_of};
 
 use crate::error::PlaceError;
 use loft_base::{EventId, ModuleId, SchedId, SharedId};
-use loft_tree::{EventUse, Heads, NamedCreation, NamedExpr, NamedStmt, Place, Target};
+use loft_tree::{
+    Action, EventUse, Heads, NamedCreation, NamedExpr, NamedStmt, Pause, Place, Target,
+};
 
 /// Where an event is.
 fn event_home(heads: &Heads, event: EventId) -> Place
@@ -142,6 +144,16 @@ fn check_target(heads: &Heads, here: Place, target: Target) -> Result<(), PlaceE
     }
 }
 
+/// The same of the variable that a thread which is made is set to, if there is one.
+fn check_made(heads: &Heads, here: Place, target: Option<Target>) -> Result<(), PlaceError>
+    ensures { IsAnswer (made_needs heads.now here target) result }
+{
+    match target {
+        Some(target) => check_target(heads, here, target),
+        None => Ok(()),
+    }
+}
+
 /// Whether all events are where the thread is.
 fn check_events(heads: &Heads, here: Place, events: &[EventUse]) -> Result<(), PlaceError>
     ensures { IsAnswer (events_needs heads.now here (map event_use_of events.now)) result }
@@ -176,23 +188,23 @@ fn check_assign(
     check_term(heads, here, value)
 }
 
-/// `t = create S.m(E, F);`
+/// `create S.m(E, F);` and `t = create S.m(E, F);`
 #[tactic(auto, using(crate::proofs::NeedLemmas::needs))]
-fn check_assign_create(
+fn check_make(
     heads: &Heads,
     here: Place,
-    target: Target,
+    target: Option<Target>,
     creation: &NamedCreation,
 ) -> Result<(), PlaceError>
-    ensures { IsAnswer (target_needs heads.now here target ++ creation_needs heads.now here (creation_of creation.now)) result }
+    ensures { IsAnswer (made_needs heads.now here target ++ creation_needs heads.now here (creation_of creation.now)) result }
 {
-    check_target(heads, here, target)?;
+    check_made(heads, here, target)?;
     check_creation(heads, here, creation)
 }
 
-/// `generate e, E;` and `await e for E;`, where the expression may be left out.
+/// `generate e, E;`, where the expression may be left out.
 #[tactic(auto, using(crate::proofs::NeedLemmas::needs))]
-fn check_event_value(
+fn check_generate(
     heads: &Heads,
     here: Place,
     event: EventUse,
@@ -204,9 +216,9 @@ fn check_event_value(
     check_value(heads, here, value)
 }
 
-/// `select e, g for E;`, where the limit may be left out.
+/// `await e for E;` and `select e, g for E;`, where the limit may be left out.
 #[tactic(auto, using(crate::proofs::NeedLemmas::needs))]
-fn check_select(
+fn check_await(
     heads: &Heads,
     here: Place,
     events: &[EventUse],
@@ -263,41 +275,49 @@ fn check_call(
     check_terms(heads, here, arguments)
 }
 
-/// Whether all that a statement names, but in its bodies, is where the thread is.
+/// Whether all that an action names is where the thread is.
+#[tactic(auto, using(crate::proofs::NeedLemmas::needs))]
+fn check_action(heads: &Heads, here: Place, action: &Action) -> Result<(), PlaceError>
+    ensures { IsAnswer (action_needs heads.now here (action_of action.now)) result }
+{
+    match action {
+        Action::Assign { target, value } => check_assign(heads, here, *target, value),
+        Action::Make { target, creation } => check_make(heads, here, *target, creation),
+        Action::PrintText { value, .. } | Action::Broadcast { value, .. } => check_value(
+            heads, here, value,
+        ),
+        Action::PrintValue(value) => check_term(heads, here, value),
+        Action::Generate { event, value } => check_generate(heads, here, *event, value),
+        Action::Control { thread, .. } => check_term(heads, here, thread),
+    }
+}
+
+/// The same of a pause.
+#[tactic(auto, using(crate::proofs::NeedLemmas::needs))]
+fn check_pause(heads: &Heads, here: Place, pause: &Pause) -> Result<(), PlaceError>
+    ensures { IsAnswer (pause_needs heads.now here (pause_of pause.now)) result }
+{
+    match pause {
+        Pause::Cooperate { instants } => check_value(heads, here, instants),
+        Pause::Await { events, limit } => check_await(heads, here, events.as_slice(), limit),
+        Pause::Get {
+            event,
+            index,
+            target,
+        } => check_get(heads, here, *event, index, *target),
+        Pause::Join { thread, limit } => check_join(heads, here, thread, limit),
+        Pause::Link(_) | Pause::Unlink | Pause::Halt => Ok(()),
+    }
+}
+
+/// The same of a statement, but for its bodies.
 #[tactic(auto, using(crate::proofs::NeedLemmas::needs, loft_tree::proofs::NamedTrees::named_statements))]
 pub fn check_names(heads: &Heads, here: Place, statement: &NamedStmt) -> Result<(), PlaceError>
     ensures { IsAnswer (needs_of heads.now here (statement_of statement.now)) result }
 {
     match statement {
-        NamedStmt::Assign { target, value } => check_assign(heads, here, *target, value),
-        NamedStmt::AssignCreate {
-            target,
-            creation,
-            ..
-        } => check_assign_create(heads, here, *target, creation),
-        NamedStmt::Create { creation, .. } => check_creation(heads, here, creation),
-        NamedStmt::PrintText { value, .. } | NamedStmt::Broadcast { value, .. } => check_value(
-            heads, here, value,
-        ),
-        NamedStmt::PrintValue { value, .. } => check_term(heads, here, value),
-        NamedStmt::Cooperate { instants, .. } => check_value(heads, here, instants),
-        NamedStmt::Generate { event, value, .. } => check_event_value(heads, here, *event, value),
-        NamedStmt::Await { event, limit, .. } => check_event_value(heads, here, *event, limit),
-        NamedStmt::Select { events, limit, .. } => check_select(
-            heads,
-            here,
-            events.as_slice(),
-            limit,
-        ),
-        NamedStmt::Get {
-            event,
-            index,
-            target,
-            ..
-        } => check_get(heads, here, *event, index, *target),
-        NamedStmt::Join { thread, limit, .. } => check_join(heads, here, thread, limit),
-        NamedStmt::Control { thread, .. } => check_term(heads, here, thread),
-        NamedStmt::Link { .. } | NamedStmt::Unlink { .. } | NamedStmt::Halt { .. } => Ok(()),
+        NamedStmt::Do { action, .. } => check_action(heads, here, action),
+        NamedStmt::Hold { pause, .. } => check_pause(heads, here, pause),
         NamedStmt::Run {
             called,
             module,

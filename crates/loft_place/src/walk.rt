@@ -1,13 +1,41 @@
 //! Where a thread is linked after the statements that it goes through.
 
 ghost use Rattle.std.specs.Prelude.{◌≡◌, ◌≢◌, MatchResult};
-ghost use Rattle.loft_tree.specs.NamedView.{statement_of, statements_of};
-ghost use Rattle.loft_place.specs.Links.{linked_only, MayStand, MayNotStand, GoesThrough, Goes, FaultThrough, FaultIn};
+ghost use Rattle.loft_tree.specs.NamedView.{action_of, pause_of, statement_of, statements_of};
+ghost use Rattle.loft_place.specs.Links.{linked_action, linked_pause, linked_only, left_by_pause, MayStand, MayNotStand, GoesThrough, Goes, FaultThrough, FaultIn};
 ghost use Rattle.loft_place.specs.declared.error.PlaceError.TheVariants.{Branches, LoopEnds};
 
 use crate::error::PlaceError;
 use crate::needs::{check_names, end_of};
-use loft_tree::{Heads, NamedStmt, Place};
+use loft_tree::{Action, Heads, NamedStmt, Pause, Place};
+
+/// The offset of an action's word, if only a linked thread may meet it.
+fn linked_action(at: u32, action: &Action) -> Option<u32>
+    ensures { result ≡ linked_action at (action_of action.now) }
+{
+    match action {
+        Action::Make { .. }
+        | Action::PrintText { .. }
+        | Action::PrintValue(_)
+        | Action::Generate { .. } => Some(at),
+        Action::Assign { .. } | Action::Control { .. } | Action::Broadcast { .. } => None,
+    }
+}
+
+/// The same of a pause.
+fn linked_pause(at: u32, pause: &Pause) -> Option<u32>
+    ensures { result ≡ linked_pause at (pause_of pause.now) }
+{
+    match pause {
+        Pause::Link(_) => None,
+        Pause::Cooperate { .. }
+        | Pause::Await { .. }
+        | Pause::Get { .. }
+        | Pause::Join { .. }
+        | Pause::Unlink
+        | Pause::Halt => Some(at),
+    }
+}
 
 /// The offset of a statement's word, where only a linked thread may meet it.
 #[tactic(auto, using(loft_tree::proofs::NamedTrees::named_statements))]
@@ -15,23 +43,9 @@ fn linked_only(statement: &NamedStmt) -> Option<u32>
     ensures { result ≡ linked_only (statement_of statement.now) }
 {
     match statement {
-        NamedStmt::AssignCreate { at, .. }
-        | NamedStmt::Create { at, .. }
-        | NamedStmt::PrintText { at, .. }
-        | NamedStmt::PrintValue { at, .. }
-        | NamedStmt::Cooperate { at, .. }
-        | NamedStmt::Generate { at, .. }
-        | NamedStmt::Await { at, .. }
-        | NamedStmt::Select { at, .. }
-        | NamedStmt::Get { at, .. }
-        | NamedStmt::Join { at, .. }
-        | NamedStmt::Unlink { at, .. }
-        | NamedStmt::Halt { at, .. } => Some(*at),
-        NamedStmt::Assign { .. }
-        | NamedStmt::Control { .. }
-        | NamedStmt::Broadcast { .. }
-        | NamedStmt::Link { .. }
-        | NamedStmt::Run { .. }
+        NamedStmt::Do { at, action } => linked_action(*at, action),
+        NamedStmt::Hold { at, pause, .. } => linked_pause(*at, pause),
+        NamedStmt::Run { .. }
         | NamedStmt::If { .. }
         | NamedStmt::While { .. }
         | NamedStmt::Repeat { .. } => None,
@@ -73,6 +87,21 @@ fn check_loop(at: u32, start: Place, end: Place) -> Result<Place, PlaceError>
     }
 }
 
+/// Where a pause leaves a thread that is linked here.
+fn left_by_pause(here: Place, pause: &Pause) -> Place
+    ensures { result ≡ left_by_pause here (pause_of pause.now) }
+{
+    match pause {
+        Pause::Link(scheduler) => Place::Sched(*scheduler),
+        Pause::Unlink => Place::Unlinked,
+        Pause::Cooperate { .. }
+        | Pause::Await { .. }
+        | Pause::Get { .. }
+        | Pause::Join { .. }
+        | Pause::Halt => here,
+    }
+}
+
 /// Where a thread is linked after a statement, if it may go through it.
 #[cycle(walk)]
 #[tactic(auto, using(loft_tree::proofs::NamedTrees::named_statements))]
@@ -82,8 +111,8 @@ fn walk_statement(heads: &Heads, here: Place, statement: &NamedStmt) -> Result<P
 {
     check_statement(heads, here, statement)?;
     match statement {
-        NamedStmt::Link { scheduler, .. } => Ok(Place::Sched(*scheduler)),
-        NamedStmt::Unlink { .. } => Ok(Place::Unlinked),
+        NamedStmt::Do { .. } => Ok(here),
+        NamedStmt::Hold { pause, .. } => Ok(left_by_pause(here, pause)),
         NamedStmt::Run { module, .. } => Ok(end_of(heads, *module)),
         NamedStmt::If {
             at,
@@ -99,20 +128,6 @@ fn walk_statement(heads: &Heads, here: Place, statement: &NamedStmt) -> Result<P
             let end = walk_body(heads, here, body.as_slice())?;
             check_loop(*at, here, end)
         }
-        NamedStmt::Assign { .. }
-        | NamedStmt::AssignCreate { .. }
-        | NamedStmt::Create { .. }
-        | NamedStmt::PrintText { .. }
-        | NamedStmt::PrintValue { .. }
-        | NamedStmt::Cooperate { .. }
-        | NamedStmt::Generate { .. }
-        | NamedStmt::Await { .. }
-        | NamedStmt::Select { .. }
-        | NamedStmt::Get { .. }
-        | NamedStmt::Join { .. }
-        | NamedStmt::Control { .. }
-        | NamedStmt::Broadcast { .. }
-        | NamedStmt::Halt { .. } => Ok(here),
     }
 }
 
