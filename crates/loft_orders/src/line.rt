@@ -2,7 +2,7 @@
 
 ghost use Rattle.std.specs.Prelude.{◌≡◌};
 
-use loft_code::SharedText;
+use loft_tree::SharedText;
 use std::marker::Model;
 
 /// Where the bytes of a line are.
