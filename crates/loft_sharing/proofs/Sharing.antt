@@ -14,9 +14,9 @@ use Rattle.loft_tree.proofs.heads.Place.TheSendSync as place
 use Rattle.loft_tree.proofs.kinds.Control.TheSendSync as control
 use Rattle.loft_tree.proofs.named.Target.TheSendSync as target
 use Rattle.loft_tree.proofs.named.NamedExpr.TheLaws.TheKnot as knot
-use Rattle.loft_code.proofs.shared_text.SharedText.TheSendSync as text
-use Rattle.loft_code.specs.contracts.op.Action as Action
-use Rattle.loft_code.specs.contracts.op.Pause as Pause
+use Rattle.loft_tree.proofs.shared_text.SharedText.TheSendSync as text
+use Rattle.loft_tree.specs.contracts.action.Action as Action
+use Rattle.loft_tree.specs.contracts.action.Pause as Pause
 use Rattle.loft_code.specs.contracts.op.Op as Op
 use Rattle.loft_code.specs.contracts.raw.CodeLine as CodeLine
 use Rattle.loft_code.specs.contracts.raw.ModuleCode as ModuleCode
