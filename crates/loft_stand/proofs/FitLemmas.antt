@@ -14,17 +14,17 @@ use Rattle.loft_tree.specs.Fits.{Each, IfThere}
 use Rattle.loft_tree.specs.HeadsFit.{kinds_of}
 use Rattle.loft_tree.specs.KindOf.{compares}
 use Rattle.loft_tree.specs.NamedTree as tree
-use Rattle.loft_tree.specs.NamedTree.{EventUse, NamedExpression, NamedCreation, NamedStatement, NamedStatements, NamedModule, NamedProgram}
+use Rattle.loft_tree.specs.NamedTree.{EventUse, NamedExpression, NamedCreation, NamedAction, NamedPause, NamedStatement, NamedStatements, NamedModule, NamedProgram}
 use Rattle.loft_tree.specs.NamedFits as named
 use Rattle.loft_tree.specs.NamedFits.{OperandsAgree, BodyHolds, BodiesHold, NamedFits, StatementHolds, StatementsHold, slots_of}
-use Rattle.loft_tree.specs.Resolved.{Empty, Body, exp_of, exp_if, exps_of, target_of, events_of, step_of, body_of, resolved_of}
+use Rattle.loft_tree.specs.Resolved.{Empty, Body, exp_of, exp_if, exps_of, target_of, target_if, events_of, action_of, pause_of, step_of, body_of, resolved_of}
 use Rattle.loft_place.specs.Links as links
-use Rattle.loft_place.specs.Links.{Need, IsThere, IsMet, AreMet, term_needs, terms_needs, value_needs, target_needs, event_need, events_needs, shared_home, GoesThrough, Goes, IsPlaced}
+use Rattle.loft_place.specs.Links.{Need, IsThere, IsMet, AreMet, AllowedAt, linked_action, linked_pause, left_by_pause, term_needs, terms_needs, value_needs, target_needs, made_needs, event_need, events_needs, creation_needs, action_needs, pause_needs, shared_home, GoesThrough, Goes, IsPlaced}
 use Rattle.loft_place.proofs.Declared.{module_goes}
 use Rattle.loft_sense.specs.Tree.{body_at}
-use Rattle.loft_sense.specs.Stands.{begin_of, begin_or_unlinked, end_or_unlinked, leads_step, leads}
+use Rattle.loft_sense.specs.Stands.{begin_of, begin_or_unlinked, end_or_unlinked, place_after, leads_step, leads}
 use Rattle.loft_stand.proofs.ListLemmas.{within_some}
-use Rattle.loft_stand.specs.WorkFits.{IsShared, IsEvent, HasKind, IsInt, IsValue, TargetHasKind, ArgumentsFit, CallFits, StepFits, BodyFits}
+use Rattle.loft_stand.specs.WorkFits.{IsShared, IsEvent, HasKind, IsInt, IsValue, TargetHasKind, ArgumentsFit, CallFits, ActionFits, PauseFits, StepFits, BodyFits}
 
 -- ---- needs and places
 
@@ -44,9 +44,18 @@ begin_same : (o : Option Signature) → links.begin_of o ≡ begin_or_unlinked o
 begin_same None = refl
 begin_same (Some m) = refl
 
-end_same : (o : Option Signature) → links.end_of o ≡ end_or_unlinked o
+pub end_same : (o : Option Signature) → links.end_of o ≡ end_or_unlinked o
 end_same None = refl
 end_same (Some m) = refl
+
+pub left_same : (pause : NamedPause) (p : Place) → place_after (pause_of pause) p ≡ left_by_pause p pause
+left_same (tree.Cooperate instants) p = refl
+left_same (tree.Await events limit) p = refl
+left_same (tree.Get event index target) p = refl
+left_same (tree.Join thread limit) p = refl
+left_same (tree.Link s) p = refl
+left_same tree.Unlink p = refl
+left_same tree.Halt p = refl
 
 operands_map : (b : Bool) (L R M S : Kind → Type 0) → ((kind : Kind) → L kind → M kind) → ((kind : Kind) → R kind → S kind) → OperandsAgree b L R → OperandsAgree b M S
 operands_map true L R M S f g h = (h.0, f h.0 h.1, g h.0 h.2)
@@ -104,6 +113,10 @@ module _ (h : Heads) (slots : List Kind) (here : Place) where
   target_fits kind (target.Slot slot) has met = has
   target_fits kind (target.Shared at x) has met = (shared_fits at x has.0 met, has.1)
 
+  made_fits : (t : Option Target) → IfThere (λ t. named.TargetHasKind h slots t Thread) t → AreMet (made_needs h here t) → IfThere (TargetHasKind h slots here Thread) (target_if t)
+  made_fits None has met = tt
+  made_fits (Some t) has met = target_fits Thread t has met
+
   arguments_fit : (n : ℕ) (kinds : List Kind) (es : List NamedExpression) → named.ArgumentsHold h slots n kinds es → AreMet (terms_needs h here es) → ArgumentsFit h slots here kinds (exps_of es)
   arguments_fit n [] [] hold met = tt
   arguments_fit n [] (e ∷ es) hold met = absurd hold
@@ -123,9 +136,44 @@ module _ (h : Heads) (slots : List Kind) (here : Place) where
   begins_there : (m : ModuleId) (p : Place) → links.begin_of (slice_get h.modules m.0) ≡ p → begin_of h m ≡ p
   begins_there m p met = sym (begin_same (slice_get h.modules m.0)) ∙ met
 
-  make_fits : (n : ℕ) (c : NamedCreation) → named.CreationHolds h slots n c → AreMet (links.creation_needs h here c)
+  make_fits : (n : ℕ) (c : NamedCreation) → named.CreationHolds h slots n c → AreMet (creation_needs h here c)
       → named.IsScheduler h c.scheduler × (begin_of h c.module ≡ Sched c.scheduler) × CallFits h slots here c.module (exps_of c.arguments)
   make_fits n c holds met = (holds.scheduler, begins_there c.module (Sched c.scheduler) met.0, call_fits n c.module c.arguments holds.call met.1)
+
+  -- ---- actions and pauses
+
+  action_fits : (a : NamedAction) (at n : ℕ) → named.ActionHolds h slots a n → AllowedAt here (linked_action at a) → AreMet (action_needs h here a) → ActionFits h slots here (action_of a)
+  action_fits (tree.Assign t e) at n holds allowed met = (
+    holds.0,
+    target_fits holds.0 t holds.1 (met_left (target_needs h here t) (term_needs h here e) met),
+    exp_fits e holds.0 holds.2.has (met_right (target_needs h here t) (term_needs h here e) met),
+  )
+  action_fits (tree.Make t c) at n holds allowed met =
+      let made = make_fits n c holds.1 (met_right (made_needs h here t) (creation_needs h here c) met) in
+      (allowed, made_fits t holds.0 (met_left (made_needs h here t) (creation_needs h here c) met), made.0, made.1, made.2)
+  action_fits (tree.PrintText line e) at n holds allowed met = (allowed, value_if n e holds.1 met)
+  action_fits (tree.PrintValue e) at n holds allowed met = (allowed, value_fits n e holds met)
+  action_fits (tree.Generate event e) at n holds allowed met = (event_fits event holds.0 met.0, int_if n e holds.1 met.1)
+  action_fits (tree.ControlThread control thread s) at n holds allowed met = (exp_fits thread Thread holds.0.has met, holds.1)
+  action_fits (tree.Broadcast event e) at n holds allowed met = (holds.0, int_if n e holds.1 met)
+
+  pause_fits : (a : NamedPause) (at n : ℕ) → named.PauseHolds h slots a n → AllowedAt here (linked_pause at a) → AreMet (pause_needs h here a) → PauseFits h slots here (pause_of a)
+  pause_fits (tree.Cooperate e) at n holds allowed met = (allowed, int_if n e holds met)
+  pause_fits (tree.Await events e) at n holds allowed met =
+      (events_fit events holds.0.each (met_left (events_needs h here events) (value_needs h here e) met), int_if n e holds.1 (met_right (events_needs h here events) (value_needs h here e) met))
+  pause_fits (tree.Get event index t) at n holds allowed met = (
+    event_fits event holds.0 met.0,
+    int_fits n index holds.1 (met_left (term_needs h here index) (target_needs h here t) met.1),
+    target_fits Int t holds.2 (met_right (term_needs h here index) (target_needs h here t) met.1),
+  )
+  pause_fits (tree.Join thread e) at n holds allowed met = (
+    allowed,
+    exp_fits thread Thread holds.0.has (met_left (term_needs h here thread) (value_needs h here e) met),
+    int_if n e holds.1 (met_right (term_needs h here thread) (value_needs h here e) met),
+  )
+  pause_fits (tree.Link s) at n holds allowed met = holds
+  pause_fits tree.Unlink at n holds allowed met = allowed
+  pause_fits tree.Halt at n holds allowed met = allowed
 
 -- ---- statements
 
@@ -139,55 +187,10 @@ module _ (h : Heads) (slots : List Kind) where
 
   mutual
     step_fits : (s : NamedStatement) (n : ℕ) (p q : Place) → StatementHolds h slots s n → GoesThrough h p s q → Through s p q
-    step_fits (tree.Assign t e) n p q holds goes =
-        let met = goes.0.met in (
-          (
-            holds.0,
-            target_fits h slots p holds.0 t holds.1 (met_left (target_needs h p t) (term_needs h p e) met),
-            exp_fits h slots p e holds.0 holds.2.has (met_right (target_needs h p t) (term_needs h p e) met),
-          ),
-          sym goes.1,
-        )
-    step_fits (tree.AssignCreate t at c) n p q holds goes =
-        let met = goes.0.met in
-        let made = make_fits h slots p n c holds.1 (met_right (target_needs h p t) (links.creation_needs h p c) met) in
-        ((goes.0.allowed, target_fits h slots p Thread t holds.0 (met_left (target_needs h p t) (links.creation_needs h p c) met), made.0, made.1, made.2), sym goes.1)
-    step_fits (tree.Create at c) n p q holds goes =
-        let made = make_fits h slots p n c holds goes.0.met in
-        ((goes.0.allowed, tt, made.0, made.1, made.2), sym goes.1)
-    step_fits (tree.PrintText at line e) n p q holds goes = ((goes.0.allowed, value_if h slots p n e holds.1 goes.0.met), sym goes.1)
-    step_fits (tree.PrintValue at e) n p q holds goes = ((goes.0.allowed, value_fits h slots p n e holds goes.0.met), sym goes.1)
-    step_fits (tree.Cooperate at stop e) n p q holds goes = ((goes.0.allowed, int_if h slots p n e holds goes.0.met), sym goes.1)
-    step_fits (tree.Generate at event e) n p q holds goes = ((event_fits h slots p event holds.0 goes.0.met.0, int_if h slots p n e holds.1 goes.0.met.1), sym goes.1)
-    step_fits (tree.Await at stop event e) n p q holds goes = (((event_fits h slots p event holds.0 goes.0.met.0, tt), int_if h slots p n e holds.1 goes.0.met.1), sym goes.1)
-    step_fits (tree.Select at stop events e) n p q holds goes =
-        let met = goes.0.met in
-        ((events_fit h slots p events holds.0.each (met_left (events_needs h p events) (value_needs h p e) met), int_if h slots p n e holds.1 (met_right (events_needs h p events) (value_needs h p e) met)), sym goes.1)
-    step_fits (tree.Get at stop event index t) n p q holds goes =
-        let met = goes.0.met.1 in (
-          (
-            event_fits h slots p event holds.0 goes.0.met.0,
-            int_fits h slots p n index holds.1 (met_left (term_needs h p index) (target_needs h p t) met),
-            target_fits h slots p Int t holds.2 (met_right (term_needs h p index) (target_needs h p t) met),
-          ),
-          sym goes.1,
-        )
-    step_fits (tree.Join at stop thread e) n p q holds goes =
-        let met = goes.0.met in (
-          (
-            goes.0.allowed,
-            exp_fits h slots p thread Thread holds.0.has (met_left (term_needs h p thread) (value_needs h p e) met),
-            int_if h slots p n e holds.1 (met_right (term_needs h p thread) (value_needs h p e) met),
-          ),
-          sym goes.1,
-        )
-    step_fits (tree.ControlThread at control thread s) n p q holds goes = ((exp_fits h slots p thread Thread holds.0.has goes.0.met, holds.1), sym goes.1)
-    step_fits (tree.Broadcast at event e) n p q holds goes = ((holds.0, int_if h slots p n e holds.1 goes.0.met), sym goes.1)
-    step_fits (tree.Link at stop s) n p q holds goes = (holds, sym goes.1)
-    step_fits (tree.Unlink at stop) n p q holds goes = (goes.0.allowed, sym goes.1)
+    step_fits (tree.Do at action) n p q holds goes = (action_fits h slots p action at n holds goes.0.allowed goes.0.met, sym goes.1)
+    step_fits (tree.Hold at stop pause) n p q holds goes = (pause_fits h slots p pause at n holds goes.0.allowed goes.0.met, left_same pause p ∙ sym goes.1)
     step_fits (tree.Run at stop called m arguments) n p q holds goes =
         ((begins_there h slots p m p goes.0.met.0, call_fits h slots p n m arguments holds goes.0.met.1), sym (end_same (slice_get h.modules m.0)) ∙ sym goes.1)
-    step_fits (tree.Halt at stop) n p q holds goes = (goes.0.allowed, sym goes.1)
     step_fits (tree.If at test x y) n p q holds goes =
         let first = body_fits x holds.0 p q holds.3 goes.1 in
         let second = body_fits y holds.0 p q holds.4 goes.2 in

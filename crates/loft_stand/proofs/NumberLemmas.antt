@@ -67,23 +67,9 @@ cc_sum e f = omega (arith, e, f)
 
 mutual
   stops_same : (s : NamedStatement) → stops_in (step_of s) ≡ named.stops_in s
-  stops_same (tree.Assign target value) = refl
-  stops_same (tree.AssignCreate target at creation) = refl
-  stops_same (tree.Create at creation) = refl
-  stops_same (tree.PrintText at line value) = refl
-  stops_same (tree.PrintValue at value) = refl
-  stops_same (tree.Cooperate at stop instants) = refl
-  stops_same (tree.Generate at event value) = refl
-  stops_same (tree.Await at stop event limit) = refl
-  stops_same (tree.Select at stop events limit) = refl
-  stops_same (tree.Get at stop event index target) = refl
-  stops_same (tree.Join at stop thread limit) = refl
-  stops_same (tree.ControlThread at control thread scheduler) = refl
-  stops_same (tree.Broadcast at event value) = refl
-  stops_same (tree.Link at stop scheduler) = refl
-  stops_same (tree.Unlink at stop) = refl
+  stops_same (tree.Do at action) = refl
+  stops_same (tree.Hold at stop pause) = refl
   stops_same (tree.Run at stop called m arguments) = refl
-  stops_same (tree.Halt at stop) = refl
   stops_same (tree.If at test first second) = cc_sum (body_stops_same first) (body_stops_same second)
   stops_same (tree.While at test body) = body_stops_same body
   stops_same (tree.Repeat at count body) = body_stops_same body
@@ -94,23 +80,9 @@ mutual
 
 mutual
   step_numbered : (s : NamedStatement) (n : ℕ) → named.IsNumbered s n → StepNumbered (step_of s) n
-  step_numbered (tree.Assign target value) n h = tt
-  step_numbered (tree.AssignCreate target at creation) n h = tt
-  step_numbered (tree.Create at creation) n h = tt
-  step_numbered (tree.PrintText at line value) n h = tt
-  step_numbered (tree.PrintValue at value) n h = tt
-  step_numbered (tree.Cooperate at stop instants) n h = h
-  step_numbered (tree.Generate at event value) n h = tt
-  step_numbered (tree.Await at stop event limit) n h = h
-  step_numbered (tree.Select at stop events limit) n h = h
-  step_numbered (tree.Get at stop event index target) n h = h
-  step_numbered (tree.Join at stop thread limit) n h = h
-  step_numbered (tree.ControlThread at control thread scheduler) n h = tt
-  step_numbered (tree.Broadcast at event value) n h = tt
-  step_numbered (tree.Link at stop scheduler) n h = h
-  step_numbered (tree.Unlink at stop) n h = h
+  step_numbered (tree.Do at action) n h = tt
+  step_numbered (tree.Hold at stop pause) n h = h
   step_numbered (tree.Run at stop called m arguments) n h = h
-  step_numbered (tree.Halt at stop) n h = h
   step_numbered (tree.If at test first second) n h =
       (body_numbered first n h.0, subst (λ k. BodyNumbered (body_of second) (n + k)) (sym (body_stops_same first)) (body_numbered second (n + named.body_stops first) h.1))
   step_numbered (tree.While at test body) n h = body_numbered body n h
