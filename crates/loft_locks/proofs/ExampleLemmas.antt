@@ -13,7 +13,7 @@ use Rattle.loft_locks.specs.Example.{lock, example, broken, shared_after, inside
 module_pairs : (n : ℕ) → call_of lock (record { 0 = n }) ≡ Other → BodyPairs example lock false false (body_at example (record { 0 = n }))
 module_pairs zero e = absurd cc
 module_pairs (suc zero) e = absurd cc
-module_pairs (suc (suc zero)) e = (((refl, refl), tt), (tt, ((tt, λ away. away), (tt, (((refl, refl), tt), refl)))))
+module_pairs (suc (suc zero)) e = (((refl, refl), tt), (tt, ((tt, λ away. absurd cc), (tt, (((refl, refl), tt), refl)))))
 module_pairs (suc (suc (suc n))) e = refl
 
 pub is_expanded : IsExpanded example lock

@@ -192,21 +192,21 @@ module _ (p : Resolved) (l : Lock) (is : IsExpanded p l) where
       → EffectKeeps p l place (place_after pause place) (Unit {0}) (IsAway pause) b (begun p.heads pause at values b)
   begun_keeps slots place at values b (Cooperate None) keeps fits = tt
   begun_keeps slots place at values b (Cooperate (Some e)) keeps fits =
-      value_then p l place place (Unit {0}) ⊥ b (eval p.heads values b e) at _ (λ v.
-      either_then p l place place (Unit {0}) ⊥ b (is_up (Some (number_of v))) _ _ (same p l place b b refl refl, refl) tt)
+      value_then p l place place (Unit {0}) (false ≡ true) b (eval p.heads values b e) at _ (λ v.
+      either_then p l place place (Unit {0}) (false ≡ true) b (is_up (Some (number_of v))) _ _ (same p l place b b refl refl, refl) tt)
   begun_keeps slots place at values b (Await events limit) keeps fits =
-      value_then p l place place (Unit {0}) ⊥ b (eval_if p.heads values b limit) at _ (λ v.
-      hold_then p l place place (Unit {0}) ⊥ b (has_any events b.around.board) (is_up (number_if v)) _ _ _ (same p l place b _ refl refl, refl) (same p l place b _ refl refl, refl) tt)
+      value_then p l place place (Unit {0}) (false ≡ true) b (eval_if p.heads values b limit) at _ (λ v.
+      hold_then p l place place (Unit {0}) (false ≡ true) b (has_any events b.around.board) (is_up (number_if v)) _ _ _ (same p l place b _ refl refl, refl) (same p l place b _ refl refl, refl) tt)
   begun_keeps slots place at values b (Get event index target) keeps fits =
-      value_then p l place place (Unit {0}) ⊥ b (eval p.heads values b index) at _ (λ i.
-      either_then p l place place (Unit {0}) ⊥ b (is_index (number_of i) (length (event_values event b.around.board))) _ _
+      value_then p l place place (Unit {0}) (false ≡ true) b (eval p.heads values b index) at _ (λ i.
+      either_then p l place place (Unit {0}) (false ≡ true) b (is_index (number_of i) (length (event_values event b.around.board))) _ _
       (gotten_keeps slots place (Some target) event (number_of i) values b keeps fits.2, refl) tt)
   begun_keeps slots place at values b (Join thread limit) keeps fits =
-      value_then p l place place (Unit {0}) ⊥ b (eval p.heads values b thread) at _ (λ t.
-      value_then p l place place (Unit {0}) ⊥ b (eval_if p.heads values b limit) at _ (λ v.
-      hold_then p l place place (Unit {0}) ⊥ b (is_known (thread_or b.id t) b.around.known) (is_up (number_if v)) _ _ _ (same p l place b _ refl refl, refl) (same p l place b _ refl refl, refl) tt))
-  begun_keeps slots place at values b (Link s) keeps fits = tt
-  begun_keeps slots place at values b Unlink keeps fits = tt
+      value_then p l place place (Unit {0}) (false ≡ true) b (eval p.heads values b thread) at _ (λ t.
+      value_then p l place place (Unit {0}) (false ≡ true) b (eval_if p.heads values b limit) at _ (λ v.
+      hold_then p l place place (Unit {0}) (false ≡ true) b (is_known (thread_or b.id t) b.around.known) (is_up (number_if v)) _ _ _ (same p l place b _ refl refl, refl) (same p l place b _ refl refl, refl) tt))
+  begun_keeps slots place at values b (Link s) keeps fits = refl
+  begun_keeps slots place at values b Unlink keeps fits = refl
   begun_keeps slots place at values b Halt keeps fits = tt
 
   -- a wait that ends

@@ -4,11 +4,11 @@ use Rattle.std.specs.Prelude.{◌||◌, not, if◌then◌else◌}
 use Rattle.std.specs.Str.{bytes_eq}
 use Rattle.std.proofs.lemmas.Slice.Eq.{bytes_eq-Decides}
 use Rattle.loft_base.specs.declared.ids.ModuleId.{ModuleId}
-use Rattle.loft_tree.specs.NamedTree.{NamedStatements, Assign, AssignCreate, Create, PrintText, PrintValue, Cooperate, Generate, Await, Select, Get, Join, ControlThread, Broadcast, Link, Unlink, Run, Halt, If, While, Repeat, Done, Then}
-use Rattle.loft_tree.specs.Resolved.{Pause, Resolved, body_of}
+use Rattle.loft_tree.specs.NamedTree.{NamedStatements, Do, Hold, Run, If, While, Repeat, Done, Then}
+use Rattle.loft_tree.specs.Resolved.{Pause, Resolved, pause_of, body_of}
 use Rattle.loft_sense.specs.Tree.{first_some}
-use Rattle.loft_locks.specs.Locks.{Lock, LockCall, Takes as TakesCall, Gives as GivesCall, Other, call_of, after_call, at_call, IsAway, Leaves, PauseStays, CallStays, CallPairs, BodyPairs}
-use Rattle.loft_locks.specs.Outline.{Outline, Takes, Gives, goes_if, run_part, outline, has, closes, pair_fault, outermost, leave_fault}
+use Rattle.loft_locks.specs.Locks.{Lock, LockCall, Takes as TakesCall, Gives as GivesCall, Other, call_of, after_call, at_call, is_away, IsAway, Leaves, PauseStays, CallStays, CallPairs, BodyPairs}
+use Rattle.loft_locks.specs.Outline.{Outline, Takes, Gives, goes_if, run_part, outline, has, closes_at, closes, pair_fault, outermost, leave_fault}
 use Rattle.loft_forms.specs.Marks.{Use, TakeOf, GiveOf, Mark, use_at}
 use Rattle.loft_locks.specs.Marked.{BodyKeeps, UseAgrees, BodyMarked}
 
@@ -69,15 +69,15 @@ no_pairs [] e = refl
 no_pairs (x ∷ []) e = absurd cc
 no_pairs (x ∷ y ∷ ys) e = let none : y ∷ ys ≡ [] = no_pairs (y ∷ ys) e in absurd cc
 
--- ---- a `run` of a module that leaves
+-- ---- what leaves breaks no rule of pairs
 
-goes_pairs : (outer own : List (List ℕ)) (leaves : Bool) (rest : Outline) → pair_fault outer own (goes_if leaves rest) ≡ pair_fault outer own rest
+pub goes_pairs : (outer own : List (List ℕ)) (leaves : Bool) (rest : Outline) → pair_fault outer own (goes_if leaves rest) ≡ pair_fault outer own rest
 goes_pairs outer own true rest = refl
 goes_pairs outer own false rest = refl
 
-goes_closes : (l : List ℕ) (leaves : Bool) (rest : Outline) → closes l (goes_if leaves rest) ≡ closes l rest
-goes_closes l true rest = refl
-goes_closes l false rest = refl
+pub goes_closes : (later : ℕ) (l : List ℕ) (leaves : Bool) (rest : Outline) → closes_at later l (goes_if leaves rest) ≡ closes_at later l rest
+goes_closes later l true rest = refl
+goes_closes later l false rest = refl
 
 goes_gives : (l k : List ℕ) (leaves : Bool) (rest : Outline) → closes l (Gives k (goes_if leaves rest)) ≡ closes l (Gives k rest)
 goes_gives l k true rest = refl
@@ -88,13 +88,9 @@ goes_free : (outer own : List (List ℕ)) (leaves : Bool) (rest : Outline) → l
 goes_free outer own true rest e = let parts = none_first (outermost (own ++ outer)) (leave_fault outer own rest) e in (parts.1, λ is. no_pairs (own ++ outer) parts.0)
 goes_free outer own false rest e = (e, λ is. absurd cc)
 
-pause_stays : (inside : Bool) (pause : Pause) → (IsAway pause → ⊥) → PauseStays inside pause
-pause_stays true pause stays = stays
-pause_stays false pause stays = tt
-
-pause_free : (inside : Bool) (pause : Pause) → inside ≡ false → PauseStays inside pause
-pause_free true pause e = absurd cc
-pause_free false pause e = tt
+pause_stays : (inside : Bool) (pause : Pause) → (IsAway pause → inside ≡ false) → PauseStays inside pause
+pause_stays true pause free = λ is. let no = free is in absurd cc
+pause_stays false pause free = tt
 
 module _ (p : Resolved) (l : Lock) (name : List ℕ) (marks : List Mark) (away : ModuleId → Bool) (leaving : (m : ModuleId) → Leaves p m → away m ≡ true) where
   -- the lock stands in no pair of its own
@@ -208,13 +204,13 @@ module _ (p : Resolved) (l : Lock) (name : List ℕ) (marks : List Mark) (away :
         stays = λ is. none_has (own ++ outer) (free.1 is);
         after = refl;
         once = once;
-        closing = λ is. sym (goes_closes name leaves rest) ∙ c is;
+        closing = λ is. sym (goes_closes 0 name leaves rest) ∙ c is;
         fault = sym (goes_pairs outer own leaves rest) ∙ e;
         left = free.0;
       }
   run_ok outer own leaves call (Some (TakeOf k)) rest agree e f once c =
       let free = goes_free outer own leaves (Takes k rest) f in
-      take_ok outer own leaves call k rest agree (sym (goes_pairs outer own leaves (Takes k rest)) ∙ e) free.0 free.1 once (λ is. sym (goes_closes name leaves (Takes k rest)) ∙ c is)
+      take_ok outer own leaves call k rest agree (sym (goes_pairs outer own leaves (Takes k rest)) ∙ e) free.0 free.1 once (λ is. sym (goes_closes 0 name leaves (Takes k rest)) ∙ c is)
   run_ok outer [] leaves call (Some (GiveOf k)) rest agree e f once c = absurd cc
   run_ok outer (j ∷ own) leaves call (Some (GiveOf k)) rest agree e f once c =
       let parts = chosen (bytes_eq k j) k (pair_fault outer own (goes_if leaves rest)) e in
@@ -227,12 +223,6 @@ module _ (p : Resolved) (l : Lock) (name : List ℕ) (marks : List Mark) (away :
   call_stays false m free = tt
   call_stays true m free = λ leaves. let no = free (leaving m leaves) in absurd cc
 
-  abbrev Here : NamedStatements → List (List ℕ) → List (List ℕ) → Type 0
-  Here b outer own = BodyPairs p l (has name outer) (has name (own ++ outer)) (body_of b)
-
-  abbrev Fine : NamedStatements → List (List ℕ) → List (List ℕ) → Type 0
-  Fine b outer own = (pair_fault outer own (outline marks away b) ≡ None) × (leave_fault outer own (outline marks away b) ≡ None)
-
   ends : (own outer : List (List ℕ)) (b : Bool) → has name own ≡ b → (b ≡ true → false ≡ true) → has name (own ++ outer) ≡ has name outer
   ends own outer true e c = let no = c refl in absurd cc
   ends own outer false e c = has_append name own outer ∙ ap (λ b. b || has name outer) e
@@ -240,28 +230,15 @@ module _ (p : Resolved) (l : Lock) (name : List ℕ) (marks : List Mark) (away :
   pub body_pairs : (b : NamedStatements) (outer own : List (List ℕ)) → pair_fault outer own (outline marks away b) ≡ None → leave_fault outer own (outline marks away b) ≡ None → BodyKeeps l (body_of b) → BodyMarked l name marks b → Once own outer
       → Closing own (outline marks away b) → BodyPairs p l (has name outer) (has name (own ++ outer)) (body_of b)
   body_pairs Done outer own e f keeps marked once c = ends own outer (has name own) refl c
-  body_pairs (Then (Assign target value) b) outer own e f keeps marked once c = (keeps.0, body_pairs b outer own e f keeps.1 marked.1 once c)
-  body_pairs (Then (AssignCreate target at creation) b) outer own e f keeps marked once c = (keeps.0, body_pairs b outer own e f keeps.1 marked.1 once c)
-  body_pairs (Then (Create at creation) b) outer own e f keeps marked once c = (keeps.0, body_pairs b outer own e f keeps.1 marked.1 once c)
-  body_pairs (Then (PrintText at line value) b) outer own e f keeps marked once c = (keeps.0, body_pairs b outer own e f keeps.1 marked.1 once c)
-  body_pairs (Then (PrintValue at value) b) outer own e f keeps marked once c = (keeps.0, body_pairs b outer own e f keeps.1 marked.1 once c)
-  body_pairs (Then (Generate at event value) b) outer own e f keeps marked once c = (keeps.0, body_pairs b outer own e f keeps.1 marked.1 once c)
-  body_pairs (Then (ControlThread at control thread scheduler) b) outer own e f keeps marked once c = (keeps.0, body_pairs b outer own e f keeps.1 marked.1 once c)
-  body_pairs (Then (Broadcast at event value) b) outer own e f keeps marked once c = (keeps.0, body_pairs b outer own e f keeps.1 marked.1 once c)
-  body_pairs (Then (Cooperate at stop instants) b) outer own e f keeps marked once c = ((keeps.0, pause_stays (has name (own ++ outer)) _ (λ is. is)), body_pairs b outer own e f keeps.1 marked.1 once c)
-  body_pairs (Then (Await at stop event limit) b) outer own e f keeps marked once c = ((keeps.0, pause_stays (has name (own ++ outer)) _ (λ is. is)), body_pairs b outer own e f keeps.1 marked.1 once c)
-  body_pairs (Then (Select at stop events limit) b) outer own e f keeps marked once c = ((keeps.0, pause_stays (has name (own ++ outer)) _ (λ is. is)), body_pairs b outer own e f keeps.1 marked.1 once c)
-  body_pairs (Then (Get at stop event index target) b) outer own e f keeps marked once c = ((keeps.0, pause_stays (has name (own ++ outer)) _ (λ is. is)), body_pairs b outer own e f keeps.1 marked.1 once c)
-  body_pairs (Then (Join at stop thread limit) b) outer own e f keeps marked once c = ((keeps.0, pause_stays (has name (own ++ outer)) _ (λ is. is)), body_pairs b outer own e f keeps.1 marked.1 once c)
-  body_pairs (Then (Halt at stop) b) outer own e f keeps marked once c = ((keeps.0, pause_stays (has name (own ++ outer)) _ (λ is. is)), body_pairs b outer own e f keeps.1 marked.1 once c)
-  body_pairs (Then (Link at stop scheduler) b) outer own e f keeps marked once c =
-      let parts = none_first (outermost (own ++ outer)) (leave_fault outer own (outline marks away b)) f in
-      let none = none_has (own ++ outer) (no_pairs (own ++ outer) parts.0) in
-      ((keeps.0, pause_free (has name (own ++ outer)) _ none), body_pairs b outer own e parts.1 keeps.1 marked.1 once c)
-  body_pairs (Then (Unlink at stop) b) outer own e f keeps marked once c =
-      let parts = none_first (outermost (own ++ outer)) (leave_fault outer own (outline marks away b)) f in
-      let none = none_has (own ++ outer) (no_pairs (own ++ outer) parts.0) in
-      ((keeps.0, pause_free (has name (own ++ outer)) _ none), body_pairs b outer own e parts.1 keeps.1 marked.1 once c)
+  body_pairs (Then (Do at action) b) outer own e f keeps marked once c = (keeps.0, body_pairs b outer own e f keeps.1 marked.1 once c)
+  body_pairs (Then (Hold at stop pause) b) outer own e f keeps marked once c =
+      let leaves = is_away (pause_of pause) in
+      let rest = outline marks away b in
+      let free = goes_free outer own leaves rest f in
+      let here = has name (own ++ outer) in (
+        (keeps.0, pause_stays here (pause_of pause) (λ is. none_has (own ++ outer) (free.1 is))),
+        body_pairs b outer own (sym (goes_pairs outer own leaves rest) ∙ e) free.0 keeps.1 marked.1 once (λ is. sym (goes_closes 0 name leaves rest) ∙ c is),
+      )
   body_pairs (Then (Run at stop called m arguments) b) outer own e f keeps marked once c =
       let ok = run_ok outer own (away m) (call_of l m) (use_at marks called) (outline marks away b) marked.0 e f once c in (
         (ok.pairs, call_stays (at_call (call_of l m) (has name (own ++ outer))) m ok.stays),

@@ -101,14 +101,18 @@ is_inside p l t = has_inside p l t.frames
 
 -- ---- modules that leave
 
+-- whether it is a `link` or an `unlink`
+abbrev pub is_away : Pause → Bool
+is_away (Cooperate instants) = false
+is_away (Await events limit) = false
+is_away (Get event index target) = false
+is_away (Join thread limit) = false
+is_away (Link s) = true
+is_away Unlink = true
+is_away Halt = false
+
 abbrev pub IsAway : Pause → Type 0
-IsAway (Cooperate instants) = ⊥
-IsAway (Await events limit) = ⊥
-IsAway (Get event index target) = ⊥
-IsAway (Join thread limit) = ⊥
-IsAway (Link s) = Unit {0}
-IsAway Unlink = Unit {0}
-IsAway Halt = ⊥
+IsAway pause = is_away pause ≡ true
 
 -- a statement or a body that is, or has in it, a `link` or an `unlink`
 abbrev mutual

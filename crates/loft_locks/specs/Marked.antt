@@ -29,11 +29,12 @@ UseAgrees name Other u = (u ≢ Some (TakeOf name)) × (u ≢ Some (GiveOf name)
 module _ (l : Lock) (name : List ℕ) (marks : List Mark) where
   abbrev mutual
     pub StatementMarked : named.NamedStatement → Type 0
+    StatementMarked (named.Do at action) = Unit {0}
+    StatementMarked (named.Hold at stop pause) = Unit {0}
     StatementMarked (named.Run at stop called m arguments) = UseAgrees name (call_of l m) (use_at marks called)
     StatementMarked (named.If at test first second) = BodyMarked first × BodyMarked second
     StatementMarked (named.While at test body) = BodyMarked body
     StatementMarked (named.Repeat at count body) = BodyMarked body
-    StatementMarked s = Unit {0}
 
     pub BodyMarked : named.NamedStatements → Type 0
     BodyMarked named.Done = Unit {0}

@@ -2,9 +2,11 @@
 use Rattle.std.specs.Prelude.{ℕ, ◌+◌, ◌-◌, ◌==◌, Bool, true, false, ◌||◌, not, List, [], ◌∷◌, ◌++◌, drop, Option, Some, None, if◌then◌else◌}
 use Rattle.std.specs.Str.{bytes_eq}
 use Rattle.loft_base.specs.declared.ids.ModuleId.{ModuleId}
-use Rattle.loft_tree.specs.NamedTree.{NamedStatement, NamedStatements, Assign, AssignCreate, Create, PrintText, PrintValue, Cooperate, Generate, Await, Select, Get, Join, ControlThread, Broadcast, Link, Unlink, Run, Halt, If, While, Repeat, Done, Then}
+use Rattle.loft_tree.specs.NamedTree.{NamedStatement, NamedStatements, Do, Hold, Run, If, While, Repeat, Done, Then}
+use Rattle.loft_tree.specs.Resolved.{pause_of}
 use Rattle.loft_sense.specs.Tree.{first_some}
 use Rattle.loft_forms.specs.Marks.{Use, TakeOf, GiveOf, Mark, use_at}
+use Rattle.loft_locks.specs.Locks.{is_away}
 
 -- ---- outlines
 
@@ -32,23 +34,9 @@ run_part leaves (Some (GiveOf l)) rest = Gives l (goes_if leaves rest)
 module _ (marks : List Mark) (away : ModuleId → Bool) where
   abbrev mutual
     pub part : NamedStatement → Outline → Outline
-    part (Assign target value) rest = rest
-    part (AssignCreate target at creation) rest = rest
-    part (Create at creation) rest = rest
-    part (PrintText at line value) rest = rest
-    part (PrintValue at value) rest = rest
-    part (Cooperate at stop instants) rest = rest
-    part (Generate at event value) rest = rest
-    part (Await at stop event limit) rest = rest
-    part (Select at stop events limit) rest = rest
-    part (Get at stop event index target) rest = rest
-    part (Join at stop thread limit) rest = rest
-    part (ControlThread at control thread scheduler) rest = rest
-    part (Broadcast at event value) rest = rest
-    part (Link at stop scheduler) rest = Goes rest
-    part (Unlink at stop) rest = Goes rest
+    part (Do at action) rest = rest
+    part (Hold at stop pause) rest = goes_if (is_away (pause_of pause)) rest
     part (Run at stop called m arguments) rest = run_part (away m) (use_at marks called) rest
-    part (Halt at stop) rest = rest
     part (If at test first second) rest = Within (outline first) (outline second) rest
     part (While at test body) rest = Within (outline body) Nothing rest
     part (Repeat at count body) rest = Within (outline body) Nothing rest
