@@ -1,5 +1,5 @@
 -- The links of the declarations that are left.
-use Rattle.std.proofs.Common.{◌≡◌, ℕ, ◌+◌, ◌<◌, List, ◌∷◌, ◌++◌, length, get_or, drop, drop-cons, add-one, ◌-◌, sym, refl, ap, ◌∙◌, append_assoc}
+use Rattle.std.proofs.Common.{◌≡◌, ℕ, ◌+◌, ◌<◌, List, ◌∷◌, ◌++◌, length, get_or, drop, drop-cons, add-one, sym, refl, ap, ◌∙◌, append_assoc}
 use Rattle.loft_tree.specs.declared.program.Item.{Item}
 use Rattle.loft_tree.specs.View.{declaration_of, source_of}
 use Rattle.loft_scopes.specs.declared.counts.DeclarationCounts.{DeclarationCounts}

@@ -1,5 +1,5 @@
 -- Statements with numbers, one after the other.
-use Rattle.std.proofs.Common.{◌≡◌, ℕ, ◌+◌, ◌<◌, ◌^◌, List, [], ◌∷◌, ◌++◌, length, get_or, drop, drop-cons, add-one, map, refl, sym, ap, ◌∙◌, arith}
+use Rattle.std.proofs.Common.{◌≡◌, ℕ, ◌+◌, ◌<◌, List, [], ◌∷◌, ◌++◌, length, get_or, drop, drop-cons, add-one, map, refl, sym, ap, ◌∙◌, arith}
 use Rattle.std.proofs.lemmas.List.{map-append}
 use Rattle.loft_tree.specs.declared.statement.Stmt.{Stmt}
 use Rattle.loft_tree.specs.declared.named.NamedStmt.{NamedStmt}
@@ -24,41 +24,32 @@ put_before-Done : (ss : List n.NamedStatement) → put_before ss n.Done ≡ view
 put_before-Done [] = refl
 put_before-Done (s ∷ ss) = ap (n.Then s) (put_before-Done ss)
 
--- so many of the statements are done, and so many stops were counted
-pub record Numbered (ds : List Declared) (scope : Scope) (ss : List Stmt) (first so_far : ℕ) (done : List NamedStmt) (rest : List Stmt) : Type 0 where
-  pub body : put_before (map view.statement_of done) (numbers.body_of ds scope (statements_of rest) so_far) ≡ numbers.body_of ds scope (statements_of ss) first
-  pub stops : so_far + body_stops (statements_of rest) ≡ first + body_stops (statements_of ss)
-
 split : (ss : List Stmt) (i : ℕ) (s : Stmt) → i < length ss → s ≡ get_or ss i s → drop i ss ≡ s ∷ drop (i + 1) ss
 split ss i s lt is = drop-cons ss i s lt ∙ rw (← is, add-one) refl
 
--- there is room for the next one
-pub next_stops : (ds : List Declared) (scope : Scope) (ss : List Stmt) (first so_far i : ℕ) (done : List NamedStmt) (s : Stmt) → i < length ss → s ≡ get_or ss i s
-    → Numbered ds scope ss first so_far done (drop i ss) → first + body_stops (statements_of ss) < 2 ^ 32 → so_far + stops_in (statement_of s) < 2 ^ 32
-next_stops ds scope ss first so_far i done s lt is numbered room =
-    let counted : body_stops (statements_of (drop i ss)) ≡ stops_in (statement_of s) + body_stops (statements_of (drop (i + 1) ss)) = ap (λ xs. body_stops (statements_of xs)) (split ss i s lt is) in
-    omega (arith, numbered.stops, counted)
+-- the stops of the next statement and of those after it
+stops_split : (ss : List Stmt) (i : ℕ) (s : Stmt) → i < length ss → s ≡ get_or ss i s → body_stops (statements_of (drop i ss)) ≡ stops_in (statement_of s) + body_stops (statements_of (drop (i + 1) ss))
+stops_split ss i s lt is = ap (λ xs. body_stops (statements_of xs)) (split ss i s lt is)
+
+-- its stops are counted
+pub stops_left : (ss : List Stmt) (all so_far later i : ℕ) (s : Stmt) → i < length ss → s ≡ get_or ss i s → so_far + body_stops (statements_of (drop i ss)) ≡ all
+    → later ≡ so_far + stops_in (statement_of s) → later + body_stops (statements_of (drop (i + 1) ss)) ≡ all
+stops_left ss all so_far later i s lt is left counted = omega (arith, left, counted, stops_split ss i s lt is)
 
 -- one more is done
-pub one_more : (ds : List Declared) (scope : Scope) (ss : List Stmt) (first so_far later i : ℕ) (done more : List NamedStmt) (s : Stmt) (t : NamedStmt) → i < length ss → s ≡ get_or ss i s
-    → Numbered ds scope ss first so_far done (drop i ss) → view.statement_of t ≡ numbers.statement_of ds scope (statement_of s) so_far → later ≡ so_far + stops_in (statement_of s)
-    → more ≡ done ++ t ∷ [] → Numbered ds scope ss first later more (drop (i + 1) ss)
-one_more ds scope ss first so_far later i done more s t lt is numbered same counted grown =
+pub one_more : (ds : List Declared) (scope : Scope) (ss : List Stmt) (all : n.NamedStatements) (so_far later i : ℕ) (done more : List NamedStmt) (s : Stmt) (t : NamedStmt) → i < length ss → s ≡ get_or ss i s
+    → put_before (map view.statement_of done) (numbers.body_of ds scope (statements_of (drop i ss)) so_far) ≡ all → view.statement_of t ≡ numbers.statement_of ds scope (statement_of s) so_far
+    → later ≡ so_far + stops_in (statement_of s) → more ≡ done ++ t ∷ [] → put_before (map view.statement_of more) (numbers.body_of ds scope (statements_of (drop (i + 1) ss)) later) ≡ all
+one_more ds scope ss all so_far later i done more s t lt is before same counted grown =
     let rest : List Stmt = drop (i + 1) ss in
-    let here : drop i ss ≡ s ∷ rest = split ss i s lt is in
-    record {
-      body =
-          (λ j. put_before (map view.statement_of (grown j)) (numbers.body_of ds scope (statements_of rest) (counted j)))
-          ∙ ap (λ xs. put_before xs (numbers.body_of ds scope (statements_of rest) (so_far + stops_in (statement_of s)))) (map-append view.statement_of done (t ∷ []))
-          ∙ put_before-append (map view.statement_of done) (view.statement_of t) (numbers.body_of ds scope (statements_of rest) (so_far + stops_in (statement_of s)))
-          ∙ ap (λ x. put_before (map view.statement_of done) (n.Then x (numbers.body_of ds scope (statements_of rest) (so_far + stops_in (statement_of s))))) same
-          ∙ ap (λ xs. put_before (map view.statement_of done) (numbers.body_of ds scope (statements_of xs) so_far)) (sym here)
-          ∙ numbered.body;
-      stops = let all : body_stops (statements_of (drop i ss)) ≡ stops_in (statement_of s) + body_stops (statements_of rest) = ap (λ xs. body_stops (statements_of xs)) here in omega (arith, numbered.stops, all, counted);
-    }
+    (λ j. put_before (map view.statement_of (grown j)) (numbers.body_of ds scope (statements_of rest) (counted j)))
+    ∙ ap (λ xs. put_before xs (numbers.body_of ds scope (statements_of rest) (so_far + stops_in (statement_of s)))) (map-append view.statement_of done (t ∷ []))
+    ∙ put_before-append (map view.statement_of done) (view.statement_of t) (numbers.body_of ds scope (statements_of rest) (so_far + stops_in (statement_of s)))
+    ∙ ap (λ x. put_before (map view.statement_of done) (n.Then x (numbers.body_of ds scope (statements_of rest) (so_far + stops_in (statement_of s))))) same
+    ∙ ap (λ xs. put_before (map view.statement_of done) (numbers.body_of ds scope (statements_of xs) so_far)) (sym (split ss i s lt is))
+    ∙ before
 
 -- all are done
-pub all_done : (ds : List Declared) (scope : Scope) (ss : List Stmt) (first so_far : ℕ) (done : List NamedStmt) (rest : List Stmt) → rest ≡ [] → Numbered ds scope ss first so_far done rest
-    → view.statements_of done ≡ numbers.body_of ds scope (statements_of ss) first
-all_done ds scope ss first so_far done rest none numbered =
-    sym (put_before-Done (map view.statement_of done)) ∙ ap (λ xs. put_before (map view.statement_of done) (numbers.body_of ds scope (statements_of xs) so_far)) (sym none) ∙ numbered.body
+pub all_done : (ds : List Declared) (scope : Scope) (all : n.NamedStatements) (so_far : ℕ) (done : List NamedStmt) (rest : List Stmt) → rest ≡ []
+    → put_before (map view.statement_of done) (numbers.body_of ds scope (statements_of rest) so_far) ≡ all → view.statements_of done ≡ all
+all_done ds scope all so_far done rest none before = sym (put_before-Done (map view.statement_of done)) ∙ ap (λ xs. put_before (map view.statement_of done) (numbers.body_of ds scope (statements_of xs) so_far)) (sym none) ∙ before

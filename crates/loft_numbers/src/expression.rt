@@ -1,12 +1,12 @@
 //! Expressions.
 
-ghost use Rattle.std.specs.Prelude.{◌≡◌, IfOk, map};
+ghost use Rattle.std.specs.Prelude.{◌≡◌, true, IfOk, map};
 ghost use Rattle.loft_tree.specs.View.{expression_of, value_of as value_in};
 ghost use Rattle.loft_tree.specs.NamedView as view;
 ghost use Rattle.loft_numbers.specs.Numbers.{term_of, terms_of, value_of};
 
 use crate::name::variable;
-use loft_base::NoMemory;
+use loft_base::{NoMemory, Room};
 use loft_scopes::{Scope, Table};
 use loft_tree::{Expr, NamedExpr};
 use std::alloc::Global;
@@ -50,34 +50,35 @@ pub fn term(alloc: Global, table: &Table, scope: Scope, e: &Expr) -> Result<Name
     }
 }
 
+/// The same from a room.
+pub fn term_in(room: &mut Room, table: &Table, scope: Scope, e: &Expr) -> NamedExpr
+    ensures before { room.new.is_whole ≡ true → room.old.is_whole ≡ true }
+    ensures value { room.new.is_whole ≡ true → view.term_of result ≡ term_of table.now scope (expression_of e.now) }
+{
+    let made = term(room.alloc, table, scope, e);
+    room.or(made, NamedExpr::Number(0))
+}
+
 /// The same, if there is one.
-pub fn term_if(
-    alloc: Global,
-    table: &Table,
-    scope: Scope,
-    e: &Option<Expr>,
-) -> Result<Option<NamedExpr>, NoMemory>
-    ensures { IfOk result (λ t. view.value_of t ≡ value_of table.now scope (value_in e.now)) }
+pub fn term_if(room: &mut Room, table: &Table, scope: Scope, e: &Option<Expr>) -> Option<NamedExpr>
+    ensures before { room.new.is_whole ≡ true → room.old.is_whole ≡ true }
+    ensures value { room.new.is_whole ≡ true → view.value_of result ≡ value_of table.now scope (value_in e.now) }
 {
     match e {
-        Some(e) => Ok(Some(term(alloc, table, scope, e)?)),
-        None => Ok(None),
+        Some(e) => Some(term_in(room, table, scope, e)),
+        None => None,
     }
 }
 
 /// Expressions.
-pub fn terms(
-    alloc: Global,
-    table: &Table,
-    scope: Scope,
-    es: &[Expr],
-) -> Result<Vec<NamedExpr>, NoMemory>
-    ensures { IfOk result (λ ts. map view.term_of ts.items
-        ≡ terms_of table.now scope (map expression_of es.now)) }
+pub fn terms(room: &mut Room, table: &Table, scope: Scope, es: &[Expr]) -> Vec<NamedExpr>
+    ensures before { room.new.is_whole ≡ true → room.old.is_whole ≡ true }
+    ensures value { room.new.is_whole ≡ true → map view.term_of result.items ≡ terms_of table.now scope (map expression_of es.now) }
 {
-    let mut all = Vec::with_capacity(alloc, es.len())?;
+    let mut all = Vec::new(room.alloc);
     for e in es {
-        all.push(term(alloc, table, scope, e)?)?;
+        let term = term_in(room, table, scope, e);
+        room.push_to(&mut all, term);
     }
-    Ok(all)
+    all
 }

@@ -9,7 +9,6 @@ mod link;
 mod module;
 mod name;
 mod part;
-mod simple;
 mod statement;
 
 pub use expression::term as number_expression;

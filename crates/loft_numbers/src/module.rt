@@ -10,7 +10,7 @@ ghost use Rattle.loft_numbers.specs.Numbers as numbers;
 ghost use Rattle.loft_scopes.specs.declared.scope.Scope.TheVariants.{Within};
 
 use crate::statement::body;
-use loft_base::NoMemory;
+use loft_base::{NoMemory, Room};
 use loft_scopes::{Scope, Table, next_module};
 use loft_tree::{Ident, Item, Module, Stmt};
 use std::alloc::Global;
@@ -29,8 +29,16 @@ fn module(
       body = numbers.body_of table.now (Within number) (statements_of statements.now) 0;
     }) }
 {
+    let mut room = Room::new(alloc);
     let mut stops = 0;
-    let body = body(alloc, table, Scope::Within(number), statements, &mut stops)?;
+    let body = body(
+        &mut room,
+        table,
+        Scope::Within(number),
+        statements,
+        &mut stops,
+    );
+    let body = room.done(body)?;
     Ok(Module {
         at: name.at(),
         body,

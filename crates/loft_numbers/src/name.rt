@@ -1,15 +1,14 @@
 //! Names where they are used.
 
-ghost use Rattle.std.specs.Prelude.{◌≡◌, IfOk, map};
+ghost use Rattle.std.specs.Prelude.{◌≡◌, true, [], ◌∷◌, map};
 ghost use Rattle.loft_tree.specs.View.{event_name_of};
 ghost use Rattle.loft_tree.specs.NamedView as view;
 ghost use Rattle.loft_numbers.specs.Numbers.{event_of, event_use, event_uses, holder_of, module_of, number_of, scheduler_of, target_of, variable_term};
 ghost use Rattle.loft_scopes.specs.Scopes.{meaning};
 
-use loft_base::{EventId, ModuleId, NoMemory, SchedId, SharedId};
+use loft_base::{EventId, ModuleId, Room, SchedId, SharedId};
 use loft_scopes::{Scope, Sort, Table};
 use loft_tree::{EventName, EventUse, Ident, NamedExpr, Target};
-use std::alloc::Global;
 
 /// The number of what a name means.
 pub fn number(table: &Table, scope: Scope, name: &Ident) -> u32
@@ -52,21 +51,31 @@ pub fn event_use(table: &Table, scope: Scope, named: &EventName) -> EventUse
     }
 }
 
+/// The same of one event, as a list.
+pub fn one_event(room: &mut Room, table: &Table, scope: Scope, name: &EventName) -> Vec<EventUse>
+    ensures before { room.new.is_whole ≡ true → room.old.is_whole ≡ true }
+    ensures value { room.new.is_whole ≡ true → map view.event_use_of result.items ≡ event_use table.now scope (event_name_of name.now) ∷ [] }
+{
+    let mut events = Vec::new(room.alloc);
+    room.push_to(&mut events, event_use(table, scope, name));
+    events
+}
+
 /// The events that names mean, and the offsets of the names.
 pub fn event_uses(
-    alloc: Global,
+    room: &mut Room,
     table: &Table,
     scope: Scope,
     names: &[EventName],
-) -> Result<Vec<EventUse>, NoMemory>
-    ensures { IfOk result (λ events. map view.event_use_of events.items
-        ≡ event_uses table.now scope (map event_name_of names.now)) }
+) -> Vec<EventUse>
+    ensures before { room.new.is_whole ≡ true → room.old.is_whole ≡ true }
+    ensures value { room.new.is_whole ≡ true → map view.event_use_of result.items ≡ event_uses table.now scope (map event_name_of names.now) }
 {
-    let mut events = Vec::new(alloc);
+    let mut events = Vec::new(room.alloc);
     for name in names {
-        events.push(event_use(table, scope, name))?;
+        room.push_to(&mut events, event_use(table, scope, name));
     }
-    Ok(events)
+    events
 }
 
 /// The variable that a name means, to be set.

@@ -1,17 +1,18 @@
 //! Statements, with the bodies in them.
 
-ghost use Rattle.std.specs.Prelude.{◌≡◌, ◌+◌, ◌<◌, ◌^◌, IfOk, OnOk};
-ghost use Rattle.loft_tree.specs.View.{expression_of, statement_of, statements_of};
-ghost use Rattle.loft_tree.specs.NamedTree.{If, Repeat, While};
+ghost use Rattle.std.specs.Prelude.{◌≡◌, ◌+◌, ◌<◌, ◌^◌, true, IfOk};
+ghost use Rattle.loft_tree.specs.View.{statement_of, statements_of, value_of as value_in};
+ghost use Rattle.loft_tree.specs.NamedTree.{PrintText};
 ghost use Rattle.loft_tree.specs.NamedView as view;
 ghost use Rattle.loft_numbers.specs.Numbers as numbers;
 ghost use Rattle.loft_numbers.specs.Numbers.{stops_in, body_stops};
 
-use crate::expression::term;
-use crate::simple;
-use loft_base::NoMemory;
+use crate::call::creation;
+use crate::expression::{term_if, term_in, terms};
+use crate::name::{event_use, event_uses, module, one_event, scheduler, target};
+use loft_base::{NoMemory, Room};
 use loft_scopes::{Scope, Table};
-use loft_tree::{Expr, NamedStmt, Stmt};
+use loft_tree::{Action, Expr, NamedExpr, NamedStmt, Pause, SharedText, Stmt, Text};
 use std::alloc::Global;
 
 /// The number of the next stop.
@@ -24,208 +25,204 @@ fn next_stop(stops: &mut u32) -> u32
     *stops
 }
 
-/// `if (E) then .. else .. end`, where its bodies have numbers already.
-#[tactic(auto, using(loft_tree::proofs::NamedTrees::named_if))]
-fn if_test(
-    alloc: Global,
+/// `print "..", E;`, where the value may be left out.
+fn print_text(
+    room: &mut Room,
     table: &Table,
     scope: Scope,
-    at: u32,
-    test: &Expr,
-    first: Vec<NamedStmt>,
-    second: Vec<NamedStmt>,
-) -> Result<NamedStmt, NoMemory>
-    ensures { IfOk result (λ t. view.statement_of t
-        ≡ If at (numbers.term_of table.now scope (expression_of test.now))
-        (view.statements_of first.items) (view.statements_of second.items)) }
+    text: &Text,
+    value: &Option<Expr>,
+) -> Action
+    ensures before { room.new.is_whole ≡ true → room.old.is_whole ≡ true }
+    ensures value { room.new.is_whole ≡ true → view.action_of result ≡ PrintText text.now (numbers.value_of table.now scope (value_in value.now)) }
 {
-    Ok(NamedStmt::If {
-        at,
-        test: term(alloc, table, scope, test)?,
-        first,
-        second,
-    })
-}
-
-/// `while (E) do .. end`, where its body has numbers already.
-#[tactic(auto, using(loft_tree::proofs::NamedTrees::named_while))]
-fn while_test(
-    alloc: Global,
-    table: &Table,
-    scope: Scope,
-    at: u32,
-    test: &Expr,
-    body: Vec<NamedStmt>,
-) -> Result<NamedStmt, NoMemory>
-    ensures { IfOk result (λ t. view.statement_of t
-        ≡ While at (numbers.term_of table.now scope (expression_of test.now))
-        (view.statements_of body.items)) }
-{
-    Ok(NamedStmt::While {
-        at,
-        test: term(alloc, table, scope, test)?,
-        body,
-    })
-}
-
-/// `repeat (E) do .. end`, where its body has numbers already.
-#[tactic(auto, using(loft_tree::proofs::NamedTrees::named_repeat))]
-fn repeat(
-    alloc: Global,
-    table: &Table,
-    scope: Scope,
-    at: u32,
-    count: &Expr,
-    body: Vec<NamedStmt>,
-) -> Result<NamedStmt, NoMemory>
-    ensures { IfOk result (λ t. view.statement_of t
-        ≡ Repeat at (numbers.term_of table.now scope (expression_of count.now))
-        (view.statements_of body.items)) }
-{
-    Ok(NamedStmt::Repeat {
-        at,
-        count: term(alloc, table, scope, count)?,
-        body,
-    })
+    let value = term_if(room, table, scope, value);
+    match SharedText::from_slice(room.alloc, text.bytes()) {
+        Ok(text) => Action::PrintText { text, value },
+        Err(_) => {
+            room.is_whole = false;
+            Action::PrintValue(NamedExpr::Number(0))
+        }
+    }
 }
 
 /// A statement, after so many stops of its module.
 #[cycle(statement)]
-#[tactic(auto, using(loft_tree::proofs::Trees::statements))]
-fn statement(
-    alloc: Global,
-    table: &Table,
-    scope: Scope,
-    s: &Stmt,
-    stops: &mut u32,
-) -> Result<NamedStmt, NoMemory>
+#[tactic(auto, using(loft_tree::proofs::Trees::statements, loft_tree::proofs::NamedTrees::named_statements))]
+fn statement(room: &mut Room, table: &Table, scope: Scope, s: &Stmt, stops: &mut u32) -> NamedStmt
     requires { stops.old + stops_in (statement_of s.now) < 2 ^ 32 }
-    ensures statement { IfOk result (λ t. view.statement_of t
-        ≡ numbers.statement_of table.now scope (statement_of s.now) stops.old) }
-    ensures counted { OnOk result (stops.new ≡ stops.old + stops_in (statement_of s.now)) }
+    ensures before { room.new.is_whole ≡ true → room.old.is_whole ≡ true }
+    ensures statement { room.new.is_whole ≡ true → view.statement_of result
+        ≡ numbers.statement_of table.now scope (statement_of s.now) stops.old }
+    ensures counted { stops.new ≡ stops.old + stops_in (statement_of s.now) }
 {
     match s {
-        Stmt::Assign { target, value } => simple::assign(alloc, table, scope, target, value),
+        Stmt::Assign {
+            target: name,
+            value,
+        } => NamedStmt::Do {
+            at: name.at(),
+            action: Action::Assign {
+                target: target(table, scope, name),
+                value: term_in(room, table, scope, value),
+            },
+        },
         Stmt::AssignCreate {
-            target,
+            target: name,
             at,
-            creation,
-        } => simple::assign_create(alloc, table, scope, target, *at, creation),
-        Stmt::Create { at, creation } => simple::create(alloc, table, scope, *at, creation),
-        Stmt::PrintText { at, text, value } => simple::print_text(
-            alloc, table, scope, *at, text, value,
-        ),
-        Stmt::PrintValue { at, value } => simple::print_value(alloc, table, scope, *at, value),
-        Stmt::Cooperate { at, instants } => simple::cooperate(
-            alloc,
-            table,
-            scope,
-            *at,
-            next_stop(stops),
-            instants,
-        ),
-        Stmt::Generate { at, event, value } => simple::generate(
-            alloc, table, scope, *at, event, value,
-        ),
-        Stmt::Await { at, event, limit } => simple::await_event(
-            alloc,
-            table,
-            scope,
-            *at,
-            next_stop(stops),
-            event,
-            limit,
-        ),
-        Stmt::Select { at, events, limit } => simple::select(
-            alloc,
-            table,
-            scope,
-            *at,
-            next_stop(stops),
-            events.as_slice(),
-            limit,
-        ),
+            creation: made,
+        } => NamedStmt::Do {
+            at: *at,
+            action: Action::Make {
+                target: Some(target(table, scope, name)),
+                creation: creation(room, table, scope, made),
+            },
+        },
+        Stmt::Create { at, creation: made } => NamedStmt::Do {
+            at: *at,
+            action: Action::Make {
+                target: None,
+                creation: creation(room, table, scope, made),
+            },
+        },
+        Stmt::PrintText { at, text, value } => NamedStmt::Do {
+            at: *at,
+            action: print_text(room, table, scope, text, value),
+        },
+        Stmt::PrintValue { at, value } => NamedStmt::Do {
+            at: *at,
+            action: Action::PrintValue(term_in(room, table, scope, value)),
+        },
+        Stmt::Cooperate { at, instants } => NamedStmt::Hold {
+            at: *at,
+            stop: next_stop(stops),
+            pause: Pause::Cooperate {
+                instants: term_if(room, table, scope, instants),
+            },
+        },
+        Stmt::Generate { at, event, value } => NamedStmt::Do {
+            at: *at,
+            action: Action::Generate {
+                event: event_use(table, scope, event),
+                value: term_if(room, table, scope, value),
+            },
+        },
+        Stmt::Await { at, event, limit } => NamedStmt::Hold {
+            at: *at,
+            stop: next_stop(stops),
+            pause: Pause::Await {
+                events: one_event(room, table, scope, event),
+                limit: term_if(room, table, scope, limit),
+            },
+        },
+        Stmt::Select { at, events, limit } => NamedStmt::Hold {
+            at: *at,
+            stop: next_stop(stops),
+            pause: Pause::Await {
+                events: event_uses(room, table, scope, events.as_slice()),
+                limit: term_if(room, table, scope, limit),
+            },
+        },
         Stmt::Get {
             at,
             event,
             index,
-            target,
-        } => simple::get(
-            alloc,
-            table,
-            scope,
-            *at,
-            next_stop(stops),
-            event,
-            index,
-            target,
-        ),
-        Stmt::Join { at, thread, limit } => simple::join(
-            alloc,
-            table,
-            scope,
-            *at,
-            next_stop(stops),
-            thread,
-            limit,
-        ),
+            target: name,
+        } => NamedStmt::Hold {
+            at: *at,
+            stop: next_stop(stops),
+            pause: Pause::Get {
+                event: event_use(table, scope, event),
+                index: term_in(room, table, scope, index),
+                target: target(table, scope, name),
+            },
+        },
+        Stmt::Join { at, thread, limit } => NamedStmt::Hold {
+            at: *at,
+            stop: next_stop(stops),
+            pause: Pause::Join {
+                thread: term_in(room, table, scope, thread),
+                limit: term_if(room, table, scope, limit),
+            },
+        },
         Stmt::Control {
             at,
             control,
             thread,
-            scheduler,
-        } => simple::control_thread(alloc, table, scope, *at, *control, thread, scheduler),
-        Stmt::Broadcast { at, event, value } => simple::broadcast(
-            alloc, table, scope, *at, event, value,
-        ),
-        Stmt::Link { at, scheduler } => Ok(simple::link(
-            table,
-            scope,
-            *at,
-            next_stop(stops),
-            scheduler,
-        )),
-        Stmt::Unlink { at } => Ok(simple::unlink(*at, next_stop(stops))),
+            scheduler: name,
+        } => NamedStmt::Do {
+            at: *at,
+            action: Action::Control {
+                control: *control,
+                thread: term_in(room, table, scope, thread),
+                scheduler: scheduler(table, scope, name),
+            },
+        },
+        Stmt::Broadcast { at, event, value } => NamedStmt::Do {
+            at: *at,
+            action: Action::Broadcast {
+                event: event_use(table, scope, event),
+                value: term_if(room, table, scope, value),
+            },
+        },
+        Stmt::Link {
+            at,
+            scheduler: name,
+        } => NamedStmt::Hold {
+            at: *at,
+            stop: next_stop(stops),
+            pause: Pause::Link(scheduler(table, scope, name)),
+        },
+        Stmt::Unlink { at } => NamedStmt::Hold {
+            at: *at,
+            stop: next_stop(stops),
+            pause: Pause::Unlink,
+        },
         Stmt::Run {
             at,
             called,
             arguments,
-        } => simple::run(
-            alloc,
-            table,
-            scope,
-            *at,
-            next_stop(stops),
-            called,
-            arguments.as_slice(),
-        ),
-        Stmt::Halt { at } => Ok(simple::halt(*at, next_stop(stops))),
+        } => NamedStmt::Run {
+            at: *at,
+            stop: next_stop(stops),
+            called: called.at(),
+            module: module(table, scope, called),
+            arguments: terms(room, table, scope, arguments.as_slice()),
+        },
+        Stmt::Halt { at } => NamedStmt::Hold {
+            at: *at,
+            stop: next_stop(stops),
+            pause: Pause::Halt,
+        },
         Stmt::If {
             at,
             test,
             first,
             second,
-        } => {
-            let first = body(alloc, table, scope, first.as_slice(), stops)?;
-            let second = body(alloc, table, scope, second.as_slice(), stops)?;
-            if_test(alloc, table, scope, *at, test, first, second)
-        }
+        } => NamedStmt::If {
+            at: *at,
+            test: term_in(room, table, scope, test),
+            first: body(room, table, scope, first.as_slice(), stops),
+            second: body(room, table, scope, second.as_slice(), stops),
+        },
         Stmt::While {
             at,
             test,
             body: inner,
-        } => {
-            let inner = body(alloc, table, scope, inner.as_slice(), stops)?;
-            while_test(alloc, table, scope, *at, test, inner)
-        }
+        } => NamedStmt::While {
+            at: *at,
+            test: term_in(room, table, scope, test),
+            body: body(room, table, scope, inner.as_slice(), stops),
+        },
         Stmt::Repeat {
             at,
             count,
             body: inner,
-        } => {
-            let inner = body(alloc, table, scope, inner.as_slice(), stops)?;
-            repeat(alloc, table, scope, *at, count, inner)
-        }
+        } => NamedStmt::Repeat {
+            at: *at,
+            count: term_in(room, table, scope, count),
+            body: body(room, table, scope, inner.as_slice(), stops),
+        },
     }
 }
 
@@ -233,24 +230,24 @@ fn statement(
 #[cycle(statement)]
 #[tactic(auto, using(loft_tree::proofs::Trees::statements))]
 pub fn body(
-    alloc: Global,
+    room: &mut Room,
     table: &Table,
     scope: Scope,
     statements: &[Stmt],
     stops: &mut u32,
-) -> Result<Vec<NamedStmt>, NoMemory>
+) -> Vec<NamedStmt>
     requires { stops.old + body_stops (statements_of statements.now) < 2 ^ 32 }
-    ensures body { IfOk result (λ body. view.statements_of body.items
-        ≡ numbers.body_of table.now scope (statements_of statements.now) stops.old) }
-    ensures counted { OnOk result (stops.new
-        ≡ stops.old + body_stops (statements_of statements.now)) }
+    ensures before { room.new.is_whole ≡ true → room.old.is_whole ≡ true }
+    ensures body { room.new.is_whole ≡ true → view.statements_of result.items
+        ≡ numbers.body_of table.now scope (statements_of statements.now) stops.old }
+    ensures counted { stops.new ≡ stops.old + body_stops (statements_of statements.now) }
 {
-    let mut all = Vec::with_capacity(alloc, statements.len())?;
+    let mut all = Vec::new(room.alloc);
     for s in statements {
-        let numbered = statement(alloc, table, scope, s, stops)?;
-        all.push(numbered)?;
+        let numbered = statement(room, table, scope, s, stops);
+        room.push_to(&mut all, numbered);
     }
-    Ok(all)
+    all
 }
 
 /// One statement with numbers in place of its names, its stops numbered from 1 in the order of the
@@ -269,6 +266,8 @@ pub fn number_statement(
     ensures { IfOk result (λ t. view.statement_of t
         ≡ numbers.statement_of table.now scope (statement_of s.now) 0) }
 {
+    let mut room = Room::new(alloc);
     let mut stops = 0;
-    statement(alloc, table, scope, s, &mut stops)
+    let numbered = statement(&mut room, table, scope, s, &mut stops);
+    room.done(numbered)
 }
