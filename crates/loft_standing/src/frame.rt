@@ -1,8 +1,8 @@
 //! Frames that stand at stops of a program.
 
-ghost use Rattle.std.specs.Prelude.{◌≡◌, ◌↔◌, IsTrue, Some};
-ghost use Rattle.loft_sense.specs.Stands.{StopKind, Calls, StopAt, WaitAgrees, FrameStands, FrameCalls};
-ghost use Rattle.loft_standing.specs.Stops.{tree_of, step_from, kind_of_step, kind_from, IsStanding};
+ghost use Rattle.std.specs.Prelude.{◌≡◌, ◌↔◌, IsTrue};
+ghost use Rattle.loft_sense.specs.Stands.{Calls, StopAt, WaitAgrees, FrameStands, FrameCalls};
+ghost use Rattle.loft_standing.specs.Stops.{tree_of, kind_from, IsStanding};
 
 use crate::search::find_stop;
 use crate::slots::values_agree;
@@ -10,7 +10,7 @@ use crate::stop::{Kind, Stop};
 use crate::wait::wait_agrees;
 use loft_base::ModuleId;
 use loft_orders::{Frame, Wait};
-use loft_tree::{NamedProgram, NamedStmt, Place};
+use loft_tree::{NamedProgram, Place};
 
 /// The stop at which the frame stands, if it stands at one: there is such a stop, with a count for each `repeat` around
 /// it, and the values agree with the module's parameters and local variables.
@@ -26,24 +26,13 @@ fn standing<'a>(program: &'a NamedProgram, frame: &Frame) -> Option<Stop<'a>>
     }
 }
 
-/// Whether the statement is a `run` of this module.
-#[tactic(auto, using(loft_tree::proofs::NamedTrees::named_statements))]
-fn runs(statement: &NamedStmt, called: ModuleId) -> bool
-    ensures { (kind : StopKind) → kind_of_step (step_from statement.now) ≡ Some kind → IsTrue result ↔ (kind ≡ Calls called) }
-{
-    match statement {
-        NamedStmt::Run { module, .. } => *module == called,
-        _ => false,
-    }
-}
-
 /// Whether the stop is a `run` of this module.
 fn calls(stop: Kind<'_>, called: ModuleId) -> bool
-    ensures { (kind : StopKind) → kind_from stop.entry ≡ Some kind → IsTrue result ↔ (kind ≡ Calls called) }
+    ensures { IsTrue result ↔ (kind_from stop.entry ≡ Calls called) }
 {
     match stop {
-        Kind::Begin => false,
-        Kind::Statement(statement) => runs(statement, called),
+        Kind::Run(module) => module == called,
+        Kind::Begin | Kind::Pause(_) => false,
     }
 }
 

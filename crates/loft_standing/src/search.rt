@@ -1,18 +1,19 @@
 //! The stops of a module, by their numbers.
 
-ghost use Rattle.std.specs.Prelude.{◌≡◌, ◌+◌, ◌<◌, ◌≤◌, ◌^◌, Some};
+ghost use Rattle.std.specs.Prelude.{◌≡◌, ◌+◌, ◌<◌, ◌≤◌, ◌^◌};
+ghost use Rattle.std.specs.Option.{option_map};
 ghost use Rattle.loft_tree.specs.declared.limits.TheConstants.{MAX_STATEMENTS};
 ghost use Rattle.loft_tree.specs.ProgramView.{program_of};
 ghost use Rattle.loft_tree.specs.Resolved.{resolved_of};
 ghost use Rattle.loft_tree.specs.NamedView.{statement_of, statements_of};
 ghost use Rattle.loft_tree.specs.Stops.{size, size_of};
 ghost use Rattle.loft_sense.specs.Tree.{at_stop, body_at};
-ghost use Rattle.loft_sense.specs.Stands.{StopKind, begin_of, end_of, leads, leads_step, stop_in, stop_in_step, tree_stop};
-ghost use Rattle.loft_standing.specs.Stops.{body_from, step_from, kind_of_step, IsFound, IsStop};
+ghost use Rattle.loft_sense.specs.Stands.{begin_of, end_of, place_after, leads, leads_step, stop_in, stop_in_step, tree_stop};
+ghost use Rattle.loft_standing.specs.Stops.{body_from, step_from, pause_from, kind_from, stop_from, IsFound};
 
 use crate::stop::{Kind, Search, Stop};
 use loft_base::ModuleId;
-use loft_tree::{Heads, NamedProgram, NamedStmt, Place};
+use loft_tree::{Heads, NamedProgram, NamedStmt, Pause, Place};
 
 /// Where the threads of a module begin.
 fn begin_of(heads: &Heads, module: ModuleId) -> Place
@@ -34,23 +35,28 @@ fn end_of(heads: &Heads, module: ModuleId) -> Place
     }
 }
 
-/// Whether this statement, which is a stop with this number, is stop k.
-fn search_here<'a>(
-    statement: &'a NamedStmt,
-    stop: u32,
-    k: u32,
-    depth: u32,
-    after: Place,
-) -> Search<'a>
-    ensures { (kind : StopKind) → kind_of_step (step_from statement.now) ≡ Some kind
-        → IsFound result (at_stop stop k (record { kind = kind; depth = depth; after = after })) after }
+/// Where a thread is linked after a stop that it comes to at the place.
+fn place_after(pause: &Pause, place: Place) -> Place
+    ensures { result ≡ place_after (pause_from pause.now) place }
+{
+    match pause {
+        Pause::Link(scheduler) => Place::Sched(*scheduler),
+        Pause::Unlink => Place::Unlinked,
+        Pause::Cooperate { .. }
+        | Pause::Await { .. }
+        | Pause::Get { .. }
+        | Pause::Join { .. }
+        | Pause::Halt => place,
+    }
+}
+
+/// Whether this stop, which has this number, is stop k.
+fn search_here<'a>(kind: Kind<'a>, stop: u32, k: u32, depth: u32, after: Place) -> Search<'a>
+    ensures { IsFound result
+        (at_stop stop k (record { kind = kind_from kind.entry; depth = depth; after = after })) after }
 {
     if stop == k {
-        Search::At(Stop {
-            kind: Kind::Statement(statement),
-            depth,
-            after,
-        })
+        Search::At(Stop { kind, depth, after })
     } else {
         Search::Past(after)
     }
@@ -93,6 +99,19 @@ fn search_statement<'a>(
     ensures { IsFound result (stop_in_step heads.now (step_from statement.now) k depth place) (leads_step heads.now (step_from statement.now) place) }
 {
     match statement {
+        NamedStmt::Do { .. } => Search::Past(place),
+        NamedStmt::Hold { stop, pause, .. } => {
+            search_here(
+                Kind::Pause(pause),
+                *stop,
+                k,
+                depth,
+                place_after(pause, place),
+            )
+        }
+        NamedStmt::Run { stop, module, .. } => {
+            search_here(Kind::Run(*module), *stop, k, depth, end_of(heads, *module))
+        }
         NamedStmt::If { first, second, .. } => {
             match search_body(heads, first.as_slice(), k, depth, place) {
                 Search::At(stop) => Search::At(stop),
@@ -114,29 +133,6 @@ fn search_statement<'a>(
                 Search::Past(_) => Search::Past(place),
             }
         }
-        NamedStmt::Cooperate { stop, .. }
-        | NamedStmt::Await { stop, .. }
-        | NamedStmt::Select { stop, .. }
-        | NamedStmt::Get { stop, .. }
-        | NamedStmt::Join { stop, .. }
-        | NamedStmt::Halt { stop, .. } => search_here(statement, *stop, k, depth, place),
-        NamedStmt::Link {
-            stop,
-            scheduler,
-            ..
-        } => search_here(statement, *stop, k, depth, Place::Sched(*scheduler)),
-        NamedStmt::Unlink { stop, .. } => search_here(statement, *stop, k, depth, Place::Unlinked),
-        NamedStmt::Run { stop, module, .. } => {
-            search_here(statement, *stop, k, depth, end_of(heads, *module))
-        }
-        NamedStmt::Assign { .. }
-        | NamedStmt::AssignCreate { .. }
-        | NamedStmt::Create { .. }
-        | NamedStmt::PrintText { .. }
-        | NamedStmt::PrintValue { .. }
-        | NamedStmt::Generate { .. }
-        | NamedStmt::Control { .. }
-        | NamedStmt::Broadcast { .. } => Search::Past(place),
     }
 }
 
@@ -153,7 +149,7 @@ fn body(program: &NamedProgram, module: ModuleId) -> &[NamedStmt]
 
 /// Stop k of a module, if there is one; its begin counts as stop 0.
 pub(crate) fn find_stop(program: &NamedProgram, module: ModuleId, k: u32) -> Option<Stop<'_>>
-    ensures { IsStop result (tree_stop (resolved_of (program_of program.now)) «module» k) }
+    ensures { option_map stop_from result ≡ tree_stop (resolved_of (program_of program.now)) «module» k }
 {
     let begin = begin_of(&program.heads, module);
     if k == 0 {

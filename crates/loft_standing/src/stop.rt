@@ -1,14 +1,17 @@
 //! Stops of a program in memory.
 
-use loft_tree::{NamedStmt, Place};
+use loft_base::ModuleId;
+use loft_tree::{Pause, Place};
 
 /// What a stop of a module is.
 #[derive(Clone, Copy)]
 pub enum Kind<'a> {
     /// The beginning of the module.
     Begin,
-    /// A statement.
-    Statement(&'a NamedStmt),
+    /// What a thread waits for there.
+    Pause(&'a Pause),
+    /// A `run` of this module.
+    Run(ModuleId),
 }
 
 /// A stop of a module: what it is, how many `repeat`s it stands in, and where a thread is linked after it.

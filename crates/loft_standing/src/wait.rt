@@ -1,16 +1,16 @@
-//! Waits that agree with the statements at which threads stand.
+//! Waits that agree with the stops at which threads stand.
 
-ghost use Rattle.std.specs.Prelude.{◌≡◌, ◌↔◌, IsTrue, Option, Some, [], ◌∷◌, map};
+ghost use Rattle.std.specs.Prelude.{◌≡◌, ◌↔◌, IsTrue, Option, map};
 ghost use Rattle.loft_orders.specs.declared.thread.Wait.TheVariants as wait_for;
 ghost use Rattle.loft_tree.specs.NamedView.{event_use_of, value_of};
 ghost use Rattle.loft_tree.specs.Resolved.{Exp, Target, Cooperate, Await, Get, Join, events_of, exp_if};
-ghost use Rattle.loft_sense.specs.Stands.{StopKind, LeftAgrees, PauseAgrees, WaitAgrees};
-ghost use Rattle.loft_standing.specs.Stops.{step_from, kind_of_step, kind_from};
+ghost use Rattle.loft_sense.specs.Stands.{LeftAgrees, PauseAgrees, WaitAgrees};
+ghost use Rattle.loft_standing.specs.Stops.{pause_from, kind_from};
 
 use crate::stop::Kind;
 use loft_base::EventId;
 use loft_orders::Wait;
-use loft_tree::{EventUse, NamedExpr, NamedStmt};
+use loft_tree::{EventUse, NamedExpr, Pause};
 
 /// Whether a number is left exactly where the statement gives a limit, and isn't negative.
 fn left_agrees(limit: &Option<NamedExpr>, left: Option<i64>) -> bool
@@ -54,26 +54,8 @@ fn cooperate_agrees(wait: &Wait) -> bool
     }
 }
 
-/// Whether a thread that stands at an `await` of this event may wait so.
-fn await_agrees(event: EventId, limit: &Option<NamedExpr>, wait: &Wait) -> bool
-    ensures { IsTrue result ↔ PauseAgrees (Await (event ∷ []) (exp_if (value_of limit.now))) wait.now }
-{
-    match wait {
-        Wait::Events { events, left } => match events.as_slice() {
-            [only] => *only == event && left_agrees(limit, *left),
-            [] | [_, _, ..] => false,
-        },
-        Wait::New
-        | Wait::Coop(_)
-        | Wait::Index { .. }
-        | Wait::Next
-        | Wait::Join { .. }
-        | Wait::Halt => false,
-    }
-}
-
-/// Whether a thread that stands at a `select` of these events may wait so.
-fn select_agrees(uses: &[EventUse], limit: &Option<NamedExpr>, wait: &Wait) -> bool
+/// Whether a thread that waits for one of these events may wait so.
+fn await_agrees(uses: &[EventUse], limit: &Option<NamedExpr>, wait: &Wait) -> bool
     ensures { IsTrue result ↔ PauseAgrees (Await (events_of (map event_use_of uses.now)) (exp_if (value_of limit.now))) wait.now }
 {
     match wait {
@@ -145,30 +127,27 @@ fn is_halt(wait: &Wait) -> bool
     }
 }
 
-/// Whether a thread that stands at this statement may wait so.
-#[tactic(auto, using(loft_tree::proofs::NamedTrees::named_statements))]
-fn statement_agrees(statement: &NamedStmt, wait: &Wait) -> bool
-    ensures { (kind : StopKind) → kind_of_step (step_from statement.now) ≡ Some kind → IsTrue result ↔ WaitAgrees kind wait.now }
+/// Whether a thread that stands at this pause may wait so.
+fn pause_agrees(pause: &Pause, wait: &Wait) -> bool
+    ensures { IsTrue result ↔ PauseAgrees (pause_from pause.now) wait.now }
 {
-    match statement {
-        NamedStmt::Cooperate { .. } => cooperate_agrees(wait),
-        NamedStmt::Await { event, limit, .. } => await_agrees(event.event, limit, wait),
-        NamedStmt::Select { events, limit, .. } => select_agrees(events.as_slice(), limit, wait),
-        NamedStmt::Get { event, .. } => get_agrees(event.event, wait),
-        NamedStmt::Join { limit, .. } => join_agrees(limit, wait),
-        NamedStmt::Link { .. } | NamedStmt::Unlink { .. } => is_new(wait),
-        NamedStmt::Halt { .. } => is_halt(wait),
-        NamedStmt::Run { .. } => false,
-        _ => false,
+    match pause {
+        Pause::Cooperate { .. } => cooperate_agrees(wait),
+        Pause::Await { events, limit } => await_agrees(events.as_slice(), limit, wait),
+        Pause::Get { event, .. } => get_agrees(event.event, wait),
+        Pause::Join { limit, .. } => join_agrees(limit, wait),
+        Pause::Link(_) | Pause::Unlink => is_new(wait),
+        Pause::Halt => is_halt(wait),
     }
 }
 
 /// Whether a thread that stands at a stop of this kind may wait so (docs/SEMANTICS.md, "Stands").
 pub fn wait_agrees(stop: Kind<'_>, wait: &Wait) -> bool
-    ensures { (kind : StopKind) → kind_from stop.entry ≡ Some kind → IsTrue result ↔ WaitAgrees kind wait.now }
+    ensures { IsTrue result ↔ WaitAgrees (kind_from stop.entry) wait.now }
 {
     match stop {
         Kind::Begin => is_new(wait),
-        Kind::Statement(statement) => statement_agrees(statement, wait),
+        Kind::Pause(pause) => pause_agrees(pause, wait),
+        Kind::Run(_) => false,
     }
 }
