@@ -10,11 +10,10 @@ use Rattle.loft_tree.specs.declared.heads.Signature.{Signature}
 use Rattle.loft_tree.specs.declared.heads.Heads.{Heads}
 use Rattle.loft_tree.specs.Fits.{Each}
 use Rattle.loft_tree.specs.NamedTree as tree
-use Rattle.loft_tree.specs.NamedTree.{NamedStatement, NamedStatements, NamedModule, NamedProgram}
+use Rattle.loft_tree.specs.NamedTree.{NamedPause, NamedStatement, NamedStatements, NamedModule, NamedProgram}
 use Rattle.loft_tree.specs.NamedFits.{BodiesHold, NamedFits}
-use Rattle.loft_tree.specs.Resolved.{Empty, Pause, Cooperate, Await, Get, Join, Link, Unlink, Halt, Resolved, step_of, body_of, resolved_of}
-use Rattle.loft_place.specs.Links as links
-use Rattle.loft_place.specs.Links.{GoesThrough, Goes, IsPlaced}
+use Rattle.loft_tree.specs.Resolved.{Empty, Pause, Cooperate, Await, Get, Join, Link, Unlink, Halt, Resolved, pause_of, step_of, body_of, resolved_of}
+use Rattle.loft_place.specs.Links.{AllowedAt, linked_pause, GoesThrough, Goes, IsPlaced}
 use Rattle.loft_place.proofs.Declared.{module_goes}
 use Rattle.loft_code.specs.Operations as op
 use Rattle.loft_code.specs.Operations.{Operation, Line, Automata, way, goes_on_at}
@@ -24,8 +23,9 @@ use Rattle.loft_code.proofs.Leading.{valid_passes, leads_on}
 use Rattle.loft_sense.specs.Machine.{Prog, Tree, Code, heads}
 use Rattle.loft_sense.specs.Code.{lines_at, stop_from}
 use Rattle.loft_sense.specs.Tree.{body_at, first_some}
-use Rattle.loft_sense.specs.Stands.{StopKind, Begins, Pauses, Calls, StopAt, begin_of, begin_or_unlinked, end_or_unlinked, leads_step, leads, stop_in_step, stop_in, tree_stop, kind_of, stop_before, stop_at_line, code_stop, program_stop}
+use Rattle.loft_sense.specs.Stands.{StopKind, Begins, Pauses, Calls, StopAt, begin_of, begin_or_unlinked, place_after, leads_step, leads, stop_in_step, stop_in, tree_stop, kind_of, stop_before, stop_at_line, code_stop, program_stop}
 use Rattle.loft_stand.specs.WellFormed.{IsWellFormed, IsValidCode}
+use Rattle.loft_stand.proofs.FitLemmas.{end_same, left_same}
 use Rattle.loft_stand.proofs.ListLemmas.{within_some}
 use Rattle.loft_stand.proofs.OperationFits.{tested}
 
@@ -60,30 +60,21 @@ found_first : (a b : Option StopAt) (at : StopAt) → (a ≡ Some at → StopLin
 found_first None b at f g e = g e
 found_first (Some a) b at f g e = f e
 
-end_same : (o : Option Signature) → links.end_of o ≡ end_or_unlinked o
-end_same None = refl
-end_same (Some m) = refl
+hold_linked : (pause : NamedPause) (at : ℕ) (p : Place) → AllowedAt p (linked_pause at pause) → HoldsLinked (pause_of pause) (place_after (pause_of pause) p)
+hold_linked (tree.Cooperate instants) at p allowed = allowed
+hold_linked (tree.Await events limit) at p allowed = allowed
+hold_linked (tree.Get event index target) at p allowed = allowed
+hold_linked (tree.Join thread limit) at p allowed = allowed
+hold_linked (tree.Link s) at p allowed = tt
+hold_linked tree.Unlink at p allowed = tt
+hold_linked tree.Halt at p allowed = allowed
 
 module _ (h : Heads) where
   mutual
     leads_through : (s : NamedStatement) (p q : Place) → GoesThrough h p s q → leads_step h (step_of s) p ≡ q
-    leads_through (tree.Assign t e) p q goes = sym goes.1
-    leads_through (tree.AssignCreate t at c) p q goes = sym goes.1
-    leads_through (tree.Create at c) p q goes = sym goes.1
-    leads_through (tree.PrintText at line e) p q goes = sym goes.1
-    leads_through (tree.PrintValue at e) p q goes = sym goes.1
-    leads_through (tree.Cooperate at stop e) p q goes = sym goes.1
-    leads_through (tree.Generate at event e) p q goes = sym goes.1
-    leads_through (tree.Await at stop event e) p q goes = sym goes.1
-    leads_through (tree.Select at stop events e) p q goes = sym goes.1
-    leads_through (tree.Get at stop event index t) p q goes = sym goes.1
-    leads_through (tree.Join at stop thread e) p q goes = sym goes.1
-    leads_through (tree.ControlThread at control thread s) p q goes = sym goes.1
-    leads_through (tree.Broadcast at event e) p q goes = sym goes.1
-    leads_through (tree.Link at stop s) p q goes = sym goes.1
-    leads_through (tree.Unlink at stop) p q goes = sym goes.1
+    leads_through (tree.Do at action) p q goes = sym goes.1
+    leads_through (tree.Hold at stop pause) p q goes = left_same pause p ∙ sym goes.1
     leads_through (tree.Run at stop called m arguments) p q goes = sym (end_same (slice_get h.modules m.0)) ∙ sym goes.1
-    leads_through (tree.Halt at stop) p q goes = sym goes.1
     leads_through (tree.If at test a b) p q goes = leads_along a p q goes.1
     leads_through (tree.While at test a) p q goes = sym goes.2
     leads_through (tree.Repeat at count a) p q goes = sym goes.2
@@ -95,23 +86,9 @@ module _ (h : Heads) where
   -- each stop of a statement, and of a body
   mutual
     step_linked : (s : NamedStatement) (p q : Place) → GoesThrough h p s q → (k depth : ℕ) (at : StopAt) → stop_in_step h (step_of s) k depth p ≡ Some at → StopLinked at
-    step_linked (tree.Assign t e) p q goes k depth at is = absurd cc
-    step_linked (tree.AssignCreate t o c) p q goes k depth at is = absurd cc
-    step_linked (tree.Create o c) p q goes k depth at is = absurd cc
-    step_linked (tree.PrintText o line e) p q goes k depth at is = absurd cc
-    step_linked (tree.PrintValue o e) p q goes k depth at is = absurd cc
-    step_linked (tree.Cooperate o stop e) p q goes k depth at is = found_one (stop == k) _ at goes.0.allowed is
-    step_linked (tree.Generate o event e) p q goes k depth at is = absurd cc
-    step_linked (tree.Await o stop event e) p q goes k depth at is = found_one (stop == k) _ at goes.0.allowed is
-    step_linked (tree.Select o stop events e) p q goes k depth at is = found_one (stop == k) _ at goes.0.allowed is
-    step_linked (tree.Get o stop event index t) p q goes k depth at is = found_one (stop == k) _ at goes.0.allowed is
-    step_linked (tree.Join o stop thread e) p q goes k depth at is = found_one (stop == k) _ at goes.0.allowed is
-    step_linked (tree.ControlThread o control thread s) p q goes k depth at is = absurd cc
-    step_linked (tree.Broadcast o event e) p q goes k depth at is = absurd cc
-    step_linked (tree.Link o stop s) p q goes k depth at is = found_one (stop == k) _ at tt is
-    step_linked (tree.Unlink o stop) p q goes k depth at is = found_one (stop == k) _ at tt is
+    step_linked (tree.Do o action) p q goes k depth at is = absurd cc
+    step_linked (tree.Hold o stop pause) p q goes k depth at is = found_one (stop == k) _ at (hold_linked pause o p goes.0.allowed) is
     step_linked (tree.Run o stop called m arguments) p q goes k depth at is = found_one (stop == k) _ at tt is
-    step_linked (tree.Halt o stop) p q goes k depth at is = found_one (stop == k) _ at goes.0.allowed is
     step_linked (tree.If o test a b) p q goes k depth at is =
         found_first (stop_in h (body_of a) k depth p) (stop_in h (body_of b) k depth p) at (body_linked a p q goes.1 k depth at) (body_linked b p q goes.2 k depth at) is
     step_linked (tree.While o test a) p q goes k depth at is = body_linked a p p goes.1 k depth at is
