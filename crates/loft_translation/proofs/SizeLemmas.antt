@@ -16,23 +16,9 @@ use Rattle.loft_translation.proofs.FlowLemmas.{body_and_end}
 module _ (h : Heads) where
   mutual
     step_few : (s : NamedStatement) (q d : ℕ) (p : Place) → length (step_lines h (step_of s) q d p) ≤ 3 * size_of s
-    step_few (tree.Assign target value) q d p = omega arith
-    step_few (tree.AssignCreate target at creation) q d p = omega arith
-    step_few (tree.Create at creation) q d p = omega arith
-    step_few (tree.PrintText at line value) q d p = omega arith
-    step_few (tree.PrintValue at value) q d p = omega arith
-    step_few (tree.Cooperate at stop instants) q d p = omega arith
-    step_few (tree.Generate at event value) q d p = omega arith
-    step_few (tree.Await at stop event limit) q d p = omega arith
-    step_few (tree.Select at stop events limit) q d p = omega arith
-    step_few (tree.Get at stop event index target) q d p = omega arith
-    step_few (tree.Join at stop thread limit) q d p = omega arith
-    step_few (tree.ControlThread at control thread scheduler) q d p = omega arith
-    step_few (tree.Broadcast at event value) q d p = omega arith
-    step_few (tree.Link at stop scheduler) q d p = omega arith
-    step_few (tree.Unlink at stop) q d p = omega arith
+    step_few (tree.Do at action) q d p = omega arith
+    step_few (tree.Hold at stop pause) q d p = omega arith
     step_few (tree.Run at stop called m arguments) q d p = omega arith
-    step_few (tree.Halt at stop) q d p = omega arith
     step_few (tree.If at test first tree.Done) q d p = omega (arith, body_few first (q + 1) d p)
     step_few (tree.If at test first (tree.Then s rest)) q d p =
         let x = body_lines h (body_of first) (q + 1) d p in
