@@ -13,9 +13,10 @@ use Rattle.loft_base.specs.declared.ids.Maker.{Maker}
 use Rattle.loft_base.specs.declared.ids.Maker.TheVariants as maker
 use Rattle.loft_base.specs.declared.ids.ThreadId.{ThreadId}
 use Rattle.loft_sense.specs.CanGo.{same_maker, same_thread, is_known}
-use Rattle.loft_ended.specs.declared.key.ThreadKey.{ThreadKey}
-use Rattle.loft_ended.specs.contracts.key.MakerKeyOrd.TheImpl as maker_ord
-use Rattle.loft_ended.specs.Ended.{maker_key, thread_key, thread_cmp, HasKeys}
+use Rattle.loft_finder.specs.declared.key.IdKey.{IdKey}
+use Rattle.loft_finder.specs.contracts.key.MakerKeyOrd.TheImpl as maker_ord
+use Rattle.loft_finder.specs.Keys.{maker_key, id_key, key_cmp}
+use Rattle.loft_ended.specs.Ended.{HasKeys}
 
 eq_sym : (m n : ℕ) → (m == n) ≡ (n == m)
 eq_sym m n =
@@ -42,12 +43,19 @@ eq_then Less y = refl
 eq_then Equal y = refl
 eq_then Greater y = refl
 
+both_ways : (x y : Bool) → (x && y) ≡ (y && x)
+both_ways true true = refl
+both_ways true false = refl
+both_ways false true = refl
+both_ways false false = refl
+
 -- keys compare as equal where the threads are the same
-thread_ties : (a b : ThreadId) → is_eq (thread_cmp (thread_key a) (thread_key b)) ≡ same_thread b a
+thread_ties : (a b : ThreadId) → is_eq (key_cmp (id_key a) (id_key b)) ≡ same_thread b a
 thread_ties a b =
-    eq_then ((maker_ord.ghosts).cmp (maker_key a.maker) (maker_key b.maker)) (nat_cmp a.seq b.seq)
-    ∙ ap (λ (x : Bool). x && is_eq (nat_cmp a.seq b.seq)) (maker_ties a.maker b.maker)
-    ∙ ap (λ (x : Bool). same_maker b.maker a.maker && x) (number_ties a.seq b.seq)
+    eq_then (nat_cmp a.seq b.seq) ((maker_ord.ghosts).cmp (maker_key a.maker) (maker_key b.maker))
+    ∙ ap (λ (x : Bool). is_eq (nat_cmp a.seq b.seq) && x) (maker_ties a.maker b.maker)
+    ∙ ap (λ (x : Bool). x && same_maker b.maker a.maker) (number_ties a.seq b.seq)
+    ∙ both_ways (b.seq == a.seq) (same_maker b.maker a.maker)
 
 pub known_more : (t x : ThreadId) (xs : List ThreadId) → is_known t (xs ++ x ∷ []) ≡ cond (same_thread t x) true (is_known t xs)
 known_more t x [] = one (same_thread t x)
@@ -64,11 +72,11 @@ known_more t x (y ∷ xs) = ap (λ (b : Bool). same_thread t y || b) (known_more
     turned false false d = refl
 
 -- one more thread is told as ended
-pub has_keys_more : (old new : BTreeSet ThreadKey) (key : ThreadKey) (threads : List ThreadId) (x : ThreadId) → HasKeys old threads → key ≡ thread_key x → ((q : ThreadKey) → contains thread_cmp new q ≡ cond (is_at (thread_cmp key) q) true (contains thread_cmp old q))
+pub has_keys_more : (old new : BTreeSet IdKey) (key : IdKey) (threads : List ThreadId) (x : ThreadId) → HasKeys old threads → key ≡ id_key x → ((q : IdKey) → contains key_cmp new q ≡ cond (is_at (key_cmp key) q) true (contains key_cmp old q))
     → HasKeys new (threads ++ x ∷ [])
 has_keys_more old new key threads x has is more t =
-    more (thread_key t)
-    ∙ ap (λ (k : ThreadKey). cond (is_at (thread_cmp k) (thread_key t)) true (contains thread_cmp old (thread_key t))) is
-    ∙ ap (λ (b : Bool). cond b true (contains thread_cmp old (thread_key t))) (thread_ties x t)
+    more (id_key t)
+    ∙ ap (λ (k : IdKey). cond (is_at (key_cmp k) (id_key t)) true (contains key_cmp old (id_key t))) is
+    ∙ ap (λ (b : Bool). cond b true (contains key_cmp old (id_key t))) (thread_ties x t)
     ∙ ap (λ (b : Bool). cond (same_thread t x) true b) (has t)
     ∙ sym (known_more t x threads)

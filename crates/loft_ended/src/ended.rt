@@ -3,8 +3,8 @@
 ghost use Rattle.std.specs.Prelude.{◌≡◌, ◌++◌, ◌∷◌, [], length, OnOk, OnErr};
 ghost use Rattle.loft_sense.specs.CanGo.{is_known};
 
-use crate::key::ThreadKey;
 use loft_base::{NoMemory, ThreadId};
+use loft_finder::IdKey;
 use std::alloc::Global;
 use std::collections::BTreeSet;
 use std::marker::Model;
@@ -14,7 +14,7 @@ use std::marker::Model;
 #[derive(Drop)]
 pub struct Ended {
     threads: Vec<ThreadId>,
-    keys: BTreeSet<ThreadKey>,
+    keys: BTreeSet<IdKey>,
 }
 
 impl Model for Ended {
@@ -46,7 +46,7 @@ impl Ended {
         ensures err { OnErr result (self.new ≡ self.old) }
     {
         self.threads.reserve(1)?;
-        self.keys.insert(ThreadKey::of(thread))?;
+        self.keys.insert(IdKey::of(thread))?;
         self.threads.push_reserved(thread);
         Ok(())
     }
@@ -55,7 +55,7 @@ impl Ended {
     pub fn contains(&self, thread: ThreadId) -> bool
         ensures { result ≡ is_known thread self.now }
     {
-        self.keys.contains(&ThreadKey::of(thread))
+        self.keys.contains(&IdKey::of(thread))
     }
 
     /// How often a thread was told as ended.

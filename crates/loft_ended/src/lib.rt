@@ -2,7 +2,5 @@
 #![tactic(auto)]
 
 mod ended;
-mod key;
 
 pub use ended::Ended;
-pub use key::{MakerKey, ThreadKey};

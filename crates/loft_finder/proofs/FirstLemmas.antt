@@ -6,7 +6,8 @@ use Rattle.std.specs.declared.ops.Bound.TheVariants.{Included}
 use Rattle.std.specs.Ordering.{is_gt, ordering_then, nat_cmp}
 use Rattle.std.specs.BTreeSet.{BTreeSet, contains, IsKeyRangeOf}
 use Rattle.loft_finder.specs.declared.key.IdKey.{IdKey}
-use Rattle.loft_finder.specs.Finder.{Place, key_cmp, place_cmp}
+use Rattle.loft_finder.specs.Finder.{Place, place_cmp}
+use Rattle.loft_finder.specs.Keys.{key_cmp}
 use Rattle.loft_finder.proofs.KeyLemmas.{key_back, place_le, number_above}
 
 abbrev pub AllOf : IdKey → ℕ → BTreeSet Place → List Place → Type 0

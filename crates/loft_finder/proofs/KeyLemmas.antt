@@ -6,11 +6,13 @@ use Rattle.std.specs.declared.cmp.Ordering.TheVariants.{Less, Equal, Greater}
 use Rattle.std.specs.Ordering.{is_eq, is_gt, ordering_then, nat_cmp}
 use Rattle.std.specs.Cmp.{nat_cmp_total, nat_cmp_is, tied_itself, unsigned_ties}
 use Rattle.std.proofs.lemmas.Bool.{ltb-true, ltb-false}
+use Rattle.std.proofs.lemmas.Map.Lookups.{exact_unsigned}
 use Rattle.loft_finder.specs.declared.key.IdKey.{IdKey}
 use Rattle.loft_finder.specs.declared.key.MakerKey.{MakerKey}
 use Rattle.loft_finder.specs.declared.key.MakerKey.TheVariants.{Source, Sched, Client}
 use Rattle.loft_finder.specs.contracts.key.MakerKeyOrd.TheImpl as maker_ord
-use Rattle.loft_finder.specs.Finder.{key_cmp, place_cmp}
+use Rattle.loft_finder.specs.Finder.{place_cmp}
+use Rattle.loft_finder.specs.Keys.{key_cmp}
 
 abbrev maker_cmp : MakerKey → MakerKey → Ordering
 maker_cmp = (maker_ord.ghosts).cmp
@@ -25,6 +27,35 @@ maker_same (Client n) = number_same n
 
 pub key_same : (k : IdKey) → key_cmp k k ≡ Equal
 key_same k = ap (λ (o : Ordering). ordering_then o (maker_cmp k.maker k.maker)) (number_same k.seq) ∙ maker_same k.maker
+
+-- ---- keys that compare as equal are the same
+
+maker_exact : (x y : MakerKey) → maker_cmp x y ≡ Equal → x ≡ y
+maker_exact Source Source h = refl
+maker_exact Source (Sched n) h = absurd cc
+maker_exact Source (Client n) h = absurd cc
+maker_exact (Sched m) Source h = absurd cc
+maker_exact (Sched m) (Sched n) h = ap (λ (k : ℕ). Sched k) (exact_unsigned m n h)
+maker_exact (Sched m) (Client n) h = absurd cc
+maker_exact (Client m) Source h = absurd cc
+maker_exact (Client m) (Sched n) h = absurd cc
+maker_exact (Client m) (Client n) h = ap (λ (k : ℕ). Client k) (exact_unsigned m n h)
+
+then_left : (x y : Ordering) → ordering_then x y ≡ Equal → x ≡ Equal
+then_left Less y h = absurd cc
+then_left Equal y h = refl
+then_left Greater y h = absurd cc
+
+then_right : (x y : Ordering) → ordering_then x y ≡ Equal → y ≡ Equal
+then_right Less y h = absurd cc
+then_right Equal y h = h
+then_right Greater y h = absurd cc
+
+pub key_exact : (x y : IdKey) → key_cmp x y ≡ Equal → x ≡ y
+key_exact x y h =
+    let key : ℕ → MakerKey → IdKey = λ s m. record { seq = s; maker = m } in
+    ap (λ (s : ℕ). key s x.maker) (exact_unsigned x.seq y.seq (then_left (nat_cmp x.seq y.seq) (maker_cmp x.maker y.maker) h))
+    ∙ ap (λ (m : MakerKey). key y.seq m) (maker_exact x.maker y.maker (then_right (nat_cmp x.seq y.seq) (maker_cmp x.maker y.maker) h))
 
 -- ---- the other way round
 

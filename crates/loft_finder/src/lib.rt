@@ -5,3 +5,4 @@ mod finder;
 mod key;
 
 pub use finder::Finder;
+pub use key::{IdKey, MakerKey};

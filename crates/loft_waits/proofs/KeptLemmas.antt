@@ -8,7 +8,7 @@ use Rattle.loft_waits.specs.declared.places.Places.{Places}
 use Rattle.loft_orders.specs.declared.thread.Wait.{Wait}
 use Rattle.loft_waits.specs.declared.key.Key.TheVariants.{Event, Value, End, Close}
 use Rattle.loft_waits.specs.Told.{Told, wait_at, is_ready, ready_at}
-use Rattle.loft_ended.specs.Ended.{thread_key}
+use Rattle.loft_finder.specs.Keys.{id_key}
 use Rattle.loft_waits.specs.Places.{IsListed, IsKept, KeepsOthers, SetsSome, flag}
 
 pub beyond : {X : Type 0} (xs : List X) (d : X) (i : ℕ) → length xs ≤ i → get_or xs i d ≡ d
@@ -23,7 +23,7 @@ listed_keeps : (old new : Places) (p clock i : ℕ) (w : Option Wait) → i ≢ 
 listed_keeps old new p clock i w apart keeps s = record {
   events = λ e h. keeps (Event e) i apart (s.events e h);
   values = λ e n h. keeps (Value e n) i apart (s.values e n h);
-  ends = λ t h. keeps (End (thread_key t)) i apart (s.ends t h);
+  ends = λ t h. keeps (End (id_key t)) i apart (s.ends t h);
   later = λ n h. keeps (Close (clock + suc n)) i apart (s.later n h);
 }
 

@@ -18,11 +18,8 @@ use mathlib.Core.Logic.{dite}
 use native.Mathlib.Decide.{ℕ_discrete}
 use Rattle.loft_waits.specs.declared.key.Key.{Key}
 use Rattle.loft_waits.specs.declared.key.Key.TheVariants.{Event, Value, End, Close}
-use Rattle.loft_ended.specs.declared.key.MakerKey.{MakerKey}
-use Rattle.loft_ended.specs.declared.key.MakerKey.TheVariants.{Source, Sched, Client}
-use Rattle.loft_ended.specs.declared.key.ThreadKey.{ThreadKey}
-use Rattle.loft_ended.specs.contracts.key.MakerKeyOrd.TheImpl as maker_ord
-use Rattle.loft_ended.specs.Ended.{thread_cmp}
+use Rattle.loft_finder.specs.declared.key.IdKey.{IdKey}
+use Rattle.loft_finder.proofs.KeyLemmas.{key_exact as id_exact, key_same as id_same}
 use Rattle.loft_waits.specs.Told.{Told, ready_at}
 use Rattle.loft_waits.specs.declared.places.Places.{Places}
 use Rattle.loft_waits.specs.Places.{Place, key_cmp, place_cmp, is_placed, flag, SetsSome, SetsPlaced, SetsListed}
@@ -34,17 +31,6 @@ use Rattle.loft_waits.proofs.PlaceLemmas.{place_apart}
 number_same : (n : ℕ) → nat_cmp n n ≡ Equal
 number_same n = tied_itself nat_cmp_total n
 
-maker_exact : (x y : MakerKey) → (maker_ord.ghosts).cmp x y ≡ Equal → x ≡ y
-maker_exact Source Source h = refl
-maker_exact Source (Sched n) h = absurd cc
-maker_exact Source (Client n) h = absurd cc
-maker_exact (Sched m) Source h = absurd cc
-maker_exact (Sched m) (Sched n) h = ap (λ (k : ℕ). Sched k) (exact_unsigned m n h)
-maker_exact (Sched m) (Client n) h = absurd cc
-maker_exact (Client m) Source h = absurd cc
-maker_exact (Client m) (Sched n) h = absurd cc
-maker_exact (Client m) (Client n) h = ap (λ (k : ℕ). Client k) (exact_unsigned m n h)
-
 then_left : (x y : Ordering) → ordering_then x y ≡ Equal → x ≡ Equal
 then_left Less y h = absurd cc
 then_left Equal y h = refl
@@ -54,12 +40,6 @@ then_right : (x y : Ordering) → ordering_then x y ≡ Equal → y ≡ Equal
 then_right Less y h = absurd cc
 then_right Equal y h = h
 then_right Greater y h = absurd cc
-
-thread_exact : (x y : ThreadKey) → thread_cmp x y ≡ Equal → x ≡ y
-thread_exact x y h =
-    let key : MakerKey → ℕ → ThreadKey = λ m s. record { maker = m; seq = s } in
-    ap (λ (m : MakerKey). key m x.seq) (maker_exact x.maker y.maker (then_left ((maker_ord.ghosts).cmp x.maker y.maker) (nat_cmp x.seq y.seq) h))
-    ∙ ap (λ (s : ℕ). key y.maker s) (exact_unsigned x.seq y.seq (then_right ((maker_ord.ghosts).cmp x.maker y.maker) (nat_cmp x.seq y.seq) h))
 
 -- keys that compare as equal are the same
 key_exact : (x y : Key) → key_cmp x y ≡ Equal → x ≡ y
@@ -74,22 +54,17 @@ key_exact (Value d m) (End t) h = absurd cc
 key_exact (Value d m) (Close n) h = absurd cc
 key_exact (End s) (Event e) h = absurd cc
 key_exact (End s) (Value e n) h = absurd cc
-key_exact (End s) (End t) h = ap (λ (k : ThreadKey). End k) (thread_exact s t h)
+key_exact (End s) (End t) h = ap (λ (k : IdKey). End k) (id_exact s t h)
 key_exact (End s) (Close n) h = absurd cc
 key_exact (Close m) (Event e) h = absurd cc
 key_exact (Close m) (Value e n) h = absurd cc
 key_exact (Close m) (End t) h = absurd cc
 key_exact (Close m) (Close n) h = ap (λ (k : ℕ). Close k) (exact_unsigned m n h)
 
-maker_same : (x : MakerKey) → (maker_ord.ghosts).cmp x x ≡ Equal
-maker_same Source = refl
-maker_same (Sched n) = number_same n
-maker_same (Client n) = number_same n
-
 key_same : (k : Key) → key_cmp k k ≡ Equal
 key_same (Event e) = number_same e
 key_same (Value e n) = ap (λ (o : Ordering). ordering_then o (nat_cmp n n)) (number_same e) ∙ number_same n
-key_same (End t) = ap (λ (o : Ordering). ordering_then o (nat_cmp t.seq t.seq)) (maker_same t.maker) ∙ number_same t.seq
+key_same (End t) = id_same t
 key_same (Close n) = number_same n
 
 number_le : (m n : ℕ) → m ≤ n → is_gt (nat_cmp m n) ≡ false

@@ -10,7 +10,7 @@ use Rattle.loft_orders.specs.declared.thread.Wait.{Wait}
 use Rattle.loft_sense.specs.Instant.{closed_wait}
 use Rattle.loft_waits.specs.declared.key.Key.TheVariants.{Event, Value, End, Close}
 use Rattle.loft_waits.specs.Told.{Told, wait_at, is_ready, ready_at, closed, no_counts, NobodyIn, NobodyFrom}
-use Rattle.loft_ended.specs.Ended.{thread_key}
+use Rattle.loft_finder.specs.Keys.{id_key}
 use Rattle.loft_waits.specs.Places.{IsListed, IsKept, KeepsOthers, SetsSome, SetsPlaced, SetsListed, KeepsBut, flag, names_thread, ends_in}
 use Rattle.loft_waits.proofs.KeptLemmas.{beyond, ready_beyond, listed_none, kept_set, kept_woken}
 use Rattle.loft_waits.proofs.ChangeLemmas.{NewValue, EventChange, event_changes, end_changes, close_changes, closed_at, closed_listed}
@@ -90,19 +90,19 @@ kept_event t u ready new places e c was k lt had is many =
 
 -- ---- an end
 
-pub kept_end : (t u : Told) (ready new : List ℕ) (places : Places) (x : ThreadId) → IsKept t ready places → u ≡ record t { ended = t.ended ++ x ∷ [] } → length new ≡ length ready → SetsSome u ready new → SetsPlaced u places.set (End (thread_key x)) new → IsKept u new places
+pub kept_end : (t u : Told) (ready new : List ℕ) (places : Places) (x : ThreadId) → IsKept t ready places → u ≡ record t { ended = t.ended ++ x ∷ [] } → length new ≡ length ready → SetsSome u ready new → SetsPlaced u places.set (End (id_key x)) new → IsKept u new places
 kept_end t u ready new places x k is many =
-    subst (λ (y : Told). SetsSome y ready new → SetsPlaced y places.set (End (thread_key x)) new → IsKept y new places) (sym is)
+    subst (λ (y : Told). SetsSome y ready new → SetsPlaced y places.set (End (id_key x)) new → IsKept y new places) (sym is)
     (λ some listed. kept_woken t v ready new places places k refl k.few many some (λ i. at listed i (nat_lt i (length t.waits)) refl) k.listed)
   where
     v : Told
     v = record t { ended = t.ended ++ x ∷ [] }
 
-    one : SetsPlaced v places.set (End (thread_key x)) new → (i : ℕ) → i < length t.waits → (ready_at v i ≡ ready_at t i) ⊎ (names_thread x (wait_at t i) ≡ true) → (ready_at v i ≡ ready_at t i) ⊎ (get_or new i 0 ≡ flag (ready_at v i))
+    one : SetsPlaced v places.set (End (id_key x)) new → (i : ℕ) → i < length t.waits → (ready_at v i ≡ ready_at t i) ⊎ (names_thread x (wait_at t i) ≡ true) → (ready_at v i ≡ ready_at t i) ⊎ (get_or new i 0 ≡ flag (ready_at v i))
     one listed i lt (inl same) = inl same
     one listed i lt (inr named) = inr (listed i lt ((k.listed i).ends x named))
 
-    at : SetsPlaced v places.set (End (thread_key x)) new → (i : ℕ) (within : Bool) → nat_lt i (length t.waits) ≡ within → (ready_at v i ≡ ready_at t i) ⊎ (get_or new i 0 ≡ flag (ready_at v i))
+    at : SetsPlaced v places.set (End (id_key x)) new → (i : ℕ) (within : Bool) → nat_lt i (length t.waits) ≡ within → (ready_at v i ≡ ready_at t i) ⊎ (get_or new i 0 ≡ flag (ready_at v i))
     at listed i true is = one listed i (ltb-true i (length t.waits) is) (end_changes t.counts t.ended x (wait_at t i))
     at listed i false is = inl (ready_beyond v i (ltb-false i (length t.waits) is) ∙ sym (ready_beyond t i (ltb-false i (length t.waits) is)))
 
@@ -116,7 +116,7 @@ forgotten : (places after : Places) (clock i : ℕ) (w : Option Wait) → KeepsB
 forgotten places after clock i w keeps s = record {
   events = λ e h. keeps (Event e) i (λ same. cc same) (s.events e h);
   values = λ e n h. keeps (Value e n) i (λ same. cc same) (s.values e n h);
-  ends = λ t h. keeps (End (thread_key t)) i (λ same. cc same) (s.ends t h);
+  ends = λ t h. keeps (End (id_key t)) i (λ same. cc same) (s.ends t h);
   later = λ n h. keeps (Close (clock + suc n)) i (close_later clock n) (s.later n h);
 }
 

@@ -8,7 +8,7 @@ use Rattle.loft_base.specs.declared.ids.ThreadId.{ThreadId}
 use Rattle.loft_orders.specs.declared.thread.Wait.{Wait}
 use Rattle.loft_orders.specs.declared.thread.Wait.TheVariants as wait
 use Rattle.loft_sense.specs.CanGo.{same_thread}
-use Rattle.loft_ended.specs.Ended.{thread_key}
+use Rattle.loft_finder.specs.Keys.{id_key}
 use Rattle.loft_waits.specs.declared.key.Key.{Key}
 use Rattle.loft_waits.specs.declared.key.Key.TheVariants.{Event, Value, End, Close}
 use Rattle.loft_waits.specs.declared.places.Places.{Places}
@@ -70,7 +70,7 @@ ends_in w = None
 pub record IsListed (places : Places) (clock i : ℕ) (w : Option Wait) : Type 0 where
   pub events : (e : ℕ) → names_event e w ≡ true → is_listed places (Event e) i ≡ true
   pub values : (e n : ℕ) → names_value e n w ≡ true → is_listed places (Value e n) i ≡ true
-  pub ends : (t : ThreadId) → names_thread t w ≡ true → is_listed places (End (thread_key t)) i ≡ true
+  pub ends : (t : ThreadId) → names_thread t w ≡ true → is_listed places (End (id_key t)) i ≡ true
   pub later : (n : ℕ) → ends_in w ≡ Some (suc n) → is_listed places (Close (clock + suc n)) i ≡ true
 
 -- the byte that says whether a thread can go

@@ -1,6 +1,6 @@
 //! What waiting threads are listed under.
 
-use loft_ended::ThreadKey;
+use loft_finder::IdKey;
 
 /// What can make a waiting thread go.
 #[derive(Clone, Copy, PartialEq, Eq, PartialOrd, Ord)]
@@ -10,7 +10,7 @@ pub(crate) enum Key {
     /// The event has more values than this index.
     Value(u32, u64),
     /// The thread has ended.
-    End(ThreadKey),
+    End(IdKey),
     /// So many instants have closed.
     Close(u64),
 }

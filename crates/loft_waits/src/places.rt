@@ -9,7 +9,7 @@ ghost use Rattle.loft_waits.specs.Places.{is_listed, names_value, number_of, IsL
 use crate::entry::Entry;
 use crate::key::Key;
 use loft_base::{EventId, NoMemory};
-use loft_ended::ThreadKey;
+use loft_finder::IdKey;
 use loft_orders::Wait;
 use std::alloc::Global;
 use std::collections::BTreeSet;
@@ -149,7 +149,7 @@ fn list_all(places: &mut Places, wait: &Wait, clock: u64, pos: usize) -> Result<
         }
         Wait::Next => Ok(()),
         Wait::Join { thread, left } => {
-            list(places, Key::End(ThreadKey::of(*thread)), pos)?;
+            list(places, Key::End(IdKey::of(*thread)), pos)?;
             list_close(places, *left, clock, pos)
         }
         Wait::Halt => Ok(()),
@@ -207,7 +207,7 @@ fn leave(places: &mut Places, wait: &Wait, clock: u64, pos: usize)
         }
         Wait::Next => {}
         Wait::Join { thread, left } => {
-            unlist(places, Key::End(ThreadKey::of(*thread)), pos);
+            unlist(places, Key::End(IdKey::of(*thread)), pos);
             unlist_close(places, *left, clock, pos);
         }
         Wait::Halt => {}

@@ -10,7 +10,7 @@ use crate::places::{Places, enter, forget, leave_entry, no_places};
 use crate::plain::Plain;
 use crate::wake::{byte, wake_close, wake_event, wake_one};
 use loft_base::{EventId, NoMemory, ThreadId, TryClone};
-use loft_ended::ThreadKey;
+use loft_finder::IdKey;
 use loft_orders::Wait;
 use memchr::memchr;
 use std::alloc::Global;
@@ -194,7 +194,7 @@ impl Waits {
         ensures err { OnErr result (self.new ≡ self.old) }
     {
         self.plain.on_ended(thread)?;
-        let key = Key::End(ThreadKey::of(thread));
+        let key = Key::End(IdKey::of(thread));
         wake_one(&self.places.set, key, &self.plain, &mut self.ready);
         Ok(())
     }

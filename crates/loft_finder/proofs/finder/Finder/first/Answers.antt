@@ -2,7 +2,8 @@ use Rattle.std.proofs.Common.{Bool, ap, sym, ◌∙◌}
 use Rattle.std.specs.Prelude.{◌||◌, not}
 use Rattle.std.specs.BTreeSet.{contains}
 use Rattle.loft_finder.specs.declared.key.IdKey.{IdKey}
-use Rattle.loft_finder.specs.Finder.{id_key, place_cmp}
+use Rattle.loft_finder.specs.Finder.{place_cmp}
+use Rattle.loft_finder.specs.Keys.{id_key}
 use Rattle.loft_finder.proofs.FirstLemmas.{none_listed, none_before}
 use Rattle.loft_finder.proofs.finder.Finder.first.Goals as goal
 

@@ -1,4 +1,4 @@
-use Rattle.loft_finder.specs.Finder.{id_key}
+use Rattle.loft_finder.specs.Keys.{id_key}
 use Rattle.loft_finder.proofs.PlaceLemmas.{less_stand}
 use Rattle.loft_finder.proofs.finder.Finder.remove.Goals as goal
 

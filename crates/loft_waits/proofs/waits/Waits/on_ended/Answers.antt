@@ -1,6 +1,6 @@
 use Rattle.std.proofs.Common.{subst}
 use Rattle.loft_waits.specs.declared.key.Key.TheVariants.{End}
-use Rattle.loft_ended.specs.declared.key.ThreadKey.{ThreadKey}
+use Rattle.loft_finder.specs.declared.key.IdKey.{IdKey}
 use Rattle.loft_waits.specs.Places.{SetsPlaced}
 use Rattle.loft_waits.proofs.WaitsLemmas.{kept_end}
 use Rattle.loft_waits.proofs.waits.Waits.on_ended.Goals as goal
@@ -11,4 +11,4 @@ invariant_of-self-2 c =
     let u = c.on_ended.new.self in
     let new = c.wake_one.new.ready.items in
     kept_end w.plain u w.ready.items new w.places c.args.thread c.self.invariant c.in_ok-on_ended.ensures.ok c.wake_one.ensures.many c.wake_one.ensures.some
-    (subst (λ (k : ThreadKey). SetsPlaced u w.places.set (End k) new) c.of.ensures c.wake_one.ensures.listed)
+    (subst (λ (k : IdKey). SetsPlaced u w.places.set (End k) new) c.of.ensures c.wake_one.ensures.listed)
