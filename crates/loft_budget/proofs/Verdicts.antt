@@ -6,7 +6,7 @@ use Rattle.std.proofs.lemmas.Option.{slice_get-map}
 use Rattle.std.proofs.lemmas.Bool.{and_parts, le-leb, leb-true}
 use Rattle.loft_base.specs.declared.ids.ModuleId.{ModuleId}
 use Rattle.loft_tree.specs.Fits.{Each}
-use Rattle.loft_tree.specs.NamedTree.{NamedStatement, Assign, AssignCreate, Create, PrintText, PrintValue, Cooperate, Generate, Await, Select, Get, Join, ControlThread, Broadcast, Link, Unlink, Run, Halt, If, While, Repeat, NamedStatements, Done, Then, NamedModule, NamedProgram}
+use Rattle.loft_tree.specs.NamedTree.{NamedStatement, Do, Hold, Run, If, While, Repeat, NamedStatements, Done, Then, NamedModule, NamedProgram}
 use Rattle.loft_tree.specs.Resolved.{Empty, Body, exp_of, step_of, body_of, resolved_of}
 use Rattle.loft_sense.specs.Tree.{body_at}
 use Rattle.loft_budget.specs.declared.steps.Steps.{Steps}
@@ -92,23 +92,9 @@ module _ (of : ModuleId → Option Steps) where
 
   mutual
     runs_all : (s : NamedStatement) → step_runs_bounded of (step_of s) ≡ true → Each IsBoundedRun (runs_of s)
-    runs_all (Assign target value) e = tt
-    runs_all (AssignCreate target at creation) e = tt
-    runs_all (Create at creation) e = tt
-    runs_all (PrintText at line value) e = tt
-    runs_all (PrintValue at value) e = tt
-    runs_all (Cooperate at stop instants) e = tt
-    runs_all (Generate at event value) e = tt
-    runs_all (Await at stop event limit) e = tt
-    runs_all (Select at stop events limit) e = tt
-    runs_all (Get at stop event index target) e = tt
-    runs_all (Join at stop thread limit) e = tt
-    runs_all (ControlThread at control thread scheduler) e = tt
-    runs_all (Broadcast at event value) e = tt
-    runs_all (Link at stop scheduler) e = tt
-    runs_all (Unlink at stop) e = tt
+    runs_all (Do at action) e = tt
+    runs_all (Hold at stop pause) e = tt
     runs_all (Run at stop called m arguments) e = (e, tt)
-    runs_all (Halt at stop) e = tt
     runs_all (If at test x y) e =
         let parts = and_parts (runs_bounded of (body_of x)) (runs_bounded of (body_of y)) e in
         each_join IsBoundedRun (runs_in x) (runs_in y) (runs_all_in x parts.0) (runs_all_in y parts.1)
@@ -123,23 +109,9 @@ module _ (of : ModuleId → Option Steps) where
 
   mutual
     all_runs : (s : NamedStatement) → Each IsBoundedRun (runs_of s) → step_runs_bounded of (step_of s) ≡ true
-    all_runs (Assign target value) f = refl
-    all_runs (AssignCreate target at creation) f = refl
-    all_runs (Create at creation) f = refl
-    all_runs (PrintText at line value) f = refl
-    all_runs (PrintValue at value) f = refl
-    all_runs (Cooperate at stop instants) f = refl
-    all_runs (Generate at event value) f = refl
-    all_runs (Await at stop event limit) f = refl
-    all_runs (Select at stop events limit) f = refl
-    all_runs (Get at stop event index target) f = refl
-    all_runs (Join at stop thread limit) f = refl
-    all_runs (ControlThread at control thread scheduler) f = refl
-    all_runs (Broadcast at event value) f = refl
-    all_runs (Link at stop scheduler) f = refl
-    all_runs (Unlink at stop) f = refl
+    all_runs (Do at action) f = refl
+    all_runs (Hold at stop pause) f = refl
     all_runs (Run at stop called m arguments) f = f.0
-    all_runs (Halt at stop) f = refl
     all_runs (If at test x y) f = both_true _ _ (all_runs_in x (each_left IsBoundedRun (runs_in x) (runs_in y) f)) (all_runs_in y (each_right IsBoundedRun (runs_in x) (runs_in y) f))
     all_runs (While at test x) f = all_runs_in x f
     all_runs (Repeat at count x) f = all_runs_in x f
@@ -150,23 +122,9 @@ module _ (of : ModuleId → Option Steps) where
 
   mutual
     ends : (s : NamedStatement) → endless_of of s ≡ [] → step_loops_end of (step_of s) ≡ true
-    ends (Assign target value) e = refl
-    ends (AssignCreate target at creation) e = refl
-    ends (Create at creation) e = refl
-    ends (PrintText at line value) e = refl
-    ends (PrintValue at value) e = refl
-    ends (Cooperate at stop instants) e = refl
-    ends (Generate at event value) e = refl
-    ends (Await at stop event limit) e = refl
-    ends (Select at stop events limit) e = refl
-    ends (Get at stop event index target) e = refl
-    ends (Join at stop thread limit) e = refl
-    ends (ControlThread at control thread scheduler) e = refl
-    ends (Broadcast at event value) e = refl
-    ends (Link at stop scheduler) e = refl
-    ends (Unlink at stop) e = refl
+    ends (Do at action) e = refl
+    ends (Hold at stop pause) e = refl
     ends (Run at stop called m arguments) e = refl
-    ends (Halt at stop) e = refl
     ends (If at test x y) e = both_true _ _ (ends_in x (nil_left (endless_in of x) (endless_in of y) e)) (ends_in y (nil_right (endless_in of x) (endless_in of y) e))
     ends (While at test x) e =
         both_true _ _ (ends_in x (nil_left (endless_in of x) _ e)) (either_list (is_none (body_steps of (body_of x)).through) at (nil_right (endless_in of x) _ e))
@@ -179,23 +137,9 @@ module _ (of : ModuleId → Option Steps) where
 
   mutual
     none_left : (s : NamedStatement) → step_loops_end of (step_of s) ≡ true → endless_of of s ≡ []
-    none_left (Assign target value) e = refl
-    none_left (AssignCreate target at creation) e = refl
-    none_left (Create at creation) e = refl
-    none_left (PrintText at line value) e = refl
-    none_left (PrintValue at value) e = refl
-    none_left (Cooperate at stop instants) e = refl
-    none_left (Generate at event value) e = refl
-    none_left (Await at stop event limit) e = refl
-    none_left (Select at stop events limit) e = refl
-    none_left (Get at stop event index target) e = refl
-    none_left (Join at stop thread limit) e = refl
-    none_left (ControlThread at control thread scheduler) e = refl
-    none_left (Broadcast at event value) e = refl
-    none_left (Link at stop scheduler) e = refl
-    none_left (Unlink at stop) e = refl
+    none_left (Do at action) e = refl
+    none_left (Hold at stop pause) e = refl
     none_left (Run at stop called m arguments) e = refl
-    none_left (Halt at stop) e = refl
     none_left (If at test x y) e =
         let parts = and_parts (loops_end of (body_of x)) (loops_end of (body_of y)) e in
         both_nil (endless_in of x) (endless_in of y) (none_left_in x parts.0) (none_left_in y parts.1)
@@ -218,23 +162,9 @@ module _ (of : ModuleId → Option Steps) where
 module _ (f g : ModuleId → Option Steps) (more : (m : ModuleId) (v : Steps) → f m ≡ Some v → g m ≡ Some v) where
   mutual
     same_words : (s : NamedStatement) → step_runs_bounded f (step_of s) ≡ true → endless_of g s ≡ endless_of f s
-    same_words (Assign target value) e = refl
-    same_words (AssignCreate target at creation) e = refl
-    same_words (Create at creation) e = refl
-    same_words (PrintText at line value) e = refl
-    same_words (PrintValue at value) e = refl
-    same_words (Cooperate at stop instants) e = refl
-    same_words (Generate at event value) e = refl
-    same_words (Await at stop event limit) e = refl
-    same_words (Select at stop events limit) e = refl
-    same_words (Get at stop event index target) e = refl
-    same_words (Join at stop thread limit) e = refl
-    same_words (ControlThread at control thread scheduler) e = refl
-    same_words (Broadcast at event value) e = refl
-    same_words (Link at stop scheduler) e = refl
-    same_words (Unlink at stop) e = refl
+    same_words (Do at action) e = refl
+    same_words (Hold at stop pause) e = refl
     same_words (Run at stop called m arguments) e = refl
-    same_words (Halt at stop) e = refl
     same_words (If at test x y) e =
         let parts = and_parts (runs_bounded f (body_of x)) (runs_bounded f (body_of y)) e in
         ap (λ (l : List ℕ). l ++ endless_in g y) (same_words_in x parts.0) ∙ ap (λ (l : List ℕ). endless_in f x ++ l) (same_words_in y parts.1)

@@ -2,7 +2,7 @@
 use Rattle.std.specs.Prelude.{is_none, ◌≡◌, ℕ, ◌+◌, ◌≤◌, ◌<◌, length, Bool, true, ◌||◌, List, [], ◌∷◌, ◌++◌, Option, Some, None, is_some, slice_get, if◌then◌else◌}
 use Rattle.loft_base.specs.declared.ids.ModuleId.{ModuleId}
 use Rattle.loft_tree.specs.Fits.{Each}
-use Rattle.loft_tree.specs.NamedTree.{NamedStatement, Run, If, While, Repeat, NamedStatements, Done, Then, NamedModule, NamedProgram}
+use Rattle.loft_tree.specs.NamedTree.{NamedStatement, Do, Hold, Run, If, While, Repeat, NamedStatements, Done, Then, NamedModule, NamedProgram}
 use Rattle.loft_tree.specs.Resolved.{exp_of, body_of, resolved_of}
 use Rattle.loft_budget.specs.declared.steps.Steps.{Steps}
 use Rattle.loft_budget.specs.Steps.{literal, body_steps}
@@ -18,11 +18,12 @@ pub record RunAt : Type 0 where
 -- the `run`s of a statement and of a body, in text order
 abbrev mutual
   pub runs_of : NamedStatement → List RunAt
+  runs_of (Do at action) = []
+  runs_of (Hold at stop pause) = []
   runs_of (Run at stop called m arguments) = record { at = at; called = m } ∷ []
   runs_of (If at test first second) = runs_in first ++ runs_in second
   runs_of (While at test body) = runs_in body
   runs_of (Repeat at count body) = runs_in body
-  runs_of s = []
 
   pub runs_in : NamedStatements → List RunAt
   runs_in Done = []
@@ -36,10 +37,12 @@ endless_if ends at = if ends then [] else at ∷ []
 module _ (of : ModuleId → Option Steps) where
   abbrev mutual
     pub endless_of : NamedStatement → List ℕ
+    endless_of (Do at action) = []
+    endless_of (Hold at stop pause) = []
+    endless_of (Run at stop called m arguments) = []
     endless_of (If at test first second) = endless_in first ++ endless_in second
     endless_of (While at test body) = endless_in body ++ endless_if (is_none (body_steps of (body_of body)).through) at
     endless_of (Repeat at count body) = endless_in body ++ endless_if (is_none (body_steps of (body_of body)).through || is_some (literal (exp_of count))) at
-    endless_of s = []
 
     pub endless_in : NamedStatements → List ℕ
     endless_in Done = []
