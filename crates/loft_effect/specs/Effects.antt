@@ -1,13 +1,6 @@
 -- What statements in memory do, as the definitions say it.
-use Rattle.std.specs.Prelude.{◌≡◌, List, map, Option}
-use Rattle.std.specs.Option.{option_map}
-use Rattle.loft_base.specs.declared.ids.ModuleId.{ModuleId}
-use Rattle.loft_base.specs.declared.ids.SchedId.{SchedId}
+use Rattle.std.specs.Prelude.{◌≡◌, List}
 use Rattle.loft_base.specs.declared.ids.Value.{Value}
-use Rattle.loft_tree.specs.declared.named.NamedExpr.{NamedExpr}
-use Rattle.loft_tree.specs.declared.named.Target.{Target}
-use Rattle.loft_tree.specs.NamedView.{term_of}
-use Rattle.loft_tree.specs.Resolved.{Action, Make, exps_of, target_of}
 use Rattle.loft_sense.specs.Around.{Beside}
 use Rattle.loft_sense.specs.Statements.{Effect, Waits, Leaves, Dies, goes_on}
 use Rattle.loft_effect.specs.declared.effect.Effect.{Effect as EffectInMemory}
@@ -27,7 +20,3 @@ Leads (memory.Dies end) old b new c effect = (effect ≡ Dies end) × (new ≡ o
 abbrev pub Does : EffectInMemory → Scope → BesideInMemory → Scope → BesideInMemory → Effect → Type 0
 Does e old b new c effect =
     Leads e old.values (beside_of b) new.values (beside_of c) effect × (new.at ≡ old.at) × (pace_of c.around ≡ pace_of b.around)
-
--- a create whose thread the variable is set to, if there is one
-abbrev pub make_action : Option Target → SchedId → ModuleId → List NamedExpr → Action
-make_action target s m arguments = Make (option_map target_of target) s m (exps_of (map term_of arguments))

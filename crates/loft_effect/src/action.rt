@@ -1,22 +1,22 @@
-//! What an action does that goes on at once, or ends its thread (docs/SEMANTICS.md, "Statements").
+//! What an action does, after which its thread goes on at once or ends (docs/SEMANTICS.md, "Statements").
 
 ghost use Rattle.std.specs.Prelude.{◌≡◌, ◌++◌, map, IfOk, Some};
 ghost use Rattle.loft_tree.specs.NamedView.{term_of, value_of};
-ghost use Rattle.loft_tree.specs.Resolved.{exp_of, exp_if, exps_of, target_of, Assign, PrintText, PrintValue, Generate, ControlThread, Broadcast};
+ghost use Rattle.loft_tree.specs.Resolved.{exp_of, exp_if, exps_of, target_of, target_if, Assign, Make, PrintText, PrintValue, Generate, ControlThread, Broadcast};
+ghost use Rattle.loft_code.specs.View.{action_of};
 ghost use Rattle.loft_sense.specs.Heads.{home as home_of};
 ghost use Rattle.loft_sense.specs.Eval.{eval_all};
 ghost use Rattle.loft_sense.specs.Statements.{did, printed, text_if as text_of, order_of as order_for};
 ghost use Rattle.loft_effect.specs.View.{answer_of, beside_of};
-ghost use Rattle.loft_effect.specs.Effects.{Does, make_action};
+ghost use Rattle.loft_effect.specs.Effects.{Does};
 
 use crate::effect::Effect;
 use crate::scope::{Beside, Scope, number_if};
 use crate::value::thread_or;
-use loft_base::{Div, EventId, ModuleId, NoMemory, SchedId, Sequence, ThreadId, Value, Values};
-use loft_code::SharedText;
+use loft_base::{Div, EventId, NoMemory, SchedId, Sequence, ThreadId, Value, Values};
 use loft_orders::{Act, End, Line, Order, SharedValues, To};
 use loft_text::{Item, LineBuffer};
-use loft_tree::{Control, Heads, NamedExpr, Target};
+use loft_tree::{Action, Control, Heads, NamedCreation, NamedExpr, SharedText, Target};
 use std::alloc::Global;
 
 /// The scheduler on whose board the event stands.
@@ -93,7 +93,7 @@ impl Scope {
     }
 
     /// `x = E;`
-    pub fn assign(
+    fn assign(
         &mut self,
         heads: &Heads,
         beside: &mut Beside,
@@ -124,7 +124,7 @@ impl Scope {
     }
 
     /// `print "..";` or `print "..", E;`
-    pub fn print_text(
+    fn print_text(
         &self,
         alloc: Global,
         heads: &Heads,
@@ -143,7 +143,7 @@ impl Scope {
     }
 
     /// `print E;`
-    pub fn print_value(
+    fn print_value(
         &self,
         alloc: Global,
         heads: &Heads,
@@ -162,7 +162,7 @@ impl Scope {
     }
 
     /// `generate e;` or `generate e, E;`
-    pub fn generate(
+    fn generate(
         &self,
         alloc: Global,
         heads: &Heads,
@@ -191,7 +191,7 @@ impl Scope {
     }
 
     /// `stop E in S;`, `suspend E in S;` or `resume E in S;`
-    pub fn control(
+    fn control(
         &self,
         alloc: Global,
         heads: &Heads,
@@ -215,7 +215,7 @@ impl Scope {
     }
 
     /// `broadcast e;` or `broadcast e, E;`
-    pub fn broadcast(
+    fn broadcast(
         &self,
         alloc: Global,
         heads: &Heads,
@@ -242,20 +242,18 @@ impl Scope {
     }
 
     /// `create S.m(E, F);`, whose thread the variable is set to, if there is one.
-    pub fn create(
+    fn create(
         &mut self,
         alloc: Global,
         heads: &Heads,
         beside: &mut Beside,
         target: Option<Target>,
-        scheduler: SchedId,
-        module: ModuleId,
-        arguments: &[NamedExpr],
+        creation: &NamedCreation,
     ) -> Result<Effect, NoMemory>
         ensures { IfOk result (λ effect. Does effect self.old beside.old self.new beside.new
-            (did heads.now (make_action target scheduler «module» arguments.now) self.old.at self.old.values (beside_of beside.old))) }
+            (did heads.now (Make (target_if target) creation.now.scheduler creation.now.«module» (exps_of (map term_of creation.now.arguments.items))) self.old.at self.old.values (beside_of beside.old))) }
     {
-        let Ok(args) = self.values(alloc, heads, beside, arguments)? else {
+        let Ok(args) = self.values(alloc, heads, beside, creation.arguments.as_slice())? else {
             return Ok(Effect::Dies(End::Div(self.at)));
         };
         if !beside.around.has_room() {
@@ -265,10 +263,10 @@ impl Scope {
         let thread = beside.around.new_id();
         beside.make(
             alloc,
-            To::Sched(scheduler),
+            To::Sched(creation.scheduler),
             Order::Create {
                 thread,
-                module,
+                module: creation.module,
                 args,
             },
         )?;
@@ -276,5 +274,37 @@ impl Scope {
             self.set(heads, beside, target, Value::Thread(thread));
         }
         Ok(Effect::GoesOn)
+    }
+
+    /// An action.
+    pub fn act(
+        &mut self,
+        alloc: Global,
+        heads: &Heads,
+        beside: &mut Beside,
+        action: &Action,
+    ) -> Result<Effect, NoMemory>
+        ensures { IfOk result (λ effect. Does effect self.old beside.old self.new beside.new
+            (did heads.now (action_of action.now) self.old.at self.old.values (beside_of beside.old))) }
+    {
+        match action {
+            Action::Assign { target, value } => Ok(self.assign(heads, beside, *target, value)),
+            Action::Make { target, creation } => {
+                self.create(alloc, heads, beside, *target, creation)
+            }
+            Action::PrintText { text, value } => self.print_text(alloc, heads, beside, text, value),
+            Action::PrintValue(value) => self.print_value(alloc, heads, beside, value),
+            Action::Generate { event, value } => {
+                self.generate(alloc, heads, beside, event.event, value)
+            }
+            Action::Control {
+                control,
+                thread,
+                scheduler,
+            } => self.control(alloc, heads, beside, *control, thread, *scheduler),
+            Action::Broadcast { event, value } => {
+                self.broadcast(alloc, heads, beside, event.event, value)
+            }
+        }
     }
 }

@@ -4,7 +4,9 @@ ghost use Rattle.std.specs.Prelude.{◌≡◌, if◌then◌else◌, pos, IfOk, O
 ghost use Rattle.std.specs.Option.{option_map};
 ghost use Rattle.loft_base.specs.Arithmetic.{wrapped};
 ghost use Rattle.loft_tree.specs.NamedView.{term_of, value_of};
-ghost use Rattle.loft_tree.specs.Resolved.{exp_of, exp_if, target_of, Pause, Cooperate, Await, Get, Join};
+ghost use Rattle.loft_tree.specs.Resolved as resolved;
+ghost use Rattle.loft_tree.specs.Resolved.{exp_of, exp_if, target_of, Cooperate, Await, Get, Join};
+ghost use Rattle.loft_code.specs.View.{events_in, pause_of};
 ghost use Rattle.loft_sense.specs.CanGo.{ran_out as ran_out_of, has_any as has_any_of, count_of, is_over as is_over_at};
 ghost use Rattle.loft_sense.specs.Statements.{now, begun, answered, is_up as is_up_of, mask_of as mask_on, mask_after as mask_after_on, events_end as events_end_of, gotten, code_after as code_after_of, target_of as target_in};
 ghost use Rattle.loft_effect.specs.View.{beside_of, pace_of};
@@ -15,8 +17,8 @@ use crate::effect::Effect;
 use crate::scope::{Beside, Scope, number_if};
 use crate::value::{number_of, thread_or};
 use loft_base::{EventId, NoMemory, Sequence, Value, add, mul};
-use loft_orders::{End, Wait};
-use loft_tree::{Heads, NamedExpr, Target};
+use loft_orders::{End, Events, To, Wait};
+use loft_tree::{EventUse, Heads, NamedExpr, Pause, Target};
 use std::alloc::Global;
 
 /// The code of a wait that ended as it should.
@@ -56,7 +58,7 @@ fn code_after(left: Option<i64>) -> i64
 }
 
 /// Whether one of the events is present.
-pub fn has_any(around: &Around, events: &[EventId]) -> bool
+fn has_any(around: &Around, events: &[EventId]) -> bool
     ensures { result ≡ has_any_of events.now around.now.board }
 {
     match events {
@@ -80,6 +82,17 @@ fn mask_of(around: &Around, events: &[EventId]) -> i64
         None => 0,
         Some((event, rest)) => add(bit(around.has(*event)), mul(2, mask_of(around, rest))),
     }
+}
+
+/// The events that a stop names.
+fn events_from(alloc: Global, uses: &[EventUse]) -> Result<Events, NoMemory>
+    ensures { IfOk result (λ events. events ≡ events_in uses.now) }
+{
+    let mut events = Sequence::from_vec(Vec::with_capacity(alloc, uses.len())?);
+    for event in uses {
+        events.push(event.event)?;
+    }
+    Ok(events)
 }
 
 impl Around {
@@ -123,7 +136,7 @@ impl Beside {
 
 impl Scope {
     /// `cooperate;` or `cooperate E;`
-    pub fn cooperate(&self, heads: &Heads, beside: &Beside, instants: &Option<NamedExpr>) -> Effect
+    fn cooperate(&self, heads: &Heads, beside: &Beside, instants: &Option<NamedExpr>) -> Effect
         ensures { Does result self.now beside.now self.now beside.now
             (begun heads.now (Cooperate (exp_if (value_of instants.now))) self.now.at self.now.values (beside_of beside.now)) }
     {
@@ -142,35 +155,35 @@ impl Scope {
     }
 
     /// `await e for E;` or `select e, g for E;`
-    pub fn wait_for(
+    fn wait_for(
         &self,
         alloc: Global,
         heads: &Heads,
         beside: &mut Beside,
-        events: &[EventId],
+        uses: &[EventUse],
         limit: &Option<NamedExpr>,
     ) -> Result<Effect, NoMemory>
         ensures { IfOk result (λ effect. Does effect self.now beside.old self.now beside.new
-            (begun heads.now (Await events.now (exp_if (value_of limit.now))) self.now.at self.now.values (beside_of beside.old))) }
+            (begun heads.now (Await (events_in uses.now) (exp_if (value_of limit.now))) self.now.at self.now.values (beside_of beside.old))) }
     {
         let Ok(limit) = self.value_if(heads, beside, limit) else {
             return Ok(Effect::Dies(End::Div(self.at)));
         };
         let left = number_if(limit);
-        if has_any(&beside.around, events) {
-            beside.end_events(events, OK);
+        let events = events_from(alloc, uses)?;
+        if has_any(&beside.around, events.as_slice()) {
+            beside.end_events(events.as_slice(), OK);
             return Ok(Effect::GoesOn);
         }
         if is_up(left) {
-            beside.end_events(events, TIMEOUT);
+            beside.end_events(events.as_slice(), TIMEOUT);
             return Ok(Effect::GoesOn);
         }
-        let events = Sequence::from_slice(alloc, events)?;
         Ok(Effect::Waits(Wait::Events { events, left }))
     }
 
     /// `join E for F;`
-    pub fn join(
+    fn join(
         &self,
         heads: &Heads,
         beside: &mut Beside,
@@ -200,7 +213,7 @@ impl Scope {
     }
 
     /// `get e at E into x;`
-    pub fn get(
+    fn get(
         &mut self,
         heads: &Heads,
         beside: &mut Beside,
@@ -248,6 +261,34 @@ impl Scope {
         }
     }
 
+    /// A pause as it begins.
+    pub fn hold(
+        &mut self,
+        alloc: Global,
+        heads: &Heads,
+        beside: &mut Beside,
+        pause: &Pause,
+    ) -> Result<Effect, NoMemory>
+        ensures { IfOk result (λ effect. Does effect self.old beside.old self.new beside.new
+            (begun heads.now (pause_of pause.now) self.old.at self.old.values (beside_of beside.old))) }
+    {
+        match pause {
+            Pause::Cooperate { instants } => Ok(self.cooperate(heads, beside, instants)),
+            Pause::Await { events, limit } => {
+                self.wait_for(alloc, heads, beside, events.as_slice(), limit)
+            }
+            Pause::Get {
+                event,
+                index,
+                target,
+            } => Ok(self.get(heads, beside, event.event, index, *target)),
+            Pause::Join { thread, limit } => Ok(self.join(heads, beside, thread, limit)),
+            Pause::Link(scheduler) => Ok(Effect::Leaves(To::Sched(*scheduler))),
+            Pause::Unlink => Ok(Effect::Leaves(To::Workers)),
+            Pause::Halt => Ok(Effect::Waits(Wait::Halt)),
+        }
+    }
+
     /// A wait ends, as its thread goes on. `target` is the variable that the stop sets, where it is a `get`.
     pub fn answer(
         &mut self,
@@ -256,7 +297,7 @@ impl Scope {
         wait: &Wait,
         target: Option<Target>,
     )
-        ensures answered { (pause : Option Pause) → target_in pause ≡ option_map target_of target
+        ensures answered { (pause : Option resolved.Pause) → target_in pause ≡ option_map target_of target
             → now self.new.values (beside_of beside.new)
             ≡ answered heads.now pause wait.now self.old.values (beside_of beside.old) }
         ensures same_at { self.new.at ≡ self.old.at }
