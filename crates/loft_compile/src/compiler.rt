@@ -13,10 +13,10 @@ ghost use Rattle.loft_compile.specs.Targets.{lines_with_target, place_past};
 use crate::copy;
 use crate::operation::{first_operation, set_target};
 use loft_base::{ModuleId, NoMemory, TryClone};
-use loft_code::{Code, CodeLine, CodeProgram, ModuleCode, Op, Pause, RawCode};
+use loft_code::{Code, CodeLine, CodeProgram, ModuleCode, Op, RawCode};
 use loft_place::Placed;
 use loft_translation::compiled_code_is_valid;
-use loft_tree::{Heads, Module, NamedStmt, Place};
+use loft_tree::{Heads, Module, NamedStmt, Pause, Place};
 use std::alloc::Global;
 
 /// Where the module begins; nowhere, if it isn't declared.
@@ -157,7 +157,7 @@ impl Writer {
                 self.go_back(turn, there, depth + 1)?;
                 Ok(here)
             }
-            _ => Ok(there),
+            NamedStmt::Do { .. } | NamedStmt::Hold { .. } | NamedStmt::Run { .. } => Ok(there),
         }
     }
 

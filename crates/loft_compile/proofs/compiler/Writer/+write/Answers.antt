@@ -8,7 +8,6 @@ use Rattle.loft_tree.proofs.NamedTrees.{named_if, named_while, named_repeat}
 use Rattle.loft_code.specs.View.{operation_of, line_of}
 use Rattle.loft_sense.specs.Stands.{leads_step, leads}
 use Rattle.loft_compile.specs.Targets.{lines_with_target}
-use Rattle.loft_compile.proofs.SimpleStatements.{simple, simple_written, simple_leads}
 use Rattle.loft_compile.proofs.WriteLemmas.{choose_written, choose_else_written, while_written, repeat_written, empty_body, some_body, long, longer}
 use Rattle.loft_compile.proofs.compiler.Writer.+write.Goals as goal
 
@@ -21,7 +20,7 @@ statement-returns-in_ok-go_back-in-While-clause-lines t c =
     let is = ap step_of (ap statement_of c.in-While.is ∙ named_while c.in-While.at c.in-While.test c.in-While.body)
     ∙ ap (λ b. Loop (exp_of (term_of c.in-While.test)) (body_of (statements_of b))) (sym c.as_slice-in-While.ensures.value) in
     while_written c.args.heads.now c.args.here (step_of (statement_of c.args.s.now)) (map line_of c.args.self.now.lines.items) (length c.args.self.now.lines.items) c.args.depth (long _)
-    (operation_of c.in_ok-first.first) _ _ _ _ _ _ _ c.in_ok-there-in-While.there _ _ _ is c.in_ok-there-in-While.ensures.place c.in_ok-first.ensures c.in_ok-test-in-While.ensures
+    (operation_of c.in_ok-first.first) _ _ _ _ _ _ _ c.in_ok-there-in-While.there _ _ _ is c.in_ok-there-in-While.ensures.place c.in_ok-first.ensures (ap exp_of c.in_ok-test-in-While.ensures)
     c.in_ok-put.ensures (c.len-again.ensures ∙ c.put.new.self.lines.ok.0 ∙ long _) c.in_ok-put-in-While.ensures (long _) c.in_ok-there-in-While.ensures.lines (long _) c.in_ok-go_back-in-While.ensures
 
 pub statement-returns-in_ok-go_back-in-Repeat-clause-lines : goal.statement-returns-in_ok-go_back-in-Repeat-clause-lines
@@ -103,16 +102,6 @@ pub statement-overflow_add-depth-in-Repeat-2 : goal.statement-overflow_add-depth
 statement-overflow_add-depth-in-Repeat-2 t c =
     let added = longer c.args.self.now.lines.items c.put.new.self.lines.items _ c.in_ok-put.ensures in
     omega (arith, c.requires, c.put.new.self.lines.ok.0, added)
-
-pub statement-returns-in_default-clause-lines : goal.statement-returns-in_default-clause-lines
-statement-returns-in_default-clause-lines t c =
-    let alone = simple c.args.s.now c.in_default.not-If c.in_default.not-While c.in_default.not-Repeat in
-    simple_written c.args.heads.now c.args.here (step_of (statement_of c.args.s.now)) _ _ c.args.depth (operation_of c.in_ok-first.first) _ alone c.in_ok-first.ensures c.in_ok-put.ensures
-
-pub statement-returns-in_default-clause-place : goal.statement-returns-in_default-clause-place
-statement-returns-in_default-clause-place t c =
-    let alone = simple c.args.s.now c.in_default.not-If c.in_default.not-While c.in_default.not-Repeat in
-    simple_leads c.args.heads.now c.args.here _ (step_of (statement_of c.args.s.now)) (operation_of c.in_ok-first.first) alone c.in_ok-first.ensures c.place_past-there.ensures
 
 pub statement-returns-in_ok-go_back-in-While-clause-place : goal.statement-returns-in_ok-go_back-in-While-clause-place
 statement-returns-in_ok-go_back-in-While-clause-place t c =
