@@ -56,6 +56,7 @@ fn first_run_of(
     ensures { result ≡ first_marked (has_mark marks.now wanted also) (runs_of (statement_of statement.now)) }
 {
     match statement {
+        NamedStmt::Do { .. } | NamedStmt::Hold { .. } => None,
         NamedStmt::Run { at, module, .. } => {
             if has_mark(marks, wanted, also, *module) {
                 Some(*at)
@@ -75,7 +76,6 @@ fn first_run_of(
         NamedStmt::While { body, .. } | NamedStmt::Repeat { body, .. } => {
             first_run(marks, wanted, also, body.as_slice())
         }
-        _ => None,
     }
 }
 
@@ -133,6 +133,7 @@ fn first_endless_of(table: &[Option<Steps>], statement: &NamedStmt) -> Option<u3
     ensures { result ≡ first_of (endless_of (entry table.now) (statement_of statement.now)) }
 {
     match statement {
+        NamedStmt::Do { .. } | NamedStmt::Hold { .. } | NamedStmt::Run { .. } => None,
         NamedStmt::If { first, second, .. } => match first_endless(table, first.as_slice()) {
             Some(at) => Some(at),
             None => first_endless(table, second.as_slice()),
@@ -145,7 +146,6 @@ fn first_endless_of(table: &[Option<Steps>], statement: &NamedStmt) -> Option<u3
             Some(inner) => Some(inner),
             None => endless_at(repeat_ends(table, count, body.as_slice()), *at),
         },
-        _ => None,
     }
 }
 

@@ -1,15 +1,15 @@
 //! The steps of statements, by those of the modules that they run.
 
 ghost use Rattle.std.specs.Prelude.{◌≡◌, Option, Some, None};
-ghost use Rattle.loft_tree.specs.NamedView.{term_of, statement_of, statements_of};
-ghost use Rattle.loft_tree.specs.Resolved.{exp_of, step_of, body_of};
-ghost use Rattle.loft_budget.specs.Steps.{literal, loop_steps, times_steps, steps_or_none, step_steps, body_steps};
+ghost use Rattle.loft_tree.specs.NamedView.{term_of, pause_of as named_pause_of, statement_of, statements_of};
+ghost use Rattle.loft_tree.specs.Resolved.{exp_of, pause_of, step_of, body_of};
+ghost use Rattle.loft_budget.specs.Steps.{literal, loop_steps, times_steps, pause_steps, steps_or_none, step_steps, body_steps};
 ghost use Rattle.loft_body.specs.Capped.{capped, capped_steps, IsSmall, AreSmall, entry, TableIsSmall};
 
 use crate::steps::{counted, either, followed, for_ever, one_more, only_through, surely, turning};
 use loft_base::ModuleId;
 use loft_budget::Steps;
-use loft_tree::{NamedExpr, NamedStmt};
+use loft_tree::{NamedExpr, NamedStmt, Pause};
 
 /// A bare number, as it is counted.
 pub fn bare_number(e: &NamedExpr) -> Option<u64>
@@ -60,6 +60,21 @@ fn times_counted(count: Option<u64>, body: Steps) -> Steps
     }
 }
 
+/// The steps of a pause.
+fn pause_steps(pause: &Pause) -> Steps
+    ensures steps { result ≡ capped_steps (pause_steps (pause_of (named_pause_of pause.now))) }
+    ensures small { AreSmall result }
+{
+    match pause {
+        Pause::Cooperate { instants: None } | Pause::Link(_) | Pause::Unlink => surely(),
+        Pause::Cooperate { instants: Some(_) }
+        | Pause::Await { .. }
+        | Pause::Get { .. }
+        | Pause::Join { .. } => only_through(2),
+        Pause::Halt => for_ever(),
+    }
+}
+
 /// The steps of a statement.
 #[cycle(steps)]
 #[tactic(auto, using(loft_tree::proofs::NamedTrees::named_statements))]
@@ -69,26 +84,8 @@ fn statement_steps(table: &[Option<Steps>], statement: &NamedStmt) -> Steps
     ensures small { AreSmall result }
 {
     match statement {
-        NamedStmt::Assign { .. }
-        | NamedStmt::AssignCreate { .. }
-        | NamedStmt::Create { .. }
-        | NamedStmt::PrintText { .. }
-        | NamedStmt::PrintValue { .. }
-        | NamedStmt::Generate { .. }
-        | NamedStmt::Control { .. }
-        | NamedStmt::Broadcast { .. } => only_through(1),
-        NamedStmt::Cooperate { instants: None, .. }
-        | NamedStmt::Link { .. }
-        | NamedStmt::Unlink { .. } => surely(),
-        NamedStmt::Cooperate {
-            instants: Some(_),
-            ..
-        }
-        | NamedStmt::Await { .. }
-        | NamedStmt::Select { .. }
-        | NamedStmt::Get { .. }
-        | NamedStmt::Join { .. } => only_through(2),
-        NamedStmt::Halt { .. } => for_ever(),
+        NamedStmt::Do { .. } => only_through(1),
+        NamedStmt::Hold { pause, .. } => pause_steps(pause),
         NamedStmt::Run { module, .. } => one_more(module_steps(table, *module)),
         NamedStmt::If { first, second, .. } => {
             let yes = body_steps(table, first.as_slice());
