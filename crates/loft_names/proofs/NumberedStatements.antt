@@ -37,7 +37,7 @@ module _ (h : Heads) (ds : List Declared) (each : Each (HasHead h) ds) (m : ℕ)
   choices_hold : (events : List EventName) → ChoicesFit events → events_faults ds (Within m) events ≡ [] → ChoicesHold h (slots_of sig) (event_uses ds (Within m) events)
   choices_hold events fits none = record {
     each = each_event events none;
-    several = subst (λ (n : ℕ). 2 ≤ n) (sym (uses-length ds (Within m) events)) fits.several;
+    some = omega (arith, fits.several, uses-length ds (Within m) events);
     few = subst (λ (n : ℕ). n ≤ MAX_CHOICES) (sym (uses-length ds (Within m) events)) fits.few;
   }
 
@@ -84,6 +84,12 @@ module _ (h : Heads) (ds : List Declared) (each : Each (HasHead h) ds) (m : ℕ)
       let parts = none_of_both (event_faults ds (Within m) event) (wants_if ds (Within m) Int value) none in
       (event_holds h ds each (Within m) event parts.0, wanted_if h ds each m sig there n Int value fits parts.1)
 
+  await_holds : (n : ℕ) (event : EventName) (limit : Option Expression) → IfThere (ExpressionFits n) limit → event_faults ds (Within m) event ++ wants_if ds (Within m) Int limit ≡ []
+      → ChoicesHold h (slots_of sig) (event_use ds (Within m) event ∷ []) × IfThere (IsOf h (slots_of sig) Int n) (value_of ds (Within m) limit)
+  await_holds n event limit fits none =
+      let parts = event_and n event limit fits none in
+      (record { each = (parts.0, tt); some = omega arith; few = omega arith }, parts.1)
+
   assign_holds : (n : ℕ) (target : Ident) (value : Expression) → ExpressionFits n value → statement_faults ds (Within m) (Assign target value) ≡ []
       → StatementHolds h (slots_of sig) (statement_of ds (Within m) (Assign target value) 0) n
   assign_holds n target value fits none =
@@ -100,12 +106,12 @@ module _ (h : Heads) (ds : List Declared) (each : Each (HasHead h) ds) (m : ℕ)
     statement_holds (AssignCreate target at creation) n k fits none =
         let parts = none_of_both (target_faults ds (Within m) Thread target) (creation_faults ds (Within m) creation) none in
         (target_wanted h ds each m sig there target Thread parts.0, creation_holds n creation fits.1 parts.1)
-    statement_holds (Create at creation) n k fits none = creation_holds n creation fits none
+    statement_holds (Create at creation) n k fits none = (tt, creation_holds n creation fits none)
     statement_holds (PrintText at line value) n k fits none = (fits.0, value_if n value at line fits.1 none)
     statement_holds (PrintValue at value) n k fits none = is_value h ds each m sig there n value fits none
     statement_holds (Cooperate at instants) n k fits none = wanted_if h ds each m sig there n Int instants fits none
     statement_holds (Generate at event value) n k fits none = event_and n event value fits.1 none
-    statement_holds (Await at event limit) n k fits none = event_and n event limit fits.1 none
+    statement_holds (Await at event limit) n k fits none = await_holds n event limit fits.1 none
     statement_holds (Select at events limit) n k fits none =
         let parts = none_of_both (events_faults ds (Within m) events) (wants_if ds (Within m) Int limit) none in
         (choices_hold events fits.0 parts.0, wanted_if h ds each m sig there n Int limit fits.1 parts.1)
