@@ -4,9 +4,9 @@ use Rattle.loft_tree.specs.declared.named.Target.{Target}
 use Rattle.loft_tree.specs.declared.named.Target.TheVariants as target
 use Rattle.loft_tree.specs.declared.named.LinkItem.{LinkItem}
 use Rattle.loft_tree.specs.declared.named.LinkItem.TheVariants as link
-use Rattle.loft_tree.specs.NamedTree.{EventUse, NamedExpression, Number, Slot, Shared, Special, Unary, Binary, NamedCreation, NamedStatement, Assign, AssignCreate, Create, PrintText, PrintValue, Cooperate, Generate, Await, Select, Get, Join, ControlThread, Broadcast, Link, Unlink, Run, Halt, If, While, Repeat, NamedStatements, Done, Then, NamedModule, NamedProgram}
+use Rattle.loft_tree.specs.NamedTree.{EventUse, NamedExpression, Number, Slot, Shared, Special, Unary, Binary, NamedCreation, NamedAction, Assign, Make, PrintText, PrintValue, Generate, ControlThread, Broadcast, NamedPause, Cooperate, Await, Get, Join, Link, Unlink, Halt, NamedStatement, Do, Hold, Run, If, While, Repeat, NamedStatements, Done, Then, NamedModule, NamedProgram}
 use Rattle.loft_tree.specs.Resolved as resolved
-use Rattle.loft_tree.specs.Resolved.{Body, body_of, events_of, exp_if, exp_of, exps_of, resolved_of, step_of, target_of}
+use Rattle.loft_tree.specs.Resolved.{Body, action_of, body_of, events_of, exp_if, exp_of, exps_of, pause_of, resolved_of, step_of, target_if, target_of}
 
 -- every offset becomes 0
 abbrev pub bare_term : NamedExpression → NamedExpression
@@ -30,25 +30,29 @@ bare_use e = record { at = 0; event = e.event }
 abbrev pub bare_creation : NamedCreation → NamedCreation
 bare_creation c = record { at = 0; scheduler = c.scheduler; «module» = c.«module»; arguments = map bare_term c.arguments }
 
+abbrev pub bare_action : NamedAction → NamedAction
+bare_action (Assign target value) = Assign (bare_target target) (bare_term value)
+bare_action (Make target creation) = Make (option_map bare_target target) (bare_creation creation)
+bare_action (PrintText line value) = PrintText line (bare_if value)
+bare_action (PrintValue value) = PrintValue (bare_term value)
+bare_action (Generate event value) = Generate (bare_use event) (bare_if value)
+bare_action (ControlThread control thread scheduler) = ControlThread control (bare_term thread) scheduler
+bare_action (Broadcast event value) = Broadcast (bare_use event) (bare_if value)
+
+abbrev pub bare_pause : NamedPause → NamedPause
+bare_pause (Cooperate instants) = Cooperate (bare_if instants)
+bare_pause (Await events limit) = Await (map bare_use events) (bare_if limit)
+bare_pause (Get event index target) = Get (bare_use event) (bare_term index) (bare_target target)
+bare_pause (Join thread limit) = Join (bare_term thread) (bare_if limit)
+bare_pause (Link scheduler) = Link scheduler
+bare_pause Unlink = Unlink
+bare_pause Halt = Halt
+
 abbrev mutual
   pub bare_statement : NamedStatement → NamedStatement
-  bare_statement (Assign target value) = Assign (bare_target target) (bare_term value)
-  bare_statement (AssignCreate target at creation) = AssignCreate (bare_target target) 0 (bare_creation creation)
-  bare_statement (Create at creation) = Create 0 (bare_creation creation)
-  bare_statement (PrintText at line value) = PrintText 0 line (bare_if value)
-  bare_statement (PrintValue at value) = PrintValue 0 (bare_term value)
-  bare_statement (Cooperate at stop instants) = Cooperate 0 stop (bare_if instants)
-  bare_statement (Generate at event value) = Generate 0 (bare_use event) (bare_if value)
-  bare_statement (Await at stop event limit) = Await 0 stop (bare_use event) (bare_if limit)
-  bare_statement (Select at stop events limit) = Select 0 stop (map bare_use events) (bare_if limit)
-  bare_statement (Get at stop event index target) = Get 0 stop (bare_use event) (bare_term index) (bare_target target)
-  bare_statement (Join at stop thread limit) = Join 0 stop (bare_term thread) (bare_if limit)
-  bare_statement (ControlThread at control thread scheduler) = ControlThread 0 control (bare_term thread) scheduler
-  bare_statement (Broadcast at event value) = Broadcast 0 (bare_use event) (bare_if value)
-  bare_statement (Link at stop scheduler) = Link 0 stop scheduler
-  bare_statement (Unlink at stop) = Unlink 0 stop
+  bare_statement (Do at action) = Do 0 (bare_action action)
+  bare_statement (Hold at stop pause) = Hold 0 stop (bare_pause pause)
   bare_statement (Run at stop called m arguments) = Run 0 stop 0 m (map bare_term arguments)
-  bare_statement (Halt at stop) = Halt 0 stop
   bare_statement (If at test first second) = If 0 (bare_term test) (bare_body first) (bare_body second)
   bare_statement (While at test body) = While 0 (bare_term test) (bare_body body)
   bare_statement (Repeat at count body) = Repeat 0 (bare_term count) (bare_body body)
@@ -94,25 +98,33 @@ uses_bare : (events : List EventUse) → events_of (map bare_use events) ≡ eve
 uses_bare [] = refl
 uses_bare (e ∷ es) = λ i. e.event ∷ uses_bare es i
 
+made_bare : (t : Option Target) → target_if (option_map bare_target t) ≡ target_if t
+made_bare None = refl
+made_bare (Some t) = λ i. Some (held_bare t i)
+
+action_bare : (a : NamedAction) → action_of (bare_action a) ≡ action_of a
+action_bare (Assign target value) = λ i. resolved.Assign (held_bare target i) (exp_bare value i)
+action_bare (Make target c) = λ i. resolved.Make (made_bare target i) c.scheduler c.«module» (exps_bare c.arguments i)
+action_bare (PrintText line value) = λ i. resolved.PrintText line (if_bare value i)
+action_bare (PrintValue value) = λ i. resolved.PrintValue (exp_bare value i)
+action_bare (Generate event value) = λ i. resolved.Generate event.event (if_bare value i)
+action_bare (ControlThread control thread scheduler) = λ i. resolved.ControlThread control (exp_bare thread i) scheduler
+action_bare (Broadcast event value) = λ i. resolved.Broadcast event.event (if_bare value i)
+
+pause_bare : (p : NamedPause) → pause_of (bare_pause p) ≡ pause_of p
+pause_bare (Cooperate instants) = λ i. resolved.Cooperate (if_bare instants i)
+pause_bare (Await events limit) = λ i. resolved.Await (uses_bare events i) (if_bare limit i)
+pause_bare (Get event index target) = λ i. resolved.Get event.event (exp_bare index i) (held_bare target i)
+pause_bare (Join thread limit) = λ i. resolved.Join (exp_bare thread i) (if_bare limit i)
+pause_bare (Link scheduler) = refl
+pause_bare Unlink = refl
+pause_bare Halt = refl
+
 mutual
   step_bare : (s : NamedStatement) → step_of (bare_statement s) ≡ step_of s
-  step_bare (Assign target value) = λ i. resolved.Do (resolved.Assign (held_bare target i) (exp_bare value i))
-  step_bare (AssignCreate target at c) = λ i. resolved.Do (resolved.Make (Some (held_bare target i)) c.scheduler c.«module» (exps_bare c.arguments i))
-  step_bare (Create at c) = λ i. resolved.Do (resolved.Make None c.scheduler c.«module» (exps_bare c.arguments i))
-  step_bare (PrintText at line value) = λ i. resolved.Do (resolved.PrintText line (if_bare value i))
-  step_bare (PrintValue at value) = λ i. resolved.Do (resolved.PrintValue (exp_bare value i))
-  step_bare (Cooperate at stop instants) = λ i. resolved.Hold stop (resolved.Cooperate (if_bare instants i))
-  step_bare (Generate at event value) = λ i. resolved.Do (resolved.Generate event.event (if_bare value i))
-  step_bare (Await at stop event limit) = λ i. resolved.Hold stop (resolved.Await (event.event ∷ []) (if_bare limit i))
-  step_bare (Select at stop events limit) = λ i. resolved.Hold stop (resolved.Await (uses_bare events i) (if_bare limit i))
-  step_bare (Get at stop event index target) = λ i. resolved.Hold stop (resolved.Get event.event (exp_bare index i) (held_bare target i))
-  step_bare (Join at stop thread limit) = λ i. resolved.Hold stop (resolved.Join (exp_bare thread i) (if_bare limit i))
-  step_bare (ControlThread at control thread scheduler) = λ i. resolved.Do (resolved.ControlThread control (exp_bare thread i) scheduler)
-  step_bare (Broadcast at event value) = λ i. resolved.Do (resolved.Broadcast event.event (if_bare value i))
-  step_bare (Link at stop scheduler) = refl
-  step_bare (Unlink at stop) = refl
+  step_bare (Do at action) = λ i. resolved.Do (action_bare action i)
+  step_bare (Hold at stop pause) = λ i. resolved.Hold stop (pause_bare pause i)
   step_bare (Run at stop called m arguments) = λ i. resolved.Call stop m (exps_bare arguments i)
-  step_bare (Halt at stop) = refl
   step_bare (If at test first second) = λ i. resolved.Choose (exp_bare test i) (steps_bare first i) (steps_bare second i)
   step_bare (While at test body) = λ i. resolved.Loop (exp_bare test i) (steps_bare body i)
   step_bare (Repeat at count body) = λ i. resolved.Times (exp_bare count i) (steps_bare body i)

@@ -1,5 +1,5 @@
 -- The links of a program don't depend on offsets.
-use Rattle.std.proofs.Common.{◌≡◌, ℕ, List, [], ◌∷◌, map, Option, Some, None, option_map, slice_get, refl, sym, subst}
+use Rattle.std.proofs.Common.{◌≡◌, ℕ, List, [], ◌∷◌, map, Option, Some, None, option_map, slice_get, refl, sym, subst, ◌∙◌}
 use Rattle.std.proofs.lemmas.Option.{slice_get-map}
 use Rattle.loft_tree.specs.declared.heads.Place.{Place}
 use Rattle.loft_tree.specs.declared.heads.Signature.{Signature}
@@ -11,10 +11,10 @@ use Rattle.loft_tree.specs.declared.named.Target.{Target}
 use Rattle.loft_tree.specs.declared.named.Target.TheVariants as target
 use Rattle.loft_tree.specs.declared.named.LinkItem.{LinkItem}
 use Rattle.loft_tree.specs.declared.named.LinkItem.TheVariants as link
-use Rattle.loft_tree.specs.NamedTree.{EventUse, NamedExpression, Number, Slot, Shared, Special, Unary, Binary, NamedCreation, NamedStatement, Assign, AssignCreate, Create, PrintText, PrintValue, Cooperate, Generate, Await, Select, Get, Join, ControlThread, Broadcast, Link, Unlink, Run, Halt, If, While, Repeat, NamedStatements, Done, Then, NamedModule, NamedProgram}
-use Rattle.loft_place.specs.Links.{AllowedAt, AreMet, Goes, GoesThrough, IsPlaced, LinkHolds, LinksHold, MayStand, ModuleGoes, Need, creation_needs, events_needs, linked_only, needs_of, order_at, order_needs, start_needs, target_needs, term_needs, terms_needs, value_needs}
+use Rattle.loft_tree.specs.NamedTree.{EventUse, NamedExpression, Number, Slot, Shared, Special, Unary, Binary, NamedCreation, NamedAction, Assign, Make, PrintText, PrintValue, Generate, ControlThread, Broadcast, NamedPause, Cooperate, Await, Get, Join, Link, Unlink, Halt, NamedStatement, Do, Hold, Run, If, While, Repeat, NamedStatements, Done, Then, NamedModule, NamedProgram}
+use Rattle.loft_place.specs.Links.{AllowedAt, AreMet, Goes, GoesThrough, IsPlaced, LinkHolds, LinksHold, MayStand, ModuleGoes, Need, action_needs, creation_needs, events_needs, left_by_pause, linked_action, linked_only, linked_pause, made_needs, needs_of, order_at, order_needs, pause_needs, start_needs, target_needs, term_needs, terms_needs, value_needs}
 use Rattle.loft_offsets.proofs.Alike.{Alike, both, flipped, more, none}
-use Rattle.loft_offsets.proofs.Named.{bare_body, bare_creation, bare_if, bare_link, bare_module, bare_program, bare_statement, bare_target, bare_term, bare_use}
+use Rattle.loft_offsets.proofs.Named.{bare_action, bare_body, bare_creation, bare_if, bare_link, bare_module, bare_pause, bare_program, bare_statement, bare_target, bare_term, bare_use}
 
 -- ---- needs
 
@@ -61,48 +61,60 @@ module _ (h : Heads) (here : Place) where
   creation_bare : (c : NamedCreation) → Alike bare_need (creation_needs h here (bare_creation c)) (creation_needs h here c)
   creation_bare c = more refl (terms_bare c.arguments)
 
+  made_bare : (t : Option Target) → Alike bare_need (made_needs h here (option_map bare_target t)) (made_needs h here t)
+  made_bare None = none
+  made_bare (Some t) = target_bare t
+
+  action_bare : (a : NamedAction) → Alike bare_need (action_needs h here (bare_action a)) (action_needs h here a)
+  action_bare (Assign target value) = both (target_bare target) (term_bare value)
+  action_bare (Make target creation) = both (made_bare target) (creation_bare creation)
+  action_bare (PrintText line value) = value_bare value
+  action_bare (PrintValue value) = term_bare value
+  action_bare (Generate event value) = more refl (value_bare value)
+  action_bare (ControlThread control thread scheduler) = term_bare thread
+  action_bare (Broadcast event value) = value_bare value
+
+  pause_bare : (p : NamedPause) → Alike bare_need (pause_needs h here (bare_pause p)) (pause_needs h here p)
+  pause_bare (Cooperate instants) = value_bare instants
+  pause_bare (Await events limit) = both (events_bare events) (value_bare limit)
+  pause_bare (Get event index target) = more refl (both (term_bare index) (target_bare target))
+  pause_bare (Join thread limit) = both (term_bare thread) (value_bare limit)
+  pause_bare (Link scheduler) = none
+  pause_bare Unlink = none
+  pause_bare Halt = none
+
   needs_bare : (s : NamedStatement) → Alike bare_need (needs_of h here (bare_statement s)) (needs_of h here s)
-  needs_bare (Assign target value) = both (target_bare target) (term_bare value)
-  needs_bare (AssignCreate target at creation) = both (target_bare target) (creation_bare creation)
-  needs_bare (Create at creation) = creation_bare creation
-  needs_bare (PrintText at line value) = value_bare value
-  needs_bare (PrintValue at value) = term_bare value
-  needs_bare (Cooperate at stop instants) = value_bare instants
-  needs_bare (Generate at event value) = more refl (value_bare value)
-  needs_bare (Await at stop event limit) = more refl (value_bare limit)
-  needs_bare (Select at stop events limit) = both (events_bare events) (value_bare limit)
-  needs_bare (Get at stop event index target) = more refl (both (term_bare index) (target_bare target))
-  needs_bare (Join at stop thread limit) = both (term_bare thread) (value_bare limit)
-  needs_bare (ControlThread at control thread scheduler) = term_bare thread
-  needs_bare (Broadcast at event value) = value_bare value
-  needs_bare (Link at stop scheduler) = none
-  needs_bare (Unlink at stop) = none
+  needs_bare (Do at action) = action_bare action
+  needs_bare (Hold at stop pause) = pause_bare pause
   needs_bare (Run at stop called m arguments) = more refl (terms_bare arguments)
-  needs_bare (Halt at stop) = none
   needs_bare (If at test first second) = term_bare test
   needs_bare (While at test body) = term_bare test
   needs_bare (Repeat at count body) = term_bare count
 
 -- ---- places
 
+linked_action_bare : (at : ℕ) (a : NamedAction) → linked_action 0 (bare_action a) ≡ option_map (λ (_ : ℕ). 0) (linked_action at a)
+linked_action_bare at (Assign target value) = refl
+linked_action_bare at (Make target creation) = refl
+linked_action_bare at (PrintText line value) = refl
+linked_action_bare at (PrintValue value) = refl
+linked_action_bare at (Generate event value) = refl
+linked_action_bare at (ControlThread control thread scheduler) = refl
+linked_action_bare at (Broadcast event value) = refl
+
+linked_pause_bare : (at : ℕ) (p : NamedPause) → linked_pause 0 (bare_pause p) ≡ option_map (λ (_ : ℕ). 0) (linked_pause at p)
+linked_pause_bare at (Cooperate instants) = refl
+linked_pause_bare at (Await events limit) = refl
+linked_pause_bare at (Get event index target) = refl
+linked_pause_bare at (Join thread limit) = refl
+linked_pause_bare at (Link scheduler) = refl
+linked_pause_bare at Unlink = refl
+linked_pause_bare at Halt = refl
+
 linked_bare : (s : NamedStatement) → linked_only (bare_statement s) ≡ option_map (λ (at : ℕ). 0) (linked_only s)
-linked_bare (Assign target value) = refl
-linked_bare (AssignCreate target at creation) = refl
-linked_bare (Create at creation) = refl
-linked_bare (PrintText at line value) = refl
-linked_bare (PrintValue at value) = refl
-linked_bare (Cooperate at stop instants) = refl
-linked_bare (Generate at event value) = refl
-linked_bare (Await at stop event limit) = refl
-linked_bare (Select at stop events limit) = refl
-linked_bare (Get at stop event index target) = refl
-linked_bare (Join at stop thread limit) = refl
-linked_bare (ControlThread at control thread scheduler) = refl
-linked_bare (Broadcast at event value) = refl
-linked_bare (Link at stop scheduler) = refl
-linked_bare (Unlink at stop) = refl
+linked_bare (Do at action) = linked_action_bare at action
+linked_bare (Hold at stop pause) = linked_pause_bare at pause
 linked_bare (Run at stop called m arguments) = refl
-linked_bare (Halt at stop) = refl
 linked_bare (If at test first second) = refl
 linked_bare (While at test body) = refl
 linked_bare (Repeat at count body) = refl
@@ -129,25 +141,20 @@ stand_from h here s stands = record {
 
 -- ---- bodies and declarations
 
+left_bare : (here : Place) (p : NamedPause) → left_by_pause here (bare_pause p) ≡ left_by_pause here p
+left_bare here (Cooperate instants) = refl
+left_bare here (Await events limit) = refl
+left_bare here (Get event index target) = refl
+left_bare here (Join thread limit) = refl
+left_bare here (Link scheduler) = refl
+left_bare here Unlink = refl
+left_bare here Halt = refl
+
 mutual
   goes_to : (h : Heads) (p : Place) (s : NamedStatement) (q : Place) → GoesThrough h p s q → GoesThrough h p (bare_statement s) q
-  goes_to h p (Assign target value) q goes = (stand_to h p (Assign target value) goes.0, goes.1)
-  goes_to h p (AssignCreate target at creation) q goes = (stand_to h p (AssignCreate target at creation) goes.0, goes.1)
-  goes_to h p (Create at creation) q goes = (stand_to h p (Create at creation) goes.0, goes.1)
-  goes_to h p (PrintText at line value) q goes = (stand_to h p (PrintText at line value) goes.0, goes.1)
-  goes_to h p (PrintValue at value) q goes = (stand_to h p (PrintValue at value) goes.0, goes.1)
-  goes_to h p (Cooperate at stop instants) q goes = (stand_to h p (Cooperate at stop instants) goes.0, goes.1)
-  goes_to h p (Generate at event value) q goes = (stand_to h p (Generate at event value) goes.0, goes.1)
-  goes_to h p (Await at stop event limit) q goes = (stand_to h p (Await at stop event limit) goes.0, goes.1)
-  goes_to h p (Select at stop events limit) q goes = (stand_to h p (Select at stop events limit) goes.0, goes.1)
-  goes_to h p (Get at stop event index target) q goes = (stand_to h p (Get at stop event index target) goes.0, goes.1)
-  goes_to h p (Join at stop thread limit) q goes = (stand_to h p (Join at stop thread limit) goes.0, goes.1)
-  goes_to h p (ControlThread at control thread scheduler) q goes = (stand_to h p (ControlThread at control thread scheduler) goes.0, goes.1)
-  goes_to h p (Broadcast at event value) q goes = (stand_to h p (Broadcast at event value) goes.0, goes.1)
-  goes_to h p (Link at stop scheduler) q goes = (stand_to h p (Link at stop scheduler) goes.0, goes.1)
-  goes_to h p (Unlink at stop) q goes = (stand_to h p (Unlink at stop) goes.0, goes.1)
+  goes_to h p (Do at action) q goes = (stand_to h p (Do at action) goes.0, goes.1)
+  goes_to h p (Hold at stop pause) q goes = (stand_to h p (Hold at stop pause) goes.0, goes.1 ∙ sym (left_bare p pause))
   goes_to h p (Run at stop called m arguments) q goes = (stand_to h p (Run at stop called m arguments) goes.0, goes.1)
-  goes_to h p (Halt at stop) q goes = (stand_to h p (Halt at stop) goes.0, goes.1)
   goes_to h p (If at test first second) q goes = (stand_to h p (If at test first second) goes.0, body_to h p first q goes.1, body_to h p second q goes.2)
   goes_to h p (While at test body) q goes = (stand_to h p (While at test body) goes.0, body_to h p body p goes.1, goes.2)
   goes_to h p (Repeat at count body) q goes = (stand_to h p (Repeat at count body) goes.0, body_to h p body p goes.1, goes.2)
@@ -158,23 +165,9 @@ mutual
 
 mutual
   goes_from : (h : Heads) (p : Place) (s : NamedStatement) (q : Place) → GoesThrough h p (bare_statement s) q → GoesThrough h p s q
-  goes_from h p (Assign target value) q goes = (stand_from h p (Assign target value) goes.0, goes.1)
-  goes_from h p (AssignCreate target at creation) q goes = (stand_from h p (AssignCreate target at creation) goes.0, goes.1)
-  goes_from h p (Create at creation) q goes = (stand_from h p (Create at creation) goes.0, goes.1)
-  goes_from h p (PrintText at line value) q goes = (stand_from h p (PrintText at line value) goes.0, goes.1)
-  goes_from h p (PrintValue at value) q goes = (stand_from h p (PrintValue at value) goes.0, goes.1)
-  goes_from h p (Cooperate at stop instants) q goes = (stand_from h p (Cooperate at stop instants) goes.0, goes.1)
-  goes_from h p (Generate at event value) q goes = (stand_from h p (Generate at event value) goes.0, goes.1)
-  goes_from h p (Await at stop event limit) q goes = (stand_from h p (Await at stop event limit) goes.0, goes.1)
-  goes_from h p (Select at stop events limit) q goes = (stand_from h p (Select at stop events limit) goes.0, goes.1)
-  goes_from h p (Get at stop event index target) q goes = (stand_from h p (Get at stop event index target) goes.0, goes.1)
-  goes_from h p (Join at stop thread limit) q goes = (stand_from h p (Join at stop thread limit) goes.0, goes.1)
-  goes_from h p (ControlThread at control thread scheduler) q goes = (stand_from h p (ControlThread at control thread scheduler) goes.0, goes.1)
-  goes_from h p (Broadcast at event value) q goes = (stand_from h p (Broadcast at event value) goes.0, goes.1)
-  goes_from h p (Link at stop scheduler) q goes = (stand_from h p (Link at stop scheduler) goes.0, goes.1)
-  goes_from h p (Unlink at stop) q goes = (stand_from h p (Unlink at stop) goes.0, goes.1)
+  goes_from h p (Do at action) q goes = (stand_from h p (Do at action) goes.0, goes.1)
+  goes_from h p (Hold at stop pause) q goes = (stand_from h p (Hold at stop pause) goes.0, goes.1 ∙ left_bare p pause)
   goes_from h p (Run at stop called m arguments) q goes = (stand_from h p (Run at stop called m arguments) goes.0, goes.1)
-  goes_from h p (Halt at stop) q goes = (stand_from h p (Halt at stop) goes.0, goes.1)
   goes_from h p (If at test first second) q goes = (stand_from h p (If at test first second) goes.0, body_from h p first q goes.1, body_from h p second q goes.2)
   goes_from h p (While at test body) q goes = (stand_from h p (While at test body) goes.0, body_from h p body p goes.1, goes.2)
   goes_from h p (Repeat at count body) q goes = (stand_from h p (Repeat at count body) goes.0, body_from h p body p goes.1, goes.2)
