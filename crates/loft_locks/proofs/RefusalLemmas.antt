@@ -8,7 +8,7 @@ use Rattle.loft_tree.specs.NamedTree.{NamedStatements, Do, Hold, Run, If, While,
 use Rattle.loft_tree.specs.Resolved.{Pause, Resolved, pause_of, body_of}
 use Rattle.loft_sense.specs.Tree.{first_some}
 use Rattle.loft_locks.specs.Locks.{Lock, LockCall, Takes as TakesCall, Gives as GivesCall, Other, call_of, after_call, at_call, is_away, IsAway, Leaves, PauseStays, CallStays, CallPairs, BodyPairs}
-use Rattle.loft_locks.specs.Outline.{Outline, Takes, Gives, goes_if, run_part, outline, has, closes_at, closes, pair_fault, outermost, leave_fault}
+use Rattle.loft_locks.specs.Outline.{Outline, Takes, Gives, goes_if, run_part, outline, has, closes, pair_fault, outermost, leave_fault}
 use Rattle.loft_forms.specs.Marks.{Use, TakeOf, GiveOf, Mark, use_at}
 use Rattle.loft_locks.specs.Marked.{BodyKeeps, UseAgrees, BodyMarked}
 
@@ -71,13 +71,13 @@ no_pairs (x ∷ y ∷ ys) e = let none : y ∷ ys ≡ [] = no_pairs (y ∷ ys) e
 
 -- ---- what leaves breaks no rule of pairs
 
-pub goes_pairs : (outer own : List (List ℕ)) (leaves : Bool) (rest : Outline) → pair_fault outer own (goes_if leaves rest) ≡ pair_fault outer own rest
+goes_pairs : (outer own : List (List ℕ)) (leaves : Bool) (rest : Outline) → pair_fault outer own (goes_if leaves rest) ≡ pair_fault outer own rest
 goes_pairs outer own true rest = refl
 goes_pairs outer own false rest = refl
 
-pub goes_closes : (later : ℕ) (l : List ℕ) (leaves : Bool) (rest : Outline) → closes_at later l (goes_if leaves rest) ≡ closes_at later l rest
-goes_closes later l true rest = refl
-goes_closes later l false rest = refl
+goes_closes : (l : List ℕ) (leaves : Bool) (rest : Outline) → closes l (goes_if leaves rest) ≡ closes l rest
+goes_closes l true rest = refl
+goes_closes l false rest = refl
 
 goes_gives : (l k : List ℕ) (leaves : Bool) (rest : Outline) → closes l (Gives k (goes_if leaves rest)) ≡ closes l (Gives k rest)
 goes_gives l k true rest = refl
@@ -204,13 +204,13 @@ module _ (p : Resolved) (l : Lock) (name : List ℕ) (marks : List Mark) (away :
         stays = λ is. none_has (own ++ outer) (free.1 is);
         after = refl;
         once = once;
-        closing = λ is. sym (goes_closes 0 name leaves rest) ∙ c is;
+        closing = λ is. sym (goes_closes name leaves rest) ∙ c is;
         fault = sym (goes_pairs outer own leaves rest) ∙ e;
         left = free.0;
       }
   run_ok outer own leaves call (Some (TakeOf k)) rest agree e f once c =
       let free = goes_free outer own leaves (Takes k rest) f in
-      take_ok outer own leaves call k rest agree (sym (goes_pairs outer own leaves (Takes k rest)) ∙ e) free.0 free.1 once (λ is. sym (goes_closes 0 name leaves (Takes k rest)) ∙ c is)
+      take_ok outer own leaves call k rest agree (sym (goes_pairs outer own leaves (Takes k rest)) ∙ e) free.0 free.1 once (λ is. sym (goes_closes name leaves (Takes k rest)) ∙ c is)
   run_ok outer [] leaves call (Some (GiveOf k)) rest agree e f once c = absurd cc
   run_ok outer (j ∷ own) leaves call (Some (GiveOf k)) rest agree e f once c =
       let parts = chosen (bytes_eq k j) k (pair_fault outer own (goes_if leaves rest)) e in
@@ -237,7 +237,7 @@ module _ (p : Resolved) (l : Lock) (name : List ℕ) (marks : List Mark) (away :
       let free = goes_free outer own leaves rest f in
       let here = has name (own ++ outer) in (
         (keeps.0, pause_stays here (pause_of pause) (λ is. none_has (own ++ outer) (free.1 is))),
-        body_pairs b outer own (sym (goes_pairs outer own leaves rest) ∙ e) free.0 keeps.1 marked.1 once (λ is. sym (goes_closes 0 name leaves rest) ∙ c is),
+        body_pairs b outer own (sym (goes_pairs outer own leaves rest) ∙ e) free.0 keeps.1 marked.1 once (λ is. sym (goes_closes name leaves rest) ∙ c is),
       )
   body_pairs (Then (Run at stop called m arguments) b) outer own e f keeps marked once c =
       let ok = run_ok outer own (away m) (call_of l m) (use_at marks called) (outline marks away b) marked.0 e f once c in (
