@@ -3,28 +3,10 @@ use Rattle.std.proofs.Common.{◌≡◌, Bool, true, false, ◌||◌, inl, inr, 
 use Rattle.std.specs.Prelude.{◌⊎◌, ◌↔◌}
 use Rattle.std.proofs.lemmas.Bool.{false≢true}
 use Rattle.loft_base.specs.declared.ids.ModuleId.{ModuleId}
-use Rattle.loft_tree.specs.Resolved.{Pause, Cooperate, Await, Get, Join, Link, Unlink, Halt, Step, Do, Hold, Call, Choose, Loop, Times, Body, Empty, Then, Resolved}
+use Rattle.loft_tree.specs.Resolved.{Step, Do, Hold, Call, Choose, Loop, Times, Body, Empty, Then, Resolved}
 use Rattle.loft_sense.specs.Tree.{body_at}
-use Rattle.loft_expansion.specs.Going.{is_away, step_goes, body_goes}
-use Rattle.loft_locks.specs.Locks.{IsAway, StepLeaves, BodyLeaves, StepCalls, BodyCalls, Leaves, itself, through}
-
-away_is : (pause : Pause) → is_away pause ≡ true → IsAway pause
-away_is (Cooperate instants) e = false≢true e
-away_is (Await events limit) e = false≢true e
-away_is (Get event index target) e = false≢true e
-away_is (Join thread limit) e = false≢true e
-away_is (Link s) e = tt
-away_is Unlink e = tt
-away_is Halt e = false≢true e
-
-is_marked : (pause : Pause) → IsAway pause → is_away pause ≡ true
-is_marked (Cooperate instants) h = absurd h
-is_marked (Await events limit) h = absurd h
-is_marked (Get event index target) h = absurd h
-is_marked (Join thread limit) h = absurd h
-is_marked (Link s) h = refl
-is_marked Unlink h = refl
-is_marked Halt h = absurd h
+use Rattle.loft_expansion.specs.Going.{step_goes, body_goes}
+use Rattle.loft_locks.specs.Locks.{StepLeaves, BodyLeaves, StepCalls, BodyCalls, Leaves, itself, through}
 
 either : (a b : Bool) → (a || b) ≡ true → (a ≡ true) ⊎ (b ≡ true)
 either true b e = inl refl
@@ -60,7 +42,7 @@ module _ (away : ModuleId → Bool) where
   mutual
     step_why : (s : Step) → step_goes away s ≡ true → Why (StepLeaves s) (StepCalls s)
     step_why (Do action) e = absurd (false≢true e)
-    step_why (Hold k pause) e = inl (away_is pause e)
+    step_why (Hold k pause) e = inl e
     step_why (Call k m arguments) e = inr (m, refl, e)
     step_why (Choose test x y) e = why_either (body_goes away x) (body_goes away y) (BodyLeaves x) (BodyLeaves y) (BodyCalls x) (BodyCalls y) e (body_why x) (body_why y)
     step_why (Loop test x) e = body_why x e
@@ -73,7 +55,7 @@ module _ (away : ModuleId → Bool) where
   mutual
     step_leaves : (s : Step) → StepLeaves s → step_goes away s ≡ true
     step_leaves (Do action) h = absurd h
-    step_leaves (Hold k pause) h = is_marked pause h
+    step_leaves (Hold k pause) h = h
     step_leaves (Call k m arguments) h = absurd h
     step_leaves (Choose test x y) (inl h) = first_true (body_goes away x) (body_goes away y) (body_leaves x h)
     step_leaves (Choose test x y) (inr h) = second_true (body_goes away x) (body_goes away y) (body_leaves y h)

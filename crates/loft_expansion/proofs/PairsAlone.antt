@@ -3,7 +3,9 @@ use Rattle.std.proofs.Common.{◌≡◌, ℕ, ◌+◌, ◌-◌, Bool, true, fals
 use Rattle.std.specs.Prelude.{if◌then◌else◌}
 use Rattle.std.specs.Str.{bytes_eq}
 use Rattle.loft_base.specs.declared.ids.ModuleId.{ModuleId}
-use Rattle.loft_tree.specs.NamedTree.{NamedStatements, Assign, AssignCreate, Create, PrintText, PrintValue, Cooperate, Generate, Await, Select, Get, Join, ControlThread, Broadcast, Link, Unlink, Run, Halt, If, While, Repeat, Done, Then}
+use Rattle.loft_tree.specs.NamedTree.{NamedStatements, Do, Hold, Run, If, While, Repeat, Done, Then}
+use Rattle.loft_tree.specs.Resolved.{pause_of}
+use Rattle.loft_locks.specs.Locks.{is_away}
 use Rattle.loft_locks.specs.Outline.{Outline, Nothing, Takes, Gives, Goes, Within, goes_if, run_part, outline, is_first, closes_at, pair_fault}
 use Rattle.loft_forms.specs.Marks.{Use, TakeOf, GiveOf, Mark, use_at}
 
@@ -54,23 +56,11 @@ within_same x y u v o p a b c = rw (a, b, c) refl
 module _ (marks : List Mark) (away other : ModuleId → Bool) where
   outlines_same : (b : NamedStatements) → stays (outline marks away b) ≡ stays (outline marks other b)
   outlines_same Done = refl
-  outlines_same (Then (Assign target value) b) = outlines_same b
-  outlines_same (Then (AssignCreate target at creation) b) = outlines_same b
-  outlines_same (Then (Create at creation) b) = outlines_same b
-  outlines_same (Then (PrintText at line value) b) = outlines_same b
-  outlines_same (Then (PrintValue at value) b) = outlines_same b
-  outlines_same (Then (Cooperate at stop instants) b) = outlines_same b
-  outlines_same (Then (Generate at event value) b) = outlines_same b
-  outlines_same (Then (Await at stop event limit) b) = outlines_same b
-  outlines_same (Then (Select at stop events limit) b) = outlines_same b
-  outlines_same (Then (Get at stop event index target) b) = outlines_same b
-  outlines_same (Then (Join at stop thread limit) b) = outlines_same b
-  outlines_same (Then (ControlThread at control thread scheduler) b) = outlines_same b
-  outlines_same (Then (Broadcast at event value) b) = outlines_same b
-  outlines_same (Then (Link at stop scheduler) b) = outlines_same b
-  outlines_same (Then (Unlink at stop) b) = outlines_same b
+  outlines_same (Then (Do at action) b) = outlines_same b
+  outlines_same (Then (Hold at stop pause) b) =
+      let leaves = is_away (pause_of pause) in
+      goes_same leaves (outline marks away b) ∙ outlines_same b ∙ sym (goes_same leaves (outline marks other b))
   outlines_same (Then (Run at stop called m arguments) b) = run_same (away m) (other m) (use_at marks called) (outline marks away b) (outline marks other b) (outlines_same b)
-  outlines_same (Then (Halt at stop) b) = outlines_same b
   outlines_same (Then (If at test x y) b) = within_same _ _ _ _ _ _ (outlines_same x) (outlines_same y) (outlines_same b)
   outlines_same (Then (While at test x) b) = within_same _ _ _ _ _ _ (outlines_same x) refl (outlines_same b)
   outlines_same (Then (Repeat at count x) b) = within_same _ _ _ _ _ _ (outlines_same x) refl (outlines_same b)

@@ -1,16 +1,8 @@
 -- Whether a body has a `link` or an `unlink` in it, or a `run` of a module that is told (docs/LOCKS.md, "Pairs").
-use Rattle.std.specs.Prelude.{Bool, true, false, ◌||◌}
+use Rattle.std.specs.Prelude.{Bool, false, ◌||◌}
 use Rattle.loft_base.specs.declared.ids.ModuleId.{ModuleId}
-use Rattle.loft_tree.specs.Resolved.{Pause, Cooperate, Await, Get, Join, Link, Unlink, Halt, Step, Do, Hold, Call, Choose, Loop, Times, Body, Empty, Then}
-
-abbrev pub is_away : Pause → Bool
-is_away (Cooperate instants) = false
-is_away (Await events limit) = false
-is_away (Get event index target) = false
-is_away (Join thread limit) = false
-is_away (Link s) = true
-is_away Unlink = true
-is_away Halt = false
+use Rattle.loft_tree.specs.Resolved.{Step, Do, Hold, Call, Choose, Loop, Times, Body, Empty, Then}
+use Rattle.loft_locks.specs.Locks.{is_away}
 
 module _ (away : ModuleId → Bool) where
   abbrev mutual
