@@ -10,8 +10,8 @@ ghost use Rattle.loft_sense.specs.Statements.{target_of};
 ghost use Rattle.loft_step.specs.Lines.{ends_at, line_in, op_after, HasNoStop, IsLastStop, LiesIn, StopsAreNumbered};
 
 use loft_base::ModuleId;
-use loft_code::{Code, CodeLine, ModuleCode, Op, Pause};
-use loft_tree::Target;
+use loft_code::{Code, CodeLine, ModuleCode, Op};
+use loft_tree::{Pause, Target};
 
 /// The operations of a module among these, none where there is no such module.
 fn lines_among(modules: &[ModuleCode], module: ModuleId) -> &[CodeLine]

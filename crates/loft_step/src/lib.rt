@@ -4,7 +4,6 @@
 
 mod jump;
 mod midst;
-mod operand;
 mod paused;
 mod running;
 mod step;

@@ -7,13 +7,12 @@ ghost use Rattle.loft_code.specs.Operations.{Do, Hold, Call, Branch, Count, stop
 ghost use Rattle.loft_code.specs.View.{action_of, pause_of, operation_of};
 ghost use Rattle.loft_sense.specs.Code.{point, turned};
 
-use crate::operand::{act, hold};
 use crate::running::Running;
 use loft_base::{ModuleId, NoMemory, Values};
-use loft_code::{Action, Op, Pause};
+use loft_code::Op;
 use loft_effect::{Beside, Effect, is_true, number_of};
 use loft_orders::{Counts, End, To, Wait};
-use loft_tree::{Heads, NamedExpr};
+use loft_tree::{Action, Heads, NamedExpr, Pause};
 use std::alloc::Global;
 
 /// What becomes of a thread where its innermost frame doesn't just go on.
@@ -77,7 +76,7 @@ impl Running {
             self.old beside.old move self.new beside.new) }
     {
         self.op = number + 1;
-        let effect = act(&mut self.scope, alloc, heads, beside, action)?;
+        let effect = self.scope.act(alloc, heads, beside, action)?;
         Ok(Self::move_of(effect))
     }
 
@@ -98,7 +97,7 @@ impl Running {
     {
         self.op = number + 1;
         self.scope.at.stop = stop as u32;
-        let effect = hold(&mut self.scope, alloc, heads, beside, pause)?;
+        let effect = self.scope.hold(alloc, heads, beside, pause)?;
         Ok(Self::move_of(effect))
     }
 
