@@ -12,7 +12,7 @@ ghost use Rattle.loft_expansion.specs.Expansion.{first_leaving};
 ghost use Rattle.loft_pairs.specs.Seen.{lock_seen, fault_seen};
 ghost use Rattle.std.specs.Option.{option_map};
 
-use crate::leaving::is_away;
+use crate::leaving::{is_away, pause_leaves};
 use crate::marks::use_at;
 use crate::pairs::{around, begin, end, told};
 use loft_base::{ModuleId, NoMemory, Room};
@@ -80,7 +80,8 @@ fn left_at<'a>(
         ≡ leave_fault (names_seen outer.now) (names_seen own.old.items) (part (marks_seen marks.now) (marked_in away.now) (statement_of statement.now) rest) }
 {
     match statement {
-        NamedStmt::Link { .. } | NamedStmt::Unlink { .. } => outermost(own.as_slice(), outer),
+        NamedStmt::Do { .. } => None,
+        NamedStmt::Hold { pause, .. } => left(pause_leaves(pause), own.as_slice(), outer),
         NamedStmt::Run { called, module, .. } => run_left(
             room,
             outer,
@@ -100,20 +101,6 @@ fn left_at<'a>(
             let begun = around(room, own.as_slice(), outer);
             left_in(room, marks, away, begun.as_slice(), body.as_slice())
         }
-        NamedStmt::Assign { .. }
-        | NamedStmt::AssignCreate { .. }
-        | NamedStmt::Create { .. }
-        | NamedStmt::PrintText { .. }
-        | NamedStmt::PrintValue { .. }
-        | NamedStmt::Cooperate { .. }
-        | NamedStmt::Generate { .. }
-        | NamedStmt::Await { .. }
-        | NamedStmt::Select { .. }
-        | NamedStmt::Get { .. }
-        | NamedStmt::Join { .. }
-        | NamedStmt::Control { .. }
-        | NamedStmt::Broadcast { .. }
-        | NamedStmt::Halt { .. } => None,
     }
 }
 

@@ -7,11 +7,13 @@ ghost use Rattle.loft_tree.specs.Source.{Source};
 ghost use Rattle.loft_numbers.specs.Numbers.{numbered};
 ghost use Rattle.loft_expansion.specs.Expansion.{TellsLeaving};
 ghost use Rattle.loft_pairs.specs.Leaving.{marked_in, bodies_of, IsUnmarked};
-ghost use Rattle.loft_tree.specs.Resolved.{step_of, body_of};
+ghost use Rattle.loft_tree.specs.NamedView as named;
+ghost use Rattle.loft_tree.specs.Resolved.{pause_of, step_of, body_of};
+ghost use Rattle.loft_locks.specs.Locks.{is_away};
 ghost use Rattle.loft_expansion.specs.Going.{step_goes, body_goes};
 
 use loft_base::{ModuleId, NoMemory};
-use loft_tree::{Module, NamedStmt};
+use loft_tree::{Module, NamedStmt, Pause};
 use std::alloc::Global;
 
 /// Whether the module is marked.
@@ -24,6 +26,20 @@ pub fn is_away(away: &[bool], module: ModuleId) -> bool
     }
 }
 
+/// Whether the pause is a `link` or an `unlink`.
+pub fn pause_leaves(pause: &Pause) -> bool
+    ensures { result ≡ is_away (pause_of (named.pause_of pause.now)) }
+{
+    match pause {
+        Pause::Link(_) | Pause::Unlink => true,
+        Pause::Cooperate { .. }
+        | Pause::Await { .. }
+        | Pause::Get { .. }
+        | Pause::Join { .. }
+        | Pause::Halt => false,
+    }
+}
+
 /// Whether the statement has a `link` or an `unlink` in it, or a `run` of a marked module.
 #[cycle(leaves)]
 #[tactic(auto, using(loft_tree::proofs::NamedTrees::named_statements))]
@@ -31,7 +47,8 @@ fn statement_leaves(away: &[bool], statement: &NamedStmt) -> bool
     ensures { result ≡ step_goes (marked_in away.now) (step_of (statement_of statement.now)) }
 {
     match statement {
-        NamedStmt::Link { .. } | NamedStmt::Unlink { .. } => true,
+        NamedStmt::Do { .. } => false,
+        NamedStmt::Hold { pause, .. } => pause_leaves(pause),
         NamedStmt::Run { module, .. } => is_away(away, *module),
         NamedStmt::If { first, second, .. } => {
             body_leaves(away, first.as_slice()) || body_leaves(away, second.as_slice())
@@ -39,20 +56,6 @@ fn statement_leaves(away: &[bool], statement: &NamedStmt) -> bool
         NamedStmt::While { body, .. } | NamedStmt::Repeat { body, .. } => {
             body_leaves(away, body.as_slice())
         }
-        NamedStmt::Assign { .. }
-        | NamedStmt::AssignCreate { .. }
-        | NamedStmt::Create { .. }
-        | NamedStmt::PrintText { .. }
-        | NamedStmt::PrintValue { .. }
-        | NamedStmt::Cooperate { .. }
-        | NamedStmt::Generate { .. }
-        | NamedStmt::Await { .. }
-        | NamedStmt::Select { .. }
-        | NamedStmt::Get { .. }
-        | NamedStmt::Join { .. }
-        | NamedStmt::Control { .. }
-        | NamedStmt::Broadcast { .. }
-        | NamedStmt::Halt { .. } => false,
     }
 }
 

@@ -35,22 +35,8 @@ fn form_of<'a>(marks: &[Mark<'a>], statement: &NamedStmt) -> Option<Use<'a>>
 {
     match statement {
         NamedStmt::Run { called, .. } => use_at(marks, *called as usize),
-        NamedStmt::Assign { .. }
-        | NamedStmt::AssignCreate { .. }
-        | NamedStmt::Create { .. }
-        | NamedStmt::PrintText { .. }
-        | NamedStmt::PrintValue { .. }
-        | NamedStmt::Cooperate { .. }
-        | NamedStmt::Generate { .. }
-        | NamedStmt::Await { .. }
-        | NamedStmt::Select { .. }
-        | NamedStmt::Get { .. }
-        | NamedStmt::Join { .. }
-        | NamedStmt::Control { .. }
-        | NamedStmt::Broadcast { .. }
-        | NamedStmt::Halt { .. }
-        | NamedStmt::Link { .. }
-        | NamedStmt::Unlink { .. }
+        NamedStmt::Do { .. }
+        | NamedStmt::Hold { .. }
         | NamedStmt::If { .. }
         | NamedStmt::While { .. }
         | NamedStmt::Repeat { .. } => None,
@@ -185,6 +171,7 @@ fn fault_at<'a>(
         ≡ pair_fault (names_seen outer.now) (names_seen own.old.items) (part (marks_seen marks.now) (λ i. false) (statement_of statement.now) (outline (marks_seen marks.now) (λ i. false) (statements_of rest.now))) }
 {
     match statement {
+        NamedStmt::Do { .. } | NamedStmt::Hold { .. } => None,
         NamedStmt::Run { called, .. } => {
             let used = use_at(marks, *called as usize);
             run_fault(room, marks, outer, own, used, rest)
@@ -201,22 +188,6 @@ fn fault_at<'a>(
             let begun = around(room, own.as_slice(), outer);
             fault_in(room, marks, begun.as_slice(), body.as_slice())
         }
-        NamedStmt::Assign { .. }
-        | NamedStmt::AssignCreate { .. }
-        | NamedStmt::Create { .. }
-        | NamedStmt::PrintText { .. }
-        | NamedStmt::PrintValue { .. }
-        | NamedStmt::Cooperate { .. }
-        | NamedStmt::Generate { .. }
-        | NamedStmt::Await { .. }
-        | NamedStmt::Select { .. }
-        | NamedStmt::Get { .. }
-        | NamedStmt::Join { .. }
-        | NamedStmt::Control { .. }
-        | NamedStmt::Broadcast { .. }
-        | NamedStmt::Halt { .. }
-        | NamedStmt::Link { .. }
-        | NamedStmt::Unlink { .. } => None,
     }
 }
 
