@@ -1,4 +1,3 @@
-pub mod Groups
 pub mod Pieces
 pub mod Frames
 pub mod Midst

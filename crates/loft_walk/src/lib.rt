@@ -5,7 +5,6 @@
 mod paused;
 mod resume;
 mod running;
-mod statement;
 mod step;
 mod stopping;
 mod thread;

@@ -76,28 +76,13 @@ fn find_in_statement<'a>(
             work.pop();
             Ok(None)
         }
-        NamedStmt::Cooperate { stop, .. }
-        | NamedStmt::Await { stop, .. }
-        | NamedStmt::Select { stop, .. }
-        | NamedStmt::Get { stop, .. }
-        | NamedStmt::Join { stop, .. }
-        | NamedStmt::Link { stop, .. }
-        | NamedStmt::Unlink { stop, .. }
-        | NamedStmt::Run { stop, .. }
-        | NamedStmt::Halt { stop, .. } => {
+        NamedStmt::Hold { stop, .. } | NamedStmt::Run { stop, .. } => {
             if *stop == k {
                 return Ok(Some(statement));
             }
             Ok(None)
         }
-        NamedStmt::Assign { .. }
-        | NamedStmt::AssignCreate { .. }
-        | NamedStmt::Create { .. }
-        | NamedStmt::PrintText { .. }
-        | NamedStmt::PrintValue { .. }
-        | NamedStmt::Generate { .. }
-        | NamedStmt::Control { .. }
-        | NamedStmt::Broadcast { .. } => Ok(None),
+        NamedStmt::Do { .. } => Ok(None),
     }
 }
 

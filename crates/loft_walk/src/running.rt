@@ -2,8 +2,9 @@
 
 ghost use Rattle.std.specs.Prelude.{◌≡◌, IfOk, reverse, Some};
 ghost use Rattle.std.specs.Option.{option_map};
+ghost use Rattle.loft_tree.specs.NamedView.{pause_of as named_pause_of};
 ghost use Rattle.loft_tree.specs.ProgramView.{program_of};
-ghost use Rattle.loft_tree.specs.Resolved.{Resolved, resolved_of, target_of as variable_of};
+ghost use Rattle.loft_tree.specs.Resolved.{Resolved, resolved_of, target_of as variable_of, pause_of};
 ghost use Rattle.loft_sense.specs.Around.{Beside};
 ghost use Rattle.loft_sense.specs.Run.{active_of, begun_frame, frame_of};
 ghost use Rattle.loft_sense.specs.Statements.{target_of};
@@ -15,7 +16,7 @@ use crate::work::Piece;
 use loft_base::{ModuleId, NoMemory, Sequence, ThreadId, Values};
 use loft_effect::{Scope, first_values};
 use loft_orders::{At, Counts, Frame};
-use loft_tree::{NamedProgram, NamedStmt, Target};
+use loft_tree::{NamedProgram, NamedStmt, Pause, Target};
 use std::alloc::Global;
 
 /// A frame that runs, and the work that is left in it.
@@ -35,29 +36,30 @@ pub fn body(program: &NamedProgram, id: ModuleId) -> &[NamedStmt]
     }
 }
 
+/// The variable that a pause sets, where it is a `get`.
+fn target_of_pause(pause: &Pause) -> Option<Target>
+    ensures { option_map variable_of result ≡ target_of (Some (pause_of (named_pause_of pause.now))) }
+{
+    match pause {
+        Pause::Get { target, .. } => Some(*target),
+        Pause::Cooperate { .. }
+        | Pause::Await { .. }
+        | Pause::Join { .. }
+        | Pause::Link(_)
+        | Pause::Unlink
+        | Pause::Halt => None,
+    }
+}
+
 /// The variable that a stop sets, where it is a `get`.
 #[tactic(auto, using(loft_tree::proofs::NamedTrees::named_statements))]
 fn target_of(stop: &NamedStmt) -> Option<Target>
     ensures { option_map variable_of result ≡ target_of (pause_of_step (Some (step_from stop.now))) }
 {
     match stop {
-        NamedStmt::Get { target, .. } => Some(*target),
-        NamedStmt::Assign { .. }
-        | NamedStmt::AssignCreate { .. }
-        | NamedStmt::Create { .. }
-        | NamedStmt::PrintText { .. }
-        | NamedStmt::PrintValue { .. }
-        | NamedStmt::Cooperate { .. }
-        | NamedStmt::Generate { .. }
-        | NamedStmt::Await { .. }
-        | NamedStmt::Select { .. }
-        | NamedStmt::Join { .. }
-        | NamedStmt::Control { .. }
-        | NamedStmt::Broadcast { .. }
-        | NamedStmt::Link { .. }
-        | NamedStmt::Unlink { .. }
+        NamedStmt::Hold { pause, .. } => target_of_pause(pause),
+        NamedStmt::Do { .. }
         | NamedStmt::Run { .. }
-        | NamedStmt::Halt { .. }
         | NamedStmt::If { .. }
         | NamedStmt::While { .. }
         | NamedStmt::Repeat { .. } => None,

@@ -8,7 +8,6 @@ ghost use Rattle.loft_sense.specs.Tree.{Again, Turns, next_begin, next_work, nex
 ghost use Rattle.loft_walk.specs.Pieces.{body_from, step_from, work_of, work_of_task};
 
 use crate::running::Running;
-use crate::statement::{act, hold};
 use crate::work::{Piece, Task};
 use loft_base::{ModuleId, NoMemory, Values};
 use loft_effect::{Beside, Effect, is_true, number_of};
@@ -127,26 +126,12 @@ impl<'a> Running<'a> {
         ensures bound { IfOk result (λ move. beside.new.around.bound ≡ beside.old.around.bound) }
     {
         match statement {
-            NamedStmt::Assign { .. }
-            | NamedStmt::AssignCreate { .. }
-            | NamedStmt::Create { .. }
-            | NamedStmt::PrintText { .. }
-            | NamedStmt::PrintValue { .. }
-            | NamedStmt::Generate { .. }
-            | NamedStmt::Control { .. }
-            | NamedStmt::Broadcast { .. } => {
-                Ok(Self::move_of(act(&mut self.scope, alloc, heads, beside, statement)?))
+            NamedStmt::Do { at: _, action } => {
+                Ok(Self::move_of(self.scope.act(alloc, heads, beside, action)?))
             }
-            NamedStmt::Cooperate { stop, .. }
-            | NamedStmt::Await { stop, .. }
-            | NamedStmt::Select { stop, .. }
-            | NamedStmt::Get { stop, .. }
-            | NamedStmt::Join { stop, .. }
-            | NamedStmt::Link { stop, .. }
-            | NamedStmt::Unlink { stop, .. }
-            | NamedStmt::Halt { stop, .. } => {
+            NamedStmt::Hold { at: _, stop, pause } => {
                 self.scope.at.stop = *stop;
-                Ok(Self::move_of(hold(&mut self.scope, alloc, heads, beside, statement)?))
+                Ok(Self::move_of(self.scope.hold(alloc, heads, beside, pause)?))
             }
             NamedStmt::Run {
                 at: _,
