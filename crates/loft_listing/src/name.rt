@@ -2,11 +2,14 @@
 
 ghost use Rattle.std.specs.Prelude.{◌≡◌, ℕ, List, map};
 ghost use Rattle.loft_tree.specs.View.{event_name_of};
+ghost use Rattle.loft_code.specs.View.{events_in};
 ghost use Rattle.loft_listing.specs.Making.{Makes};
 ghost use Rattle.loft_listing.specs.Called.{called, called_at, start_name, called_scheduler, called_event, called_shared, called_module, called_slot, called_thread};
 
 use loft_base::{EventId, Maker, ModuleId, Room, SchedId, SharedId, ThreadId};
-use loft_tree::{EventHead, EventName, Heads, Ident, Name, SharedHead, Signature, SlotHead, Start};
+use loft_tree::{
+    EventHead, EventName, EventUse, Heads, Ident, Name, SharedHead, Signature, SlotHead, Start,
+};
 
 /// What is declared with a name.
 trait HasName {
@@ -102,13 +105,13 @@ pub fn event(room: &mut Room, heads: &Heads, event: EventId) -> EventName
 }
 
 /// The names of events.
-pub fn events(room: &mut Room, heads: &Heads, numbers: &[EventId]) -> Vec<EventName>
+pub fn events(room: &mut Room, heads: &Heads, named: &[EventUse]) -> Vec<EventName>
     ensures { Makes room.old room.new
-        (map event_name_of result.items ≡ map (called_event heads.now) numbers.now) }
+        (map event_name_of result.items ≡ map (called_event heads.now) (events_in named.now)) }
 {
     let mut names = Vec::new(room.alloc);
-    for number in numbers {
-        let name = event(room, heads, *number);
+    for one in named {
+        let name = event(room, heads, one.event);
         room.push_to(&mut names, name);
     }
     names

@@ -2,9 +2,9 @@
 
 ghost use Rattle.std.specs.Prelude.{◌≡◌, ◌++◌, [], ◌∷◌};
 ghost use Rattle.loft_tree.specs.NamedView as view;
-ghost use Rattle.loft_tree.specs.Resolved.{exp_if};
+ghost use Rattle.loft_tree.specs.Resolved.{exp_if, target_if};
 ghost use Rattle.loft_tree.specs.View.{value_of, creation_of};
-ghost use Rattle.loft_code.specs.View.{exps_in, target_in, action_of, pause_of};
+ghost use Rattle.loft_code.specs.View.{exps_in, events_in, action_of, pause_of};
 ghost use Rattle.loft_show.specs.Canon.{comma_part, event_pieces, lines_text, space, word_line};
 ghost use Rattle.loft_listing.specs.Called.{called_event, called_value, called_creation, called_make, called_action, called_wait, called_pause, called_run};
 ghost use Rattle.loft_listing.specs.Making.{Adds, Makes};
@@ -12,33 +12,29 @@ ghost use Rattle.loft_listing.specs.Listing.{statement_text};
 
 use crate::text::Listing;
 use crate::{expression, name};
-use loft_base::{EventId, ModuleId, Room, SchedId};
-use loft_code::{Action, Pause};
+use loft_base::{EventId, ModuleId, Room};
 use loft_lex::Word;
 use loft_show::{
     put_assign, put_assign_create, put_await, put_control, put_cooperate, put_create, put_event,
     put_get, put_join, put_name_line, put_print_text, put_print_value, put_run, put_select,
     put_word_line,
 };
-use loft_tree::{Creation, Expr, Heads, NamedExpr, Signature, Target, Text};
+use loft_tree::{
+    Action, Creation, EventUse, Expr, Heads, NamedCreation, NamedExpr, Pause, Signature, Target,
+    Text,
+};
 
 /// A thread to be made.
-fn creation(
-    room: &mut Room,
-    heads: &Heads,
-    module: &Signature,
-    scheduler: SchedId,
-    made: ModuleId,
-    arguments: &[NamedExpr],
-) -> Creation
+fn creation(room: &mut Room, heads: &Heads, module: &Signature, made: &NamedCreation) -> Creation
     ensures { Makes room.old room.new
         (creation_of result
-        ≡ called_creation heads.now «module».now scheduler made (exps_in arguments.now)) }
+        ≡ called_creation heads.now «module».now made.now.scheduler made.now.«module»
+        (exps_in made.now.arguments.items)) }
 {
     Creation {
-        scheduler: name::scheduler(room, heads, scheduler),
-        called: name::module(room, heads, made),
-        arguments: expression::expressions(room, heads, module, arguments),
+        scheduler: name::scheduler(room, heads, made.scheduler),
+        called: name::module(room, heads, made.module),
+        arguments: expression::expressions(room, heads, module, made.arguments.as_slice()),
     }
 }
 
@@ -52,7 +48,7 @@ fn put_make(
 )
     ensures { Adds listing.old listing.new
         (statement_text
-        (called_make heads.now «module».now (target_in target) (creation_of creation.now))) }
+        (called_make heads.now «module».now (target_if target) (creation_of creation.now))) }
 {
     match target {
         Some(target) => {
@@ -94,19 +90,9 @@ pub fn put_action(listing: &mut Listing, heads: &Heads, module: &Signature, acti
         }
         Action::Make {
             target,
-            scheduler,
-            module: made,
-            arguments,
+            creation: made,
         } => {
-            let arguments = arguments.as_slice();
-            let creation = creation(
-                &mut listing.room,
-                heads,
-                module,
-                *scheduler,
-                *made,
-                arguments,
-            );
+            let creation = creation(&mut listing.room, heads, module, made);
             put_make(listing, heads, module, *target, &creation);
         }
         Action::PrintText { text, value } => {
@@ -119,7 +105,7 @@ pub fn put_action(listing: &mut Listing, heads: &Heads, module: &Signature, acti
             put_print_value(&mut listing.out, 0, &value);
         }
         Action::Generate { event, value } => {
-            put_given(listing, heads, module, Word::Generate, *event, value);
+            put_given(listing, heads, module, Word::Generate, event.event, value);
         }
         Action::Control {
             control,
@@ -131,19 +117,19 @@ pub fn put_action(listing: &mut Listing, heads: &Heads, module: &Signature, acti
             put_control(&mut listing.out, 0, *control, &thread, &scheduler);
         }
         Action::Broadcast { event, value } => {
-            put_given(listing, heads, module, Word::Broadcast, *event, value);
+            put_given(listing, heads, module, Word::Broadcast, event.event, value);
         }
     }
 }
 
 /// `await e;` for one event, else `select e, g;`; both also with `for E`.
-fn put_wait(listing: &mut Listing, heads: &Heads, events: &[EventId], limit: &Option<Expr>)
+fn put_wait(listing: &mut Listing, heads: &Heads, events: &[EventUse], limit: &Option<Expr>)
     ensures { Adds listing.old listing.new
-        (statement_text (called_wait heads.now events.now (value_of limit.now))) }
+        (statement_text (called_wait heads.now (events_in events.now) (value_of limit.now))) }
 {
     match events {
         [event] => {
-            let event = name::event(&mut listing.room, heads, *event);
+            let event = name::event(&mut listing.room, heads, event.event);
             put_await(&mut listing.out, 0, &event, limit);
         }
         _ => {
@@ -172,7 +158,7 @@ pub fn put_pause(listing: &mut Listing, heads: &Heads, module: &Signature, pause
             index,
             target,
         } => {
-            let event = name::event(&mut listing.room, heads, *event);
+            let event = name::event(&mut listing.room, heads, event.event);
             let index = expression::expression(&mut listing.room, heads, module, index);
             let target = expression::target(&mut listing.room, heads, module, *target);
             put_get(&mut listing.out, 0, &event, &index, &target);
