@@ -4,9 +4,10 @@ ghost use Rattle.std.specs.Prelude.{◌≡◌, ◌++◌, [], None, true, false, 
 ghost use Rattle.std.specs.Option.{option_to_list};
 ghost use Rattle.loft_block.specs.Blocks.{sent_if, left_of, has_failed, Gives};
 
-use crate::pieces::Pieces;
+use crate::piece::{begin, go_on};
 use loft_base::{NoMemory, Sequence};
 use loft_orders::{Sent, Sents, Thread};
+use loft_passes::Interpreter;
 use std::alloc::Global;
 use std::mem;
 
@@ -33,78 +34,78 @@ fn take_first(orders: &mut Sents) -> Option<Sent>
 }
 
 /// The run goes on until there is an order to give, or it has stopped.
-fn fill<R: Drop, P: Pieces<R>>(
+fn fill<I: Interpreter>(
     alloc: Global,
-    pieces: &P,
+    interpreter: &I,
     orders: &mut Sents,
-    mut run: Option<R>,
-) -> Result<Option<R>, NoMemory>
-    ensures same { IfOk result (λ rest. orders.new ++ sent_if (P.sends pieces.now) rest
-        ≡ orders.old ++ sent_if (P.sends pieces.now) run) }
+    mut run: Option<I::Paused>,
+) -> Result<Option<I::Paused>, NoMemory>
+    ensures same { IfOk result (λ rest. orders.new ++ sent_if (I.comes_to interpreter.now) rest
+        ≡ orders.old ++ sent_if (I.comes_to interpreter.now) run) }
     ensures some { IfOk result (λ rest. orders.new ≡ [] → rest ≡ None) }
 {
     'filling: while orders.is_empty() {
         let Some(now) = run else {
             return Ok(None);
         };
-        run = pieces.go_on(alloc, now, orders)?;
+        run = go_on(alloc, interpreter, now, orders)?;
     }
     Ok(run)
 }
 
 /// The next order, none where the run stops without one, and the block after it.
-fn give<R: Drop, P: Pieces<R>>(
+fn give<I: Interpreter>(
     alloc: Global,
-    pieces: &P,
+    interpreter: &I,
     mut orders: Sents,
-    run: Option<R>,
-) -> Result<(Option<Sent>, Block<R>), NoMemory>
+    run: Option<I::Paused>,
+) -> Result<(Option<Sent>, Block<I::Paused>), NoMemory>
     ensures gives { IfOk result (λ given. Gives given.0
-        (orders ++ sent_if (P.sends pieces.now) run)
-        (left_of (P.program pieces.now) (P.sends pieces.now) given.1)) }
+        (orders ++ sent_if (I.comes_to interpreter.now) run)
+        (left_of (I.program interpreter.now) (I.comes_to interpreter.now) given.1)) }
     ensures works { IfOk result (λ given. has_failed given.1 ≡ false) }
 {
-    let run = fill(alloc, pieces, &mut orders, run)?;
+    let run = fill(alloc, interpreter, &mut orders, run)?;
     let sent = take_first(&mut orders);
     Ok((sent, Block::Goes(orders, run)))
 }
 
 /// The next order of a block, none where nothing is left, and the block after it.
-fn advance<R: Drop, P: Pieces<R>>(
+fn advance<I: Interpreter>(
     alloc: Global,
-    pieces: &P,
-    block: Block<R>,
-) -> Result<(Option<Sent>, Block<R>), NoMemory>
+    interpreter: &I,
+    block: Block<I::Paused>,
+) -> Result<(Option<Sent>, Block<I::Paused>), NoMemory>
     ensures gives { IfOk result (λ given. Gives given.0
-        (left_of (P.program pieces.now) (P.sends pieces.now) block)
-        (left_of (P.program pieces.now) (P.sends pieces.now) given.1)) }
+        (left_of (I.program interpreter.now) (I.comes_to interpreter.now) block)
+        (left_of (I.program interpreter.now) (I.comes_to interpreter.now) given.1)) }
     ensures works { IfOk result (λ given. (has_failed block ≡ false) × (has_failed given.1 ≡ false)) }
 {
     match block {
         Block::Begins(thread, block) => {
             let mut orders = Sequence::new(alloc);
-            let run = pieces.begin(alloc, thread, block, &mut orders)?;
-            give(alloc, pieces, orders, run)
+            let run = begin(alloc, interpreter, thread, block, &mut orders)?;
+            give(alloc, interpreter, orders, run)
         }
-        Block::Goes(orders, run) => give(alloc, pieces, orders, run),
+        Block::Goes(orders, run) => give(alloc, interpreter, orders, run),
         Block::Failed => Err(NoMemory),
     }
 }
 
 impl<R: Drop> Block<R> {
     /// The next order, none where nothing is left. Once it was out of memory, it gives no further one.
-    pub fn next<P: Pieces<R>>(
+    pub fn next<I: Interpreter<Paused = R>>(
         &mut self,
         alloc: Global,
-        pieces: &P,
+        interpreter: &I,
     ) -> Result<Option<Sent>, NoMemory>
         ensures gives { IfOk result (λ sent. Gives sent
-            (left_of (P.program pieces.now) (P.sends pieces.now) self.old)
-            (left_of (P.program pieces.now) (P.sends pieces.now) self.new)) }
+            (left_of (I.program interpreter.now) (I.comes_to interpreter.now) self.old)
+            (left_of (I.program interpreter.now) (I.comes_to interpreter.now) self.new)) }
         ensures works { OnOk result ((has_failed self.old ≡ false) × (has_failed self.new ≡ false)) }
         ensures no_memory { OnErr result (has_failed self.new ≡ true) }
     {
-        let (sent, rest) = advance(alloc, pieces, mem::replace(self, Block::Failed))?;
+        let (sent, rest) = advance(alloc, interpreter, mem::replace(self, Block::Failed))?;
         *self = rest;
         Ok(sent)
     }

@@ -1,3 +1,4 @@
 pub mod View
 pub mod Effects
 pub mod Outcomes
+pub mod Progress

@@ -10,13 +10,13 @@ ghost use Rattle.loft_sense.specs.Fits.{Fits};
 ghost use Rattle.loft_sense.specs.Instant.{instant as instant_of};
 ghost use Rattle.loft_sense.specs.Rest.{is_spent};
 
-use crate::stepper::Stepper;
 use loft_base::{Limits, NoMemory, SchedId};
 use loft_code::Code;
 use loft_count::Steps;
 use loft_line_engine::LineEngine;
 use loft_orders::{FinalState, InstantNote, Orders};
 use loft_sense::Engine;
+use loft_stepper::Stepper;
 use std::alloc::Global;
 use std::sync::ledger::Ledger;
 

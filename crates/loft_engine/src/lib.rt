@@ -2,6 +2,5 @@
 #![tactic(auto)]
 
 mod engine;
-mod stepper;
 
 pub use engine::CodeEngine;

@@ -3,21 +3,15 @@ use Rattle.std.specs.Prelude.{Bool, List, Option, Some, None}
 use Rattle.loft_code.specs.Operations.{Automata}
 use Rattle.loft_orders.specs.declared.order.Sent.{Sent}
 use Rattle.loft_sense.specs.Machine.{Code}
-use Rattle.loft_sense.specs.Async.{block_sent}
-use Rattle.loft_step.specs.declared.midst.Paused.{Paused}
 use Rattle.loft_step.specs.Midst.{paused_outcome}
 use Rattle.loft_block.specs.Blocks as block
 use Rattle.loft_job.specs.declared.job.Job.{Job}
 use Rattle.loft_job.specs.declared.job.JobStep.{JobStep}
 use Rattle.loft_job.specs.declared.job.JobStep.TheVariants as job
 
--- what a run in its midst sends by this code
-abbrev pub paused_sent : Automata → Paused → List Sent
-paused_sent c run = block_sent (paused_outcome c run)
-
 -- what the job still sends by this code; nothing is said of one that has failed
 abbrev pub left_of_job : Automata → Job → List Sent
-left_of_job c j = block.left_of (Code c) (paused_sent c) j.block
+left_of_job c j = block.left_of (Code c) (paused_outcome c) j.block
 
 -- it ran out of memory
 abbrev pub has_failed : Job → Bool

@@ -7,12 +7,12 @@ ghost use Rattle.loft_sense.specs.Machine.{Code as ByCode};
 ghost use Rattle.loft_sense.specs.Async.{async};
 ghost use Rattle.loft_block.specs.Blocks.{Gives};
 
-use crate::stepping::Stepping;
 use loft_base::NoMemory;
 use loft_block::Block;
 use loft_code::Code;
 use loft_orders::{Sent as SentOrder, Thread};
 use loft_step::Paused;
+use loft_stepper::Stepper;
 use std::alloc::Global;
 
 /// A step of a job.
@@ -51,7 +51,7 @@ impl Job {
         ensures works { OnOk result ((has_failed self.old ≡ false) × (has_failed self.new ≡ false)) }
         ensures no_memory { OnErr result (has_failed self.new ≡ true) }
     {
-        match self.block.next(alloc, &Stepping { code: c })? {
+        match self.block.next(alloc, &Stepper { code: c })? {
             Some(sent) => Ok(JobStep::Sent(sent)),
             None => Ok(JobStep::Over),
         }

@@ -2,6 +2,5 @@
 #![tactic(auto)]
 
 mod job;
-mod stepping;
 
 pub use job::{Job, JobStep};

@@ -3,7 +3,6 @@
 
 mod engine;
 mod job;
-mod pieces;
 mod walker;
 
 pub use engine::PlainEngine;

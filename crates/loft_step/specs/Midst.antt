@@ -1,5 +1,5 @@
 -- Runs in their midst.
-use Rattle.std.specs.Prelude.{ℕ, suc, List, [], ◌∷◌}
+use Rattle.std.specs.Prelude.{ℕ, List, [], ◌∷◌}
 use Rattle.loft_code.specs.Operations.{Automata}
 use Rattle.loft_orders.specs.declared.note.Act.{Act}
 use Rattle.loft_sense.specs.Around.{Beside}
@@ -7,13 +7,11 @@ use Rattle.loft_sense.specs.Run.{Outcome, going}
 use Rattle.loft_sense.specs.Code.{code}
 use Rattle.loft_effect.specs.declared.scope.Beside.{Beside as BesideInMemory}
 use Rattle.loft_effect.specs.View.{beside_of, steps_left}
-use Rattle.loft_effect.specs.Outcomes.{outcome_with, gone_of}
+use Rattle.loft_effect.specs.Outcomes.{outcome_with}
 use Rattle.loft_step.specs.declared.midst.Stack.{Stack}
 use Rattle.loft_step.specs.declared.midst.Turn.{Turn}
 use Rattle.loft_step.specs.declared.midst.Turn.TheVariants as turn
 use Rattle.loft_step.specs.declared.midst.Paused.{Paused}
-use Rattle.loft_step.specs.declared.midst.Progress.{Progress}
-use Rattle.loft_step.specs.declared.midst.Progress.TheVariants as progress
 use Rattle.loft_step.specs.Frames.{active, actives}
 
 -- what a run comes to that goes on with these frames
@@ -33,18 +31,9 @@ IfGoes (turn.Stops o) p = Unit {0}
 abbrev pub paused_outcome : Automata → Paused → Outcome
 paused_outcome c p = stack_with c p.stack p.beside
 
-abbrev pub progress_outcome : Automata → Progress → Outcome
-progress_outcome c (progress.Goes p) = paused_outcome c p
-progress_outcome c (progress.Stops gone) = gone_of gone
-
 -- how many steps a paused run may still make
 abbrev pub paused_left : Paused → ℕ
 paused_left p = steps_left p.beside.around
-
--- one more than that, and none where the run has stopped
-abbrev pub progress_left : Progress → ℕ
-progress_left (progress.Goes p) = suc (paused_left p)
-progress_left (progress.Stops gone) = 0
 
 -- what a paused run did so far
 abbrev pub acts_of : Paused → List Act

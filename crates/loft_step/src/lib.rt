@@ -12,8 +12,8 @@ mod value;
 mod walk;
 
 pub use loft_count::Steps;
-pub use loft_effect::{Around, Gone};
-pub use midst::{Paused, Progress};
+pub use loft_effect::{Around, Gone, Progress};
+pub use midst::Paused;
 pub use paused::{begin, go_on};
 pub use thread::go;
 pub use value::eval;

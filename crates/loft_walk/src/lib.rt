@@ -10,6 +10,6 @@ mod stopping;
 mod thread;
 mod work;
 
-pub use loft_effect::{Gone, Outcome};
-pub use paused::{Paused, Progress};
+pub use loft_effect::{Gone, Outcome, Progress};
+pub use paused::Paused;
 pub use thread::{begin, go, go_on};

@@ -9,23 +9,17 @@ ghost use Rattle.loft_walk.specs.Frames.{actives};
 ghost use Rattle.loft_walk.specs.Midst.{paused_outcome, paused_left, bound_of};
 
 use crate::running::Running;
-use loft_effect::{Beside, Gone};
-use loft_orders::Act;
+use loft_base::Sequence;
+use loft_effect::Beside;
+use loft_orders::Acts;
+use std::alloc::Global;
+use std::mem;
 
 /// A run in its midst: its frames, outermost first.
 #[derive(Drop)]
 pub struct Paused<'a> {
     pub(crate) running: Vec<Running<'a>>,
     pub(crate) beside: Beside,
-}
-
-/// How far a run has come.
-#[derive(Drop)]
-pub enum Progress<'a> {
-    /// It goes on.
-    Goes(Paused<'a>),
-    /// It has stopped.
-    Stops(Gone),
 }
 
 impl<'a> Paused<'a> {
@@ -43,23 +37,12 @@ impl<'a> Paused<'a> {
         Paused { running, beside }
     }
 
-    /// What was done so far, and not forgotten.
-    pub fn acts(&self) -> &[Act]
-        ensures { result.now ≡ acts_of self.now }
+    /// Takes out what was done so far.
+    pub fn take_acts(&mut self, alloc: Global) -> Acts
+        ensures acts { result ≡ acts_of self.old }
+        ensures outcome { (p : Resolved) → paused_outcome p self.new ≡ outcome_without_acts p self.old }
+        ensures left { paused_left self.new ≡ paused_left self.old }
     {
-        self.beside.around.acts.as_slice()
-    }
-
-    /// The same run, which forgets what it did so far.
-    pub fn forget_acts(self) -> Paused<'a>
-        ensures outcome { (p : Resolved) → paused_outcome p result ≡ outcome_without_acts p self.entry }
-        ensures left { paused_left result ≡ paused_left self.entry }
-    {
-        let Paused {
-            running,
-            mut beside,
-        } = self;
-        beside.around.acts.clear();
-        Paused { running, beside }
+        mem::replace(&mut self.beside.around.acts, Sequence::new(alloc))
     }
 }

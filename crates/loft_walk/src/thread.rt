@@ -11,16 +11,17 @@ ghost use Rattle.loft_sense.specs.Run.{active_of, live, ends, going, go_on, step
 ghost use Rattle.loft_sense.specs.Tree.{tree};
 ghost use Rattle.loft_effect.specs.View.{around_of, beside_of, steps_left};
 ghost use Rattle.loft_effect.specs.Outcomes.{gone_of};
+ghost use Rattle.loft_effect.specs.Progress.{progress_outcome, progress_left};
 ghost use Rattle.loft_walk.specs.Frames.{active, actives, live_of, goes_or_stops, top_target, Answers};
-ghost use Rattle.loft_walk.specs.Midst.{paused_outcome, paused_left, bound_of, progress_outcome, progress_left, bound_in, IfGoes};
+ghost use Rattle.loft_walk.specs.Midst.{paused_outcome, paused_left, bound_of, bound_in, IfGoes};
 
-use crate::paused::{Paused, Progress};
+use crate::paused::Paused;
 use crate::running::Running;
 use crate::step::Move;
 use crate::stopping::{Stopped, end, stop};
 use crate::work::{Task, take};
 use loft_base::NoMemory;
-use loft_effect::{Around, Beside, Gone};
+use loft_effect::{Around, Beside, Gone, Progress};
 use loft_orders::{End, Frame, Thread, Wait};
 use loft_sense::MAX_FRAMES;
 use loft_tree::{Heads, NamedProgram, Target};
@@ -154,12 +155,12 @@ fn run<'a>(
     mut beside: Beside,
     mut left: u64,
     pauses: bool,
-) -> Result<Progress<'a>, NoMemory>
+) -> Result<Progress<Paused<'a>>, NoMemory>
     requires { left ≤ beside.around.bound }
-    ensures gone { IfOk result (λ progress. progress_outcome (resolved_of (program_of program.now)) progress
+    ensures gone { IfOk result (λ progress. progress_outcome (paused_outcome (resolved_of (program_of program.now))) progress
         ≡ going (tree (resolved_of (program_of program.now))) left (beside_of beside) (actives running.entry.items)) }
     ensures pauses { IfOk result (λ progress. IfGoes progress (pauses ≡ true)) }
-    ensures left { IfOk result (λ progress. progress_left progress ≤ left) }
+    ensures left { IfOk result (λ progress. progress_left paused_left progress ≤ left) }
     ensures bound { IfOk result (λ progress. bound_in progress ≡ beside.around.bound) }
 {
     let stopped = make_steps(alloc, program, &mut running, &mut beside, &mut left, pauses)?;
@@ -196,10 +197,10 @@ fn walk<'a>(
     wait: &Wait,
     mut beside: Beside,
     left: u64,
-) -> Result<Progress<'a>, NoMemory>
+) -> Result<Progress<Paused<'a>>, NoMemory>
     requires { left ≤ beside.around.bound }
     ensures gone { IfOk result (λ progress. let code = tree (resolved_of (program_of program.now)) in
-        progress_outcome (resolved_of (program_of program.now)) progress
+        progress_outcome (paused_outcome (resolved_of (program_of program.now))) progress
         ≡ go_on code left wait.now (beside_of beside) (map (active_of code) (reverse frames.items))) }
     ensures bound { IfOk result (λ progress. bound_in progress ≡ beside.around.bound) }
 {
@@ -221,11 +222,11 @@ fn run_on<'a>(
     program: &'a NamedProgram,
     paused: Paused<'a>,
     pauses: bool,
-) -> Result<Progress<'a>, NoMemory>
-    ensures gone { IfOk result (λ progress. progress_outcome (resolved_of (program_of program.now)) progress
+) -> Result<Progress<Paused<'a>>, NoMemory>
+    ensures gone { IfOk result (λ progress. progress_outcome (paused_outcome (resolved_of (program_of program.now))) progress
         ≡ paused_outcome (resolved_of (program_of program.now)) paused.entry) }
     ensures pauses { IfOk result (λ progress. IfGoes progress (pauses ≡ true)) }
-    ensures left { IfOk result (λ progress. progress_left progress ≤ paused_left paused.entry) }
+    ensures left { IfOk result (λ progress. progress_left paused_left progress ≤ paused_left paused.entry) }
     ensures bound { IfOk result (λ progress. bound_in progress ≡ bound_of paused.entry) }
 {
     let Paused { running, beside } = paused;
@@ -237,10 +238,10 @@ fn run_on<'a>(
 fn finish<'a>(
     alloc: Global,
     program: &'a NamedProgram,
-    progress: Progress<'a>,
+    progress: Progress<Paused<'a>>,
 ) -> Result<Gone, NoMemory>
     ensures gone { IfOk result (λ gone. gone_of gone
-        ≡ progress_outcome (resolved_of (program_of program.now)) progress.entry) }
+        ≡ progress_outcome (paused_outcome (resolved_of (program_of program.now))) progress.entry) }
     ensures bound { IfOk result (λ gone. gone.around.bound ≡ bound_in progress.entry) }
 {
     match progress {
@@ -259,8 +260,8 @@ pub fn begin<'a>(
     program: &'a NamedProgram,
     thread: Thread,
     around: Around,
-) -> Result<Progress<'a>, NoMemory>
-    ensures gone { IfOk result (λ progress. progress_outcome (resolved_of (program_of program.now)) progress
+) -> Result<Progress<Paused<'a>>, NoMemory>
+    ensures gone { IfOk result (λ progress. progress_outcome (paused_outcome (resolved_of (program_of program.now))) progress
         ≡ run_of (Tree (resolved_of (program_of program.now))) thread (around_of around) (steps_left around)) }
     ensures bound { IfOk result (λ progress. bound_in progress ≡ around.bound) }
 {
@@ -286,10 +287,10 @@ pub fn go_on<'a>(
     alloc: Global,
     program: &'a NamedProgram,
     paused: Paused<'a>,
-) -> Result<Progress<'a>, NoMemory>
-    ensures gone { IfOk result (λ progress. progress_outcome (resolved_of (program_of program.now)) progress
+) -> Result<Progress<Paused<'a>>, NoMemory>
+    ensures gone { IfOk result (λ progress. progress_outcome (paused_outcome (resolved_of (program_of program.now))) progress
         ≡ paused_outcome (resolved_of (program_of program.now)) paused.entry) }
-    ensures left { IfOk result (λ progress. progress_left progress ≤ paused_left paused.entry) }
+    ensures left { IfOk result (λ progress. progress_left paused_left progress ≤ paused_left paused.entry) }
 {
     run_on(alloc, program, paused, true)
 }

@@ -5,7 +5,7 @@ use Rattle.loft_block.proofs.block.fill.Given as goal
 
 -- the orders, and what the run still sends, are as before
 abbrev pub invariant-filling : goal.invariant-filling
-invariant-filling g l = l.orders ++ sent_if (g.P.Pieces.sends l.pieces) l.run ≡ l.fn.orders ++ sent_if (g.P.Pieces.sends l.pieces) l.fn.run
+invariant-filling g l = l.orders ++ sent_if (g.I.Interpreter.comes_to l.interpreter) l.run ≡ l.fn.orders ++ sent_if (g.I.Interpreter.comes_to l.interpreter) l.fn.run
 
 abbrev pub decreases-filling : goal.decreases-filling
-decreases-filling g l = left_if (g.P.Pieces.left l.pieces) l.run
+decreases-filling g l = left_if (g.I.Interpreter.left l.interpreter) l.run

@@ -6,15 +6,16 @@ ghost use Rattle.loft_sense.specs.Machine.{Code as ByCode};
 ghost use Rattle.loft_sense.specs.Passes.{run_of};
 ghost use Rattle.loft_effect.specs.View.{around_of, steps_left};
 ghost use Rattle.loft_effect.specs.Outcomes.{outcome_of};
+ghost use Rattle.loft_step.specs.Midst.{paused_outcome, paused_left};
 
 use loft_base::NoMemory;
 use loft_code::Code;
 use loft_count::Steps;
 use loft_counted::CountedInterpreter;
-use loft_effect::Around;
-use loft_orders::{Stop, Thread};
+use loft_effect::{Around, Progress};
+use loft_orders::{Acts, Stop, Thread};
 use loft_passes::Interpreter;
-use loft_step::go;
+use loft_step::{Paused, begin, go, go_on};
 use loft_tree::Heads;
 use std::alloc::Global;
 use std::marker::Brand;
@@ -48,7 +49,13 @@ fn run<L: Ledger>(
 }
 
 impl Interpreter for Stepper<'_> {
+    type Paused = Paused;
+
     ghost program = { λ s. ByCode (automata_of s.code.now) };
+
+    ghost comes_to = { λ s run. paused_outcome (automata_of s.code.now) run };
+
+    ghost left = { λ s run. paused_left run };
 
     fn heads(&self) -> &Heads {
         &self.code.program().heads
@@ -61,6 +68,23 @@ impl Interpreter for Stepper<'_> {
         around: &mut Around,
     ) -> Result<Stop, NoMemory> {
         run::<Brand>(alloc, self.code, thread, around, Blank::new(1))
+    }
+
+    fn begin(
+        &self,
+        _alloc: Global,
+        thread: Thread,
+        around: Around,
+    ) -> Result<Progress<Paused>, NoMemory> {
+        begin(self.code, thread, around)
+    }
+
+    fn go_on(&self, alloc: Global, run: Paused) -> Result<Progress<Paused>, NoMemory> {
+        go_on(alloc, self.code, run)
+    }
+
+    fn take_acts(&self, alloc: Global, run: &mut Paused) -> Acts {
+        run.take_acts(alloc)
     }
 }
 

@@ -1,4 +1,4 @@
-use Rattle.loft_engine.proofs.stepper.StepperInterpreter.run.Given as goal
+use Rattle.loft_stepper.proofs.stepper.StepperInterpreter.run.Given as goal
 
 abbrev pub ghosts-run : goal.ghosts-run
 ghosts-run a = record { name = a.blank.name; parts = a.blank.parts }
