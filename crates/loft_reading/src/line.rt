@@ -22,10 +22,10 @@ fn code(alloc: Global, table: &Table, scope: Scope, deed: &Deed) -> Result<Op, N
         ≡ numbered_instruction table.now scope (deed_of deed.now)) }
 {
     match deed {
-        Deed::Do(s) => operation(alloc, 0, number_statement(alloc, table, scope, s)?),
+        Deed::Do(s) => Ok(operation(0, number_statement(alloc, table, scope, s)?)),
         Deed::Stop { number, statement } => {
             let statement = number_statement(alloc, table, scope, statement)?;
-            operation(alloc, *number, statement)
+            Ok(operation(*number, statement))
         }
         Deed::Branch { target, test } => Ok(Op::Branch {
             target: *target,
