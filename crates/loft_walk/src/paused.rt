@@ -4,9 +4,9 @@ ghost use Rattle.std.specs.Prelude.{◌≡◌, ◌≤◌};
 ghost use Rattle.loft_tree.specs.Resolved.{Resolved};
 ghost use Rattle.loft_sense.specs.Run.{going};
 ghost use Rattle.loft_sense.specs.Tree.{tree};
-ghost use Rattle.loft_effect.specs.View.{beside_of};
+ghost use Rattle.loft_effect.specs.View.{beside_of, steps_left};
 ghost use Rattle.loft_walk.specs.Frames.{actives};
-ghost use Rattle.loft_walk.specs.Midst.{paused_outcome, paused_left, bound_of};
+ghost use Rattle.loft_walk.specs.Midst.{paused_outcome, paused_left, bound_of, beside_anew};
 
 use crate::running::Running;
 use loft_base::Sequence;
@@ -20,6 +20,15 @@ use std::mem;
 pub struct Paused<'a> {
     pub(crate) running: Vec<Running<'a>>,
     pub(crate) beside: Beside,
+}
+
+/// Takes out the acts so far.
+fn taken(beside: &mut Beside, alloc: Global) -> Acts
+    ensures acts { result ≡ beside.old.around.acts }
+    ensures beside { beside_of beside.new ≡ beside_anew (beside_of beside.old) }
+    ensures left { steps_left beside.new.around ≡ steps_left beside.old.around }
+{
+    mem::replace(&mut beside.around.acts, Sequence::new(alloc))
 }
 
 impl<'a> Paused<'a> {
@@ -43,6 +52,6 @@ impl<'a> Paused<'a> {
         ensures outcome { (p : Resolved) → paused_outcome p self.new ≡ outcome_without_acts p self.old }
         ensures left { paused_left self.new ≡ paused_left self.old }
     {
-        mem::replace(&mut self.beside.around.acts, Sequence::new(alloc))
+        taken(&mut self.beside, alloc)
     }
 }
