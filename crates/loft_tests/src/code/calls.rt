@@ -8,8 +8,8 @@ ghost use Rattle.loft_code.specs.Fits.{LinesFit};
 
 use super::at;
 use loft_base::{ModuleId, NoMemory, SchedId, Sequence};
-use loft_code::{CodeError, CodeLine, CodeProgram, ModuleCode, Op, Pause, RawCode, validate};
-use loft_tree::{HeadItem, Heads, NamedExpr, Place, SharedHeads, Signature};
+use loft_code::{CodeError, CodeLine, CodeProgram, ModuleCode, Op, RawCode, validate};
+use loft_tree::{HeadItem, Heads, NamedExpr, Pause, Place, SharedHeads, Signature};
 use std::alloc::Global;
 use std::test::Fail;
 
