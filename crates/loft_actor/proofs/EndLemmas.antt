@@ -21,7 +21,7 @@ use Rattle.loft_history.specs.Legal.{actor_of, same_actor, of, AtEach, IsFaithfu
 use Rattle.loft_history.specs.Report.{schedulers}
 use Rattle.loft_history.proofs.OwnLemmas.{replayed_own, open_own, left_own, unsent_own}
 use Rattle.loft_world.specs.State.{State}
-use Rattle.loft_steps.specs.Turns.{IsReplay}
+use Rattle.loft_turn_parts.specs.Turns.{IsReplay}
 use Rattle.loft_baton.specs.declared.knows.Own.{Own}
 use Rattle.loft_baton.specs.declared.knows.Knows.{Knows}
 use Rattle.loft_baton.specs.PassValue.{PassValue}

@@ -15,7 +15,7 @@ use Rattle.loft_sense.specs.Machine.{Code}
 use Rattle.loft_history.specs.Clients.{orders_from, orders_of}
 use Rattle.loft_history.specs.History.{sent_in}
 use Rattle.loft_history.specs.Legal.{actor_of}
-use Rattle.loft_stand.specs.Machines.{SentFits}
+use Rattle.loft_soundness.specs.Machines.{SentFits}
 use Rattle.loft_world.specs.State.{State}
 use Rattle.loft_baton.specs.declared.knows.Knows.{Knows}
 use Rattle.loft_baton.specs.PassValue.{PassValue}

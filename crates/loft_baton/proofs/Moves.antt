@@ -13,7 +13,7 @@ use Rattle.loft_sense.specs.Machine.{Code}
 use Rattle.std.specs.Prelude.{Some, unwrap_or}
 use Rattle.loft_code.specs.View.{automata_of}
 use Rattle.loft_history.specs.History.{sent_in}
-use Rattle.loft_stand.specs.Machines.{SentFits}
+use Rattle.loft_soundness.specs.Machines.{SentFits}
 use Rattle.loft_code.specs.declared.raw.CodeProgram.{CodeProgram}
 use Rattle.loft_baton.specs.declared.knows.Own.{Own}
 use Rattle.loft_baton.specs.declared.knows.Knows.{Knows}

@@ -9,7 +9,7 @@ use Rattle.loft_orders.specs.declared.entry.Entry.{Entry}
 use Rattle.loft_sense.specs.Machine.{Code}
 use Rattle.loft_history.specs.History.{sent_in}
 use Rattle.loft_history.specs.Legal.{actor_of, same_actor, of}
-use Rattle.loft_stand.specs.Machines.{SentFits}
+use Rattle.loft_soundness.specs.Machines.{SentFits}
 use Rattle.loft_world.specs.State.{State}
 use Rattle.loft_baton.specs.declared.knows.Own.{Own}
 use Rattle.loft_baton.specs.declared.knows.Knows.{Knows}

@@ -5,7 +5,7 @@ use Rattle.loft_code.specs.View.{automata_of}
 use Rattle.loft_code.specs.declared.raw.CodeProgram.{CodeProgram}
 use Rattle.loft_sense.specs.Machine.{Code}
 use Rattle.loft_history.specs.History.{sent_in}
-use Rattle.loft_stand.specs.Machines.{SentFits}
+use Rattle.loft_soundness.specs.Machines.{SentFits}
 use Rattle.loft_world.specs.State.{State}
 
 -- The world has the declarations of the code. Each order of its history fits, for the code, at each scheduler to which it is

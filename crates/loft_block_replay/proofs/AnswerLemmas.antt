@@ -8,9 +8,9 @@ use Rattle.loft_base.specs.declared.options.Limits.{Limits}
 use Rattle.loft_orders.specs.Text.{name_at}
 use Rattle.loft_orders.specs.declared.order.Order.{Order}
 use Rattle.loft_sense.specs.Machine.{Prog, empty}
-use Rattle.loft_shape.specs.declared.raw.RawBlock.{RawBlock}
-use Rattle.loft_shape.specs.Told.{Report}
-use Rattle.loft_shape.specs.Text.{head_text, block_text}
+use Rattle.loft_report_shape.specs.declared.raw.RawBlock.{RawBlock}
+use Rattle.loft_report_shape.specs.Told.{Report}
+use Rattle.loft_report_shape.specs.Text.{head_text, block_text}
 use Rattle.loft_replay_error.specs.Difference.{DifferAt, IsDifference}
 use Rattle.loft_replay_error.specs.declared.error.ReplayError.{ReplayError}
 use Rattle.loft_replay_error.specs.declared.error.ReplayError.TheVariants.{Log, NotAllowed, Differs, NoMemory}

@@ -12,8 +12,8 @@ use Rattle.loft_orders.specs.Lines.{text_of, scheduler_line, instant_lines}
 use Rattle.loft_sense.specs.Machine.{Prog, heads, Mach, empty}
 use Rattle.loft_sense.specs.Instant.{instant, Replayed, replay_on}
 use Rattle.loft_history.specs.Report.{instants_lines, begun_lines, final_lines, block_lines}
-use Rattle.loft_text.specs.declared.line.LineBuffer.{LineBuffer}
-use Rattle.loft_text.specs.Buffer.{Adds}
+use Rattle.loft_value_text.specs.declared.line.LineBuffer.{LineBuffer}
+use Rattle.loft_value_text.specs.Buffer.{Adds}
 use Rattle.loft_block_replay.specs.Block.{IsNext, Follow, FailsAt, block_bytes}
 use Rattle.loft_block_replay.specs.Outcomes.{IsWhole}
 use Rattle.loft_block_replay.specs.Made.{Turned, Made, AllMade, StopsAt, machine_on, notes_on, text_on}

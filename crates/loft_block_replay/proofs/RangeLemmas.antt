@@ -3,8 +3,8 @@ use Rattle.std.proofs.Common.{ℕ, List}
 use Rattle.std.proofs.Math.Bridge.{le_prop}
 use Rattle.std.proofs.Math.Logic.{∥∥₁_elim}
 use Rattle.loft_base.specs.Options.{IsInRange, AreInRange}
-use Rattle.loft_shape.specs.Told.{Report}
-use Rattle.loft_shape.specs.Report.{Shape}
+use Rattle.loft_report_shape.specs.Told.{Report}
+use Rattle.loft_report_shape.specs.Report.{Shape}
 
 -- some text has the report
 pub limits_in_range : (r : Report) → ∥ ((text : List ℕ) × Shape text r) ∥₁ → ((text : List ℕ) (q : Report) → Shape text q → AreInRange q.options) → IsInRange r.options.limits

@@ -4,15 +4,15 @@ use Rattle.std.proofs.lemmas.List.{take_all}
 use Rattle.std.specs.List.{flat_map}
 use Rattle.loft_base.specs.declared.ids.SchedId.{SchedId}
 use Rattle.loft_sense.specs.Machine.{Prog}
-use Rattle.loft_shape.specs.Word.{spelling}
-use Rattle.loft_shape.specs.declared.word.Word.TheVariants as word
-use Rattle.loft_shape.specs.declared.raw.RawBlock.{RawBlock}
-use Rattle.loft_shape.specs.Told.{Report}
-use Rattle.loft_shape.specs.Text.{head_text, block_text, body_text, text_of}
-use Rattle.loft_shape.specs.Report.{Shape, longest}
-use Rattle.loft_reader.specs.Answer.{Fault, Answers}
-use Rattle.loft_reader.specs.declared.error.LogError.{LogError}
-use Rattle.loft_reader.specs.declared.error.LogError.TheVariants as log
+use Rattle.loft_report_shape.specs.Word.{spelling}
+use Rattle.loft_report_shape.specs.declared.word.Word.TheVariants as word
+use Rattle.loft_report_shape.specs.declared.raw.RawBlock.{RawBlock}
+use Rattle.loft_report_shape.specs.Told.{Report}
+use Rattle.loft_report_shape.specs.Text.{head_text, block_text, body_text, text_of}
+use Rattle.loft_report_shape.specs.Report.{Shape, longest}
+use Rattle.loft_report_reader.specs.Answer.{Fault, Answers}
+use Rattle.loft_report_reader.specs.declared.error.LogError.{LogError}
+use Rattle.loft_report_reader.specs.declared.error.LogError.TheVariants as log
 use Rattle.loft_replay_error.specs.Errors.{of_log}
 use Rattle.loft_replay_error.specs.declared.error.ReplayError.{ReplayError}
 use Rattle.loft_replay_error.specs.declared.error.ReplayError.TheVariants.{Log, NotAllowed, Differs, NoMemory}

@@ -6,12 +6,12 @@ use Rattle.loft_base.specs.declared.ids.SchedId.{SchedId}
 use Rattle.loft_orders.specs.declared.order.Order.{Order}
 use Rattle.loft_orders.specs.Text.{scheduler_name}
 use Rattle.loft_sense.specs.Machine.{Prog, heads, empty}
-use Rattle.loft_shape.specs.declared.raw.RawBlock.{RawBlock}
-use Rattle.loft_shape.specs.Told.{Report}
-use Rattle.loft_shape.specs.Text.{head_text, block_text}
-use Rattle.loft_shape.specs.Report.{Shape, longest}
-use Rattle.loft_reader.specs.Answer.{Fault}
-use Rattle.loft_reader.specs.declared.error.LogError.TheVariants as log
+use Rattle.loft_report_shape.specs.declared.raw.RawBlock.{RawBlock}
+use Rattle.loft_report_shape.specs.Told.{Report}
+use Rattle.loft_report_shape.specs.Text.{head_text, block_text}
+use Rattle.loft_report_shape.specs.Report.{Shape, longest}
+use Rattle.loft_report_reader.specs.Answer.{Fault}
+use Rattle.loft_report_reader.specs.declared.error.LogError.TheVariants as log
 use Rattle.loft_replay_error.specs.Difference.{DifferAt}
 use Rattle.loft_replay_error.specs.declared.error.ReplayError.{ReplayError}
 use Rattle.loft_replay_error.specs.declared.error.ReplayError.TheVariants.{Log, NotAllowed, Differs, NoMemory}

@@ -9,8 +9,8 @@ use Rattle.loft_sense.specs.Machine.{Prog, heads, Mach}
 use Rattle.loft_sense.specs.Instant.{instant}
 use Rattle.loft_history.specs.Report.{instants_lines}
 use Rattle.loft_history.specs.History.{has_turn}
-use Rattle.loft_text.specs.declared.line.LineBuffer.{LineBuffer}
-use Rattle.loft_text.specs.Buffer.{Adds}
+use Rattle.loft_value_text.specs.declared.line.LineBuffer.{LineBuffer}
+use Rattle.loft_value_text.specs.Buffer.{Adds}
 use Rattle.loft_block_replay.specs.Block.{IsNext, Follow, FailsAt}
 
 -- the state after instants on these batches, and their notes

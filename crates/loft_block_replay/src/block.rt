@@ -6,7 +6,7 @@ ghost use Rattle.loft_orders.specs.Lines.{text_of};
 ghost use Rattle.loft_sense.specs.Machine.{empty};
 ghost use Rattle.loft_history.specs.Report.{final_lines};
 ghost use Rattle.loft_standing.specs.Stops.{tree_of};
-ghost use Rattle.loft_text.specs.Buffer.{Adds};
+ghost use Rattle.loft_value_text.specs.Buffer.{Adds};
 ghost use Rattle.loft_block_replay.specs.Outcomes.{Ends};
 
 use crate::instants::replay_instants;
@@ -15,7 +15,7 @@ use loft_block_text::{push_block_start, push_final};
 use loft_place::Placed;
 use loft_plain::PlainEngine;
 use loft_sense::Engine;
-use loft_text::LineBuffer;
+use loft_value_text::LineBuffer;
 use std::alloc::Global;
 
 /// What becomes of the instants of a block.

@@ -14,7 +14,7 @@ use loft_instant_text::push_instant;
 use loft_orders::Orders;
 use loft_place::Placed;
 use loft_sense::Engine;
-use loft_text::LineBuffer;
+use loft_value_text::LineBuffer;
 use std::alloc::Global;
 
 /// Whether the scheduler makes an instant on this batch (docs/SEMANTICS.md, "Rest").

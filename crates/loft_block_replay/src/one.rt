@@ -4,11 +4,11 @@ ghost use Rattle.std.specs.Prelude.{◌≡◌, ◌<◌, ◌≤◌, ℕ, List, le
 ghost use Rattle.std.specs.List.{position};
 ghost use Rattle.std.specs.Str.{bytes_eq};
 ghost use Rattle.loft_standing.specs.Stops.{tree_of};
-ghost use Rattle.loft_shape.specs.Told.{Report};
-ghost use Rattle.loft_shape.specs.Report.{Shape, StopsAt, longest};
-ghost use Rattle.loft_reader.specs.Answer.{report_in};
-ghost use Rattle.loft_reader.specs.Log.{error_at};
-ghost use Rattle.loft_reader.specs.declared.error.LogError.TheVariants.{TooLong};
+ghost use Rattle.loft_report_shape.specs.Told.{Report};
+ghost use Rattle.loft_report_shape.specs.Report.{Shape, StopsAt, longest};
+ghost use Rattle.loft_report_reader.specs.Answer.{report_in};
+ghost use Rattle.loft_report_reader.specs.Log.{error_at};
+ghost use Rattle.loft_report_reader.specs.declared.error.LogError.TheVariants.{TooLong};
 ghost use Rattle.loft_replay_error.specs.declared.error.ReplayError.{ReplayError};
 ghost use Rattle.loft_replay_error.specs.declared.error.ReplayError.TheVariants.{Log};
 ghost use Rattle.loft_block_replay.specs.Answer.{index_of_block, IsAnswer, HasCause, Gives, in_range, seen, TextCause};
@@ -17,10 +17,10 @@ use crate::block::{Outcome, replay_block};
 use loft_base::SchedId;
 use loft_place::Placed;
 use loft_raw_block::{first_difference, offset_after};
-use loft_reader::{RawReport, read_report};
 use loft_replay_error::ReplayError;
 use loft_report_options::options_of_reports_are_in_range;
-use loft_shape::{RawBlock, reports_have_one_text};
+use loft_report_reader::{RawReport, read_report};
+use loft_report_shape::{RawBlock, reports_have_one_text};
 use std::alloc::Global;
 
 /// The index of the first block of this name.

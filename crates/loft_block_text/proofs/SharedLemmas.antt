@@ -13,7 +13,7 @@ use Rattle.loft_sense.specs.Heads.{shared_from}
 use Rattle.loft_orders.specs.Text.{space, name_or_none}
 use Rattle.loft_orders.specs.Lines.{text_of}
 use Rattle.loft_history.specs.Report.{shared_lines}
-use Rattle.loft_text.specs.Appending.{Appends}
+use Rattle.loft_value_text.specs.Appending.{Appends}
 use Rattle.loft_instant_text.proofs.Appended.{Still}
 use Rattle.loft_instant_text.proofs.Lists.{drop-at}
 

@@ -2,7 +2,7 @@
 
 ghost use Rattle.std.specs.Prelude.{◌++◌, map, codes};
 ghost use Rattle.std.specs.Fmt.{signed_decimal};
-ghost use Rattle.loft_text.specs.Appending.{Appends};
+ghost use Rattle.loft_value_text.specs.Appending.{Appends};
 ghost use Rattle.loft_orders.specs.Text.{space};
 ghost use Rattle.loft_orders.specs.Lines.{text_of};
 ghost use Rattle.loft_sense.specs.Heads.{shared_of};
@@ -11,8 +11,8 @@ ghost use Rattle.loft_history.specs.Report.{standing_line, shared_lines, final_l
 use loft_base::SchedId;
 use loft_instant_text::push_thread;
 use loft_orders::{FinalState, Standing};
-use loft_text::TextWriter;
 use loft_tree::Heads;
+use loft_value_text::TextWriter;
 
 /// The final state of a scheduler's block: how many threads are linked, each with its state, and the scheduler's shared
 /// variables with their values (docs/REPORT.md, "The final state").

@@ -1,12 +1,12 @@
 //! The first line of a block.
 
 ghost use Rattle.std.specs.Prelude.{◌++◌, ◌∷◌, []};
-ghost use Rattle.loft_text.specs.Appending.{Appends};
+ghost use Rattle.loft_value_text.specs.Appending.{Appends};
 ghost use Rattle.loft_orders.specs.Lines.{scheduler_line};
 
 use loft_base::SchedId;
-use loft_text::{TextWriter, push_scheduler_name};
 use loft_tree::Heads;
+use loft_value_text::{TextWriter, push_scheduler_name};
 
 /// The first line of a scheduler's block (docs/REPORT.md, "The report").
 pub fn push_block_start<W: TextWriter>(text: &mut W, heads: &Heads, s: SchedId)

@@ -13,8 +13,8 @@ use Rattle.loft_orders.specs.declared.order.Order.TheVariants as order
 use Rattle.loft_orders.specs.declared.order.Sent.{Sent}
 use Rattle.loft_history.specs.History.{starts_of}
 use Rattle.loft_history.specs.History.{sent_in}
-use Rattle.loft_stand.proofs.ListLemmas.{each_map, all_of, each_of}
-use Rattle.loft_stand.proofs.NumberLemmas.{is_numbered}
+use Rattle.loft_soundness.proofs.ListLemmas.{each_map, all_of, each_of}
+use Rattle.loft_soundness.proofs.NumberLemmas.{is_numbered}
 use Rattle.loft_budget.specs.Bounds.{HasBound, MakesBounded}
 use Rattle.loft_budget.specs.declared.verdict.Verdict.{Verdict}
 use Rattle.loft_budget.specs.declared.verdict.Verdict.TheVariants.{Bound}

@@ -3,15 +3,15 @@
 ghost use Rattle.std.specs.Prelude.{◌<◌, ◌^◌, length, IfOk};
 ghost use Rattle.loft_tree.specs.ProgramView.{program_of};
 ghost use Rattle.loft_orders.specs.Lines.{text_of};
-ghost use Rattle.loft_text.specs.Buffer.{Adds};
+ghost use Rattle.loft_value_text.specs.Buffer.{Adds};
 ghost use Rattle.loft_bound.specs.BoundText.{place_line, verdict_line, verdict_lines, IsBoundText};
 
 use crate::verdicts::bounds;
 use loft_base::{ModuleId, NoMemory};
 use loft_budget::Verdict;
 use loft_place::Placed;
-use loft_text::{LineBuffer, push_module_name};
 use loft_tree::Heads;
+use loft_value_text::{LineBuffer, push_module_name};
 use std::alloc::Global;
 
 /// A word, the module, and where.

@@ -20,10 +20,10 @@ use Rattle.loft_sense.specs.Run.{Outcome, Held, Left, Ended}
 use Rattle.loft_sense.specs.Passes.{run_of}
 use Rattle.loft_sense.specs.Instant.{sent_by}
 use Rattle.loft_sense.specs.Async.{alone, block_sent, async}
-use Rattle.loft_stand.specs.Numbered.{IsNumbered}
-use Rattle.loft_stand.proofs.ListLemmas.{each_append}
-use Rattle.loft_sends.specs.Adds.{IsPlain, IsPlainAct, RunAdds}
-use Rattle.loft_sends.proofs.RunAdds.{run_adds}
+use Rattle.loft_soundness.specs.Numbered.{IsNumbered}
+use Rattle.loft_soundness.proofs.ListLemmas.{each_append}
+use Rattle.loft_conservation.specs.Adds.{IsPlain, IsPlainAct, RunAdds}
+use Rattle.loft_conservation.proofs.RunAdds.{run_adds}
 use Rattle.loft_budget.specs.Bounds.{bound_of, steps_within, outermost, HasNoBound, OverOf, OrderOverOf}
 use Rattle.loft_budget.proofs.Order.{within_more}
 use Rattle.loft_budget.proofs.Runs.{run_goes_well}

@@ -34,9 +34,9 @@ use Rattle.loft_history.specs.Clients.{orders_from}
 use Rattle.loft_history.specs.History.{sends, sent_in, log, is_addressed, orders_to, starts_from, starts_of, job_before, jobs_sent, replayed}
 use Rattle.loft_history.specs.Legal.{actor_of, AtEach, IsDeclared, IsCallersOrder, IsCallersEntry, ComesNext}
 use Rattle.loft_history.proofs.HistoryLemmas.{is_same}
-use Rattle.loft_stand.specs.Numbered.{IsNumbered}
-use Rattle.loft_stand.proofs.ListLemmas.{each_append, each_parts, each_map}
-use Rattle.loft_stand.proofs.HistoryWalk.{Claims, AreKept, HistoryHolds, ComesSo, picked_holds, history_holds}
+use Rattle.loft_soundness.specs.Numbered.{IsNumbered}
+use Rattle.loft_soundness.proofs.ListLemmas.{each_append, each_parts, each_map}
+use Rattle.loft_soundness.proofs.HistoryWalk.{Claims, AreKept, HistoryHolds, ComesSo, picked_holds, history_holds}
 use Rattle.loft_budget.specs.Bounds.{ActOverBy, OrderOverOf}
 use Rattle.loft_budget.proofs.Threads.{Goes, Known, CarryIs, MakeIs, OrderIs, SentIs, ActEndIs, MachIs}
 use Rattle.loft_budget.proofs.Instants.{instant_is}

@@ -32,11 +32,11 @@ use Rattle.loft_sense.specs.Tree.{body_then, body_at}
 use Rattle.loft_sense.specs.Passes.{Runner, run_of, is_ready, runners_after, around_after, passes}
 use Rattle.loft_sense.specs.Apply.{Applied, new_thread, with_last, is_linked, without_first, suspend, tell_end, apply_order, apply_orders, unapplied, apply}
 use Rattle.loft_sense.specs.Instant.{runner_of, around_of, closed_wait, closed, stays, leaver, leavers, sent_by, instant}
-use Rattle.loft_stand.specs.Numbered.{IsNumbered}
-use Rattle.loft_stand.specs.Left.{begins}
-use Rattle.loft_stand.proofs.ListLemmas.{each_append}
-use Rattle.loft_sends.specs.Adds.{IsPlain, IsPlainAct, Adds, RunAdds}
-use Rattle.loft_sends.proofs.RunAdds.{run_adds}
+use Rattle.loft_soundness.specs.Numbered.{IsNumbered}
+use Rattle.loft_soundness.specs.Left.{begins}
+use Rattle.loft_soundness.proofs.ListLemmas.{each_append}
+use Rattle.loft_conservation.specs.Adds.{IsPlain, IsPlainAct, Adds, RunAdds}
+use Rattle.loft_conservation.proofs.RunAdds.{run_adds}
 use Rattle.loft_budget.specs.declared.steps.Steps.{Steps}
 use Rattle.loft_budget.specs.Steps.{only_through, followed, body_steps}
 use Rattle.loft_budget.specs.Bounds.{bound_of, steps_within, outermost, HasNoBound, IsAmong, OverBy, ActOverBy}
@@ -49,7 +49,7 @@ use Rattle.loft_budget.proofs.EffectEnds.{IsNoOver}
 use Rattle.loft_budget.proofs.Threads.{If as IfBounded, Goes as GoesWithin, Safe as SafeWithin, Holds as HoldsWithin, OutcomeIs as OutcomeWithin, run_is, no_bound, Known as KnownBy, Linked as LinkedBy, EndIs as EndBy, CarryIs as CarryBy, OrderIs as OrderBy, SentIs as SentBy, ActEndIs as ActEndBy, MachIs}
 use Rattle.loft_sense.specs.Moments.{Moment, IsKeptByRuns}
 use Rattle.loft_sense.proofs.MomentLemmas.{kept_by_passes}
-use Rattle.loft_stand.proofs.CarryLemmas.{each_parted}
+use Rattle.loft_soundness.proofs.CarryLemmas.{each_parted}
 
 -- E: what is known of a thread by its id and its outermost module, as it is made
 module _ (p : Resolved) (limits : Limits) (E : ThreadId → Option ModuleId → Type 0) where

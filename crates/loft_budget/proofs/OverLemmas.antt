@@ -27,9 +27,9 @@ use Rattle.loft_history.specs.History.{sent_in, log, starts_of, replayed}
 use Rattle.loft_history.specs.Legal.{actor_of, AtEach, IsDeclared, IsLegal, ComesNext}
 use Rattle.loft_history.proofs.AtEachLemmas.{at_each_before}
 use Rattle.loft_history.proofs.LegalEntries.{legal_exactly}
-use Rattle.loft_stand.specs.Numbered.{IsNumbered}
-use Rattle.loft_stand.proofs.HistoryWalk.{HistoryHolds}
-use Rattle.loft_stand.proofs.ListLemmas.{each_map, all_of, each_of}
+use Rattle.loft_soundness.specs.Numbered.{IsNumbered}
+use Rattle.loft_soundness.proofs.HistoryWalk.{HistoryHolds}
+use Rattle.loft_soundness.proofs.ListLemmas.{each_map, all_of, each_of}
 use Rattle.loft_budget.specs.Bounds.{IsBounded, ActOverBy, OrderOverOf, MakesBounded, Spares, OrderSpares, ActSpares}
 use Rattle.loft_budget.proofs.Threads.{CarryIs, MakeIs, SentIs, EndIs, ActEndIs}
 use Rattle.loft_budget.proofs.Histories.{Makes, claims, holds, took, instant_over, block_over, notes_end}

@@ -16,9 +16,9 @@ use Rattle.loft_sense.specs.Eval.{eval, eval_all, number_of, is_true}
 use Rattle.loft_sense.specs.Statements.{Effect, GoesOn, Waits, Leaves, Dies, begun, answered}
 use Rattle.loft_sense.specs.Run.{Next, Finish, Stuck, Acts, Advances, Tests, Counts, Holds, Runs, Active, Outcome, Held, Left, Ended, ends, if_finish, live, frame_of, thread_of, effect_on, test_on, count_on, run_on, begun_frame, stopped, step, step_on, no_step, going, point_of, active_of, actives_of, go_on, go, here, beside}
 use Rattle.loft_sense.specs.Tree.{Work, Begin, Again, Turns, body_then, next_begin, next_work, counts_in, body_at, after, tree}
-use Rattle.loft_stand.specs.Numbered.{IsNumbered}
-use Rattle.loft_stand.specs.Left.{LeadsTo, IsLeft, begins, goes_on as leads_on, LeavesAfter}
-use Rattle.loft_stand.proofs.LeftLemmas.{leaves_after}
+use Rattle.loft_soundness.specs.Numbered.{IsNumbered}
+use Rattle.loft_soundness.specs.Left.{LeadsTo, IsLeft, begins, goes_on as leads_on, LeavesAfter}
+use Rattle.loft_soundness.proofs.LeftLemmas.{leaves_after}
 use Rattle.loft_budget.specs.declared.steps.Steps.{Steps}
 use Rattle.loft_budget.specs.Steps.{only_through, surely, followed, one_more, pause_steps, body_steps}
 use Rattle.loft_budget.proofs.Order.{Less, less_refl, less_trans, followed_less, one_more_less, followed_twice, nothing_first, nothing_last, two_first, push, Within, within_less, within_step, one_more_above, after_sure, HasWay, way_followed, way_one_more, no_step_left}

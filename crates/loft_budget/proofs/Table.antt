@@ -5,7 +5,7 @@ use Rattle.std.proofs.lemmas.Bool.{and_parts}
 use Rattle.loft_base.specs.declared.ids.ModuleId.{ModuleId}
 use Rattle.loft_tree.specs.Resolved.{Step, Do, Hold, Call, Choose, Loop, Times, Body, Empty, Then, Resolved}
 use Rattle.loft_sense.specs.Tree.{body_at}
-use Rattle.loft_stand.specs.Numbered.{StepNumbered, BodyNumbered, IsNumbered}
+use Rattle.loft_soundness.specs.Numbered.{StepNumbered, BodyNumbered, IsNumbered}
 use Rattle.loft_budget.specs.declared.steps.Steps.{Steps}
 use Rattle.loft_budget.specs.Steps.{plus, followed, either, one_more, loop_steps, literal, times_steps, steps_or_none, step_steps, body_steps}
 use Rattle.loft_budget.specs.Bounds.{step_runs_bounded, runs_bounded, step_loops_end, loops_end, or_zero, bound_of, most_bound, bounded_steps, steps_within}

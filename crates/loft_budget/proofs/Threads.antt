@@ -22,7 +22,7 @@ use Rattle.loft_sense.specs.Around.{Around}
 use Rattle.loft_sense.specs.CanGo.{count_of, is_over}
 use Rattle.loft_sense.specs.Run.{Outcome, Held, Left, Ended}
 use Rattle.loft_sense.specs.Passes.{run_of}
-use Rattle.loft_stand.specs.Numbered.{IsNumbered}
+use Rattle.loft_soundness.specs.Numbered.{IsNumbered}
 use Rattle.loft_budget.specs.declared.steps.Steps.{Steps}
 use Rattle.loft_budget.specs.Bounds.{bound_of, steps_within, outermost, IsBounded, HasNoBound}
 use Rattle.loft_budget.proofs.Runs.{Rests, HasSteps, HeldWell, GoesWell, run_goes_well}

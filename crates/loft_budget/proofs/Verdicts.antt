@@ -15,7 +15,7 @@ use Rattle.loft_budget.specs.Bounds.{step_runs_bounded, runs_bounded, step_loops
 use Rattle.loft_budget.specs.declared.verdict.Verdict.{Verdict}
 use Rattle.loft_budget.specs.declared.verdict.Verdict.TheVariants.{Bound, Recursive, Runs, Endless, Large}
 use Rattle.loft_budget.specs.Verdicts.{RunAt, runs_of, runs_in, endless_if, endless_of, endless_in, statements_or_none, statements_at, RunsIt, Reaches, runs, on, FirstRun, IsRecursive, IsUnbounded, RunsBounded, endless_at, steps_at, IsVerdict}
-use Rattle.loft_stand.proofs.ListLemmas.{within_some}
+use Rattle.loft_soundness.proofs.ListLemmas.{within_some}
 use Rattle.loft_budget.proofs.Table.{both_true, some_there, body_same, Asked, asked, answered, one_deeper}
 
 -- ---- lists

@@ -17,7 +17,7 @@ ghost use Rattle.loft_sense.specs.Instant.{instant, replay};
 ghost use Rattle.loft_sense.specs.Async.{async};
 ghost use Rattle.loft_history.specs.History.{log, starts_of, replayed};
 ghost use Rattle.loft_history.specs.Legal.{IsLegal};
-ghost use Rattle.loft_stand.specs.Numbered.{IsNumbered};
+ghost use Rattle.loft_soundness.specs.Numbered.{IsNumbered};
 ghost use Rattle.loft_history.specs.History.{sent_in};
 ghost use Rattle.loft_budget.specs.Bounds.{ActOverBy, OrderOverOf};
 ghost use Rattle.loft_budget.specs.Bounds.{HasBound, MakesBounded, OrderSpares, ActSpares};

@@ -2,11 +2,11 @@
 
 ghost use Rattle.loft_history.specs.History.{choice_of};
 ghost use Rattle.loft_history.specs.Report.{choice_line};
-ghost use Rattle.loft_text.specs.Buffer.{Holds};
+ghost use Rattle.loft_value_text.specs.Buffer.{Holds};
 
 use loft_orders::Entry;
-use loft_text::{LineBuffer, push_client_name, push_scheduler_name};
 use loft_tree::Heads;
+use loft_value_text::{LineBuffer, push_client_name, push_scheduler_name};
 
 /// Makes the line of the choice by which an entry came, in place of what stands in the buffer.
 pub fn make_choice_line(line: &mut LineBuffer, heads: &Heads, entry: &Entry)

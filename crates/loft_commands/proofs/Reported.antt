@@ -13,7 +13,7 @@ use Rattle.loft_orders.specs.Lines.{text_of}
 use Rattle.loft_history.specs.Report.{head_lines, report}
 use Rattle.loft_world.specs.declared.results.Finished.{Finished}
 use Rattle.loft_world.specs.Replay.{IsReplayOf}
-use Rattle.loft_turns.specs.Running.{IsWholeRun}
+use Rattle.loft_course.specs.Running.{IsWholeRun}
 use Rattle.loft_log.specs.WorldReport.{world_report}
 use Rattle.loft_commands.specs.Promise.{BeginsWith, IsReport}
 

@@ -5,7 +5,7 @@ use Rattle.loft_refusal.specs.declared.refusal.Refusal.{Refusal}
 use Rattle.loft_refusal.specs.declared.refusal.Refusal.TheVariants as refusal
 use Rattle.loft_refusal.specs.Input.{Input, ASource, AListing, AnExpansion}
 use Rattle.loft_refusal.specs.Refusals.{Well, IsCause, line_of}
-use Rattle.loft_words.specs.Command.{FileCommand, Run, Exec, Show, Check, Compile, Bound, Expand}
+use Rattle.loft_arguments.specs.Command.{FileCommand, Run, Exec, Show, Check, Compile, Bound, Expand}
 
 -- what is asked of a source, of one whose names and links have to be correct, of a listing, and of a text with locks
 abbrev pub asks_source : Refusal → Type 0

@@ -4,7 +4,7 @@ use Rattle.loft_refusal.specs.Input.{Input}
 use Rattle.loft_refusal.specs.declared.refusal.Refusal.{Refusal}
 use Rattle.loft_refusal.specs.declared.refusal.Stopped.{Stopped}
 use Rattle.loft_refusal.specs.declared.refusal.Stopped.TheVariants as stopped
-use Rattle.loft_words.specs.Command.{FileCommand}
+use Rattle.loft_arguments.specs.Command.{FileCommand}
 use Rattle.loft_commands.specs.Written.{Appends, IsPrefix, HasNoRoom}
 use Rattle.loft_refusal.specs.Refusals.{IsTextOf, IsRefusedFor, IsCause}
 use Rattle.loft_commands.specs.Asks.{Asks, Takes}

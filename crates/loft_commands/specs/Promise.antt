@@ -16,7 +16,7 @@ use Rattle.loft_history.specs.Report.{head_lines, report}
 use Rattle.loft_translation.specs.Compiled.{compiled}
 use Rattle.loft_listing.specs.Listing.{listing_text}
 use Rattle.loft_bound.specs.BoundText.{IsBoundText}
-use Rattle.loft_words.specs.Command.{FileCommand, Run, Exec, Show, Check, Compile, Bound, Expand}
+use Rattle.loft_arguments.specs.Command.{FileCommand, Run, Exec, Show, Check, Compile, Bound, Expand}
 use Rattle.loft_refusal.specs.Input.{Input, ASource, AListing, AnExpansion}
 use Rattle.loft_commands.specs.Written.{IsLine}
 use Rattle.loft_refusal.specs.Refusals.{IsTextOf}

@@ -2,15 +2,15 @@
 
 ghost use Rattle.std.specs.Prelude.{◌≢◌, ◌≤◌, Err, IsTrue, IsErrOf};
 ghost use Rattle.loft_base.specs.Outside.{Rose};
-ghost use Rattle.loft_words.specs.Command.{file_of};
-ghost use Rattle.loft_words.specs.Ranges.{KeepsRanges};
-ghost use Rattle.loft_words.specs.CommandView.{file_command_of};
+ghost use Rattle.loft_arguments.specs.Command.{file_of};
+ghost use Rattle.loft_arguments.specs.Ranges.{KeepsRanges};
+ghost use Rattle.loft_arguments.specs.CommandView.{file_command_of};
 ghost use Rattle.loft_commands.specs.Doing.{AttemptsTo};
 
 use crate::command::{check, exec, list_code, run, show_text, tell_bounds};
+use loft_arguments::FileCommand;
 use loft_base::{Files, Gate, Sink};
 use loft_refusal::{Stopped, expand_program, read_code, read_program};
-use loft_words::FileCommand;
 use std::alloc::Global;
 use std::sync::Wait;
 use std::thread::Threads;

@@ -9,7 +9,7 @@ ghost use Rattle.loft_code.specs.View.{automata_of};
 ghost use Rattle.loft_sense.specs.Machine.{Tree};
 ghost use Rattle.loft_translation.specs.Compiled.{compiled};
 ghost use Rattle.loft_listing.specs.Listing.{listing_text};
-ghost use Rattle.loft_words.specs.Command.{Run, Exec, Show, Check, Compile, Bound, Expand};
+ghost use Rattle.loft_arguments.specs.Command.{Run, Exec, Show, Check, Compile, Bound, Expand};
 ghost use Rattle.loft_base.specs.Options.{AreInRange};
 ghost use Rattle.loft_commands.specs.Written.{Appends, IsPrefix, HasNoRoom};
 ghost use Rattle.loft_refusal.specs.Input.{ASource, AListing, AnExpansion};

@@ -4,7 +4,7 @@ use Rattle.std.specs.Prelude.{take, drop, None, Some}
 use Rattle.std.proofs.lemmas.Bool.{eqb-true}
 use Rattle.std.proofs.lemmas.List.{append-nil, append_assoc, take-append-drop, length-drop}
 use Rattle.std.proofs.Math.Seq.{drop-cons, take-add, take-length}
-use Rattle.loft_shape.specs.Grammar.{head_is}
+use Rattle.loft_report_shape.specs.Grammar.{head_is}
 use Rattle.loft_replay_error.specs.Difference.{IsDifference}
 use Rattle.loft_compared.specs.Comparisons.{Compared, compared, is_stop, IsComparison, WasPut, IsOneMore, Follows}
 use Rattle.loft_compared.specs.declared.found.Found.{Found}

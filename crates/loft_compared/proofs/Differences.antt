@@ -4,7 +4,7 @@ use Rattle.std.specs.Prelude.{take, drop}
 use Rattle.std.proofs.lemmas.List.{append-nil, take-append-drop, length-take-le}
 use Rattle.std.proofs.lemmas.Bool.{eqb-false}
 use Rattle.std.proofs.Math.Seq.{take-append_seam, take-append-add, take-length}
-use Rattle.loft_shape.specs.Grammar.{head_is}
+use Rattle.loft_report_shape.specs.Grammar.{head_is}
 use Rattle.loft_replay_error.specs.Difference.{DifferAt}
 
 cancel : (p a b : List ℕ) → p ++ a ≡ p ++ b → a ≡ b

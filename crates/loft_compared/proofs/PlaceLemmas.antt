@@ -2,13 +2,13 @@
 use Rattle.std.proofs.Common.{◌≡◌, ◌≢◌, ℕ, ◌≤◌, ◌<◌, ◌==◌, true, false, get_or, arith, List, [], ◌∷◌, ◌++◌, append_assoc, length, codes, refl, sym, ap, ◌∙◌}
 use Rattle.std.specs.Fmt.{decimal}
 use Rattle.std.specs.List.{flat_map}
-use Rattle.loft_shape.specs.Word.{spelling}
-use Rattle.loft_shape.specs.Told.{Report}
-use Rattle.loft_shape.specs.Text.{line_of, choice_text, block_text, text_of}
-use Rattle.loft_shape.specs.declared.raw.Choice.{Choice}
-use Rattle.loft_shape.specs.declared.raw.Choice.TheVariants as choice
-use Rattle.loft_shape.specs.declared.raw.RawBlock.{RawBlock}
-use Rattle.loft_shape.specs.declared.word.Word.TheVariants as word
+use Rattle.loft_report_shape.specs.Word.{spelling}
+use Rattle.loft_report_shape.specs.Told.{Report}
+use Rattle.loft_report_shape.specs.Text.{line_of, choice_text, block_text, text_of}
+use Rattle.loft_report_shape.specs.declared.raw.Choice.{Choice}
+use Rattle.loft_report_shape.specs.declared.raw.Choice.TheVariants as choice
+use Rattle.loft_report_shape.specs.declared.raw.RawBlock.{RawBlock}
+use Rattle.loft_report_shape.specs.declared.word.Word.TheVariants as word
 use Rattle.loft_compared.specs.Places.{options_text, joined, BeginsFilled}
 
 regroup : (a i b c w h cs bl left end : List ℕ)

@@ -1,7 +1,7 @@
 -- What a comparison has found, and what it shows.
 use Rattle.std.specs.Prelude.{◌≡◌, ℕ, ◌≤◌, ◌⊎◌, Bool, true, false, List, [], ◌∷◌, ◌++◌, length, take, drop}
 use Rattle.loft_base.specs.Outside.{last_count}
-use Rattle.loft_shape.specs.Grammar.{head_is}
+use Rattle.loft_report_shape.specs.Grammar.{head_is}
 use Rattle.loft_compared.specs.declared.found.Found.{Found}
 use Rattle.loft_compared.specs.declared.found.Found.TheVariants as found
 

@@ -3,9 +3,9 @@ use Rattle.std.specs.Prelude.{◌≡◌, ◌≢◌, ℕ, List, [], ◌∷◌, �
 use Rattle.std.specs.List.{flat_map}
 use Rattle.std.specs.Fmt.{decimal}
 use Rattle.loft_base.specs.declared.options.RunOptions.{RunOptions}
-use Rattle.loft_shape.specs.Word.{spelling}
-use Rattle.loft_shape.specs.Text.{line_of, choice_text, block_text}
-use Rattle.loft_shape.specs.declared.word.Word.TheVariants as word
+use Rattle.loft_report_shape.specs.Word.{spelling}
+use Rattle.loft_report_shape.specs.Text.{line_of, choice_text, block_text}
+use Rattle.loft_report_shape.specs.declared.word.Word.TheVariants as word
 use Rattle.loft_compared.specs.declared.place.Head.{Head}
 use Rattle.loft_compared.specs.declared.place.Piece.{Piece}
 use Rattle.loft_compared.specs.declared.place.Piece.TheVariants as piece

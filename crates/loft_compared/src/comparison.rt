@@ -1,8 +1,8 @@
 //! A sink that compares.
 
 ghost use Rattle.std.specs.Prelude.{◌≡◌, [], ◌++◌, IfOk, ℕ, List, true, false};
-ghost use Rattle.loft_shape.specs.Text.{text_of};
-ghost use Rattle.loft_reader.specs.Answer.{report_in};
+ghost use Rattle.loft_report_shape.specs.Text.{text_of};
+ghost use Rattle.loft_report_reader.specs.Answer.{report_in};
 ghost use Rattle.loft_replay_error.specs.Difference.{IsDifference};
 ghost use Rattle.loft_compared.specs.Comparisons.{WasPut, IsOneMore, Follows};
 
@@ -11,7 +11,7 @@ use crate::known_text::KnownText;
 use crate::place::Place;
 use crate::walk::Walk;
 use loft_base::{Failed, NoMemory, Sink};
-use loft_reader::RawReport;
+use loft_report_reader::RawReport;
 use std::alloc::Global;
 use std::marker::{Model, PhantomData};
 

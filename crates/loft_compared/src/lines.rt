@@ -2,15 +2,15 @@
 
 ghost use Rattle.std.specs.Prelude.{[], ◌∷◌, ◌++◌};
 ghost use Rattle.std.specs.Fmt.{decimal};
-ghost use Rattle.loft_shape.specs.Text.{choice_text, line_of};
-ghost use Rattle.loft_shape.specs.declared.word.Word.TheVariants.{Scheduler};
-ghost use Rattle.loft_text.specs.Buffer.{Adds};
+ghost use Rattle.loft_report_shape.specs.Text.{choice_text, line_of};
+ghost use Rattle.loft_report_shape.specs.declared.word.Word.TheVariants.{Scheduler};
+ghost use Rattle.loft_value_text.specs.Buffer.{Adds};
 ghost use Rattle.loft_compared.specs.Places.{options_text};
 
 use crate::place::Head;
-use loft_shape::Choice;
-use loft_text::LineBuffer;
+use loft_report_shape::Choice;
 use loft_tree::Name;
+use loft_value_text::LineBuffer;
 
 /// Appends the line of a word and a number.
 fn push_number(line: &mut LineBuffer, word: &str, number: u64)

@@ -1,13 +1,13 @@
 //! Places in the text of a report: what is still to come of it, piece by piece.
 
 ghost use Rattle.std.specs.Prelude.{◌≡◌, ◌≢◌, [], ◌++◌, IfSome, IsNone};
-ghost use Rattle.loft_shape.specs.Text.{text_of};
-ghost use Rattle.loft_reader.specs.Answer.{report_in};
+ghost use Rattle.loft_report_shape.specs.Text.{text_of};
+ghost use Rattle.loft_report_reader.specs.Answer.{report_in};
 ghost use Rattle.loft_compared.specs.Places.{text_at, piece_text, joined, BeginsFilled, IsPastHead, IsPastBlocks};
 
 use loft_base::{RunOptions, Sequence};
-use loft_reader::RawReport;
-use loft_shape::{Choice, RawBlock};
+use loft_report_reader::RawReport;
+use loft_report_shape::{Choice, RawBlock};
 use loft_tree::Name;
 
 /// The options of a report, and how many choices it has.

@@ -7,7 +7,7 @@ ghost use Rattle.loft_compared.specs.Walks.{here, left_of};
 use crate::lines::{push_choice, push_options, push_scheduler};
 use crate::place::{Piece, Place};
 use loft_base::NoMemory;
-use loft_text::LineBuffer;
+use loft_value_text::LineBuffer;
 use std::alloc::Global;
 
 /// What comes after these bytes in a text that begins with them; none if it doesn't.

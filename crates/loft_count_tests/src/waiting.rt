@@ -11,7 +11,7 @@ use loft_base::{Limits, NoMemory, SchedId};
 use loft_code::{Code, validate};
 use loft_count::Steps;
 use loft_engine::CodeEngine;
-use loft_reading::read;
+use loft_listing_reader::read;
 use std::alloc::Global;
 use std::marker::Brand;
 use std::sync::ledger::{Blank, Ledger};

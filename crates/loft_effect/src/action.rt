@@ -15,8 +15,8 @@ use crate::scope::{Beside, Scope, number_if};
 use crate::value::thread_or;
 use loft_base::{Div, EventId, NoMemory, SchedId, Sequence, ThreadId, Value, Values};
 use loft_orders::{Act, End, Line, Order, SharedValues, To};
-use loft_text::{Item, LineBuffer};
 use loft_tree::{Action, Control, Heads, NamedCreation, NamedExpr, SharedText, Target};
+use loft_value_text::{Item, LineBuffer};
 use std::alloc::Global;
 
 /// The scheduler on whose board the event stands.

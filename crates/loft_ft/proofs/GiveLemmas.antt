@@ -26,8 +26,8 @@ use Rattle.loft_history.specs.History.{sent_in, creates}
 use Rattle.loft_history.specs.Legal.{actor_of, same_actor, of, FitsOne, IsFaithful}
 use Rattle.loft_history.proofs.GrowthLemmas.{own_grows}
 use Rattle.loft_history.proofs.OwnLemmas.{creates_own}
-use Rattle.loft_stand.specs.Machines.{SentFits}
-use Rattle.loft_stand.proofs.OrderLemmas.{one_fits}
+use Rattle.loft_soundness.specs.Machines.{SentFits}
+use Rattle.loft_soundness.proofs.OrderLemmas.{one_fits}
 use Rattle.loft_world.specs.State.{State, with_entry}
 use Rattle.loft_baton.specs.declared.knows.Own.{Own}
 use Rattle.loft_baton.specs.declared.knows.Knows.{Knows}

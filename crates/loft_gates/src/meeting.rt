@@ -2,7 +2,7 @@
 
 use loft_base::{Gate, Limits, RunOptions, SchedId, Turn};
 use loft_code::validate;
-use loft_reading::read;
+use loft_listing_reader::read;
 use loft_run::run_whole;
 use std::sync::Wait;
 use std::sync::atomic::{AtomicU64, Ordering};

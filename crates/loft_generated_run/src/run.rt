@@ -9,7 +9,7 @@ use loft_base::{Gate, Limits, NoMemory, RunOptions};
 use loft_compile::compile;
 use loft_history::made_histories_are_legal;
 use loft_run::run_whole;
-use loft_stand::programs_that_run_alike_agree;
+use loft_soundness::programs_that_run_alike_agree;
 use loft_summary::summary_text;
 use loft_translation::compiled_code_has_the_same_histories;
 use loft_world::Finished;

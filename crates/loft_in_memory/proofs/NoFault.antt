@@ -3,7 +3,7 @@ use Rattle.std.proofs.Common.{◌≡◌, ◌≢◌, ℕ, ◌≤◌, ◌⊎◌, i
 use Rattle.std.specs.Prelude.{option_and_then}
 use Rattle.std.specs.Option.{option_map}
 use Rattle.std.specs.List.{Contains}
-use Rattle.loft_words.specs.Command.{Command, OfFile, Replay, Gen, GenRun, file_of, files_of}
+use Rattle.loft_arguments.specs.Command.{Command, OfFile, Replay, Gen, GenRun, file_of, files_of}
 use Rattle.loft_commands.specs.Written.{HasNoRoom, IsLine}
 use Rattle.loft_top.specs.declared.status.Status.{Status}
 use Rattle.loft_top.specs.declared.status.Status.TheVariants as status

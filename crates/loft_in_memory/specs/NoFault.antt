@@ -1,7 +1,7 @@
 -- When a call over files and a sink in memory meets no fault (docs/OUTSIDE.md, "The outside").
 use Rattle.std.specs.Prelude.{◌≡◌, ℕ, ◌≤◌, Bool, List, ◌∷◌, [], ◌++◌, length, codes, Option, Some, None, IsTrue}
 use Rattle.std.specs.List.{Contains}
-use Rattle.loft_words.specs.Command.{Command, files_of}
+use Rattle.loft_arguments.specs.Command.{Command, files_of}
 use Rattle.loft_top.specs.declared.status.Status.{Status}
 use Rattle.loft_top.specs.declared.status.Status.TheVariants as status
 use Rattle.loft_top.specs.Reads.{contents_of}

@@ -1,6 +1,6 @@
 -- Parts that are appended one after the other.
 use Rattle.std.proofs.Common.{◌≡◌, ℕ, Bool, true, List, [], ◌++◌, sym, ap, ◌∙◌}
-use Rattle.loft_text.specs.Appending.{Appends}
+use Rattle.loft_value_text.specs.Appending.{Appends}
 
 -- one part and then another are both together
 pub appends_then : {W K : Type 0} (is_whole : W → Bool) (kept : W → K) (extended : K → List ℕ → K) → ((k : K) (a b : List ℕ) → extended k (a ++ b) ≡ extended (extended k a) b)

@@ -4,13 +4,13 @@ ghost use Rattle.std.specs.Prelude.{◌≡◌, ◌+◌, List, [], ◌∷◌, tru
 ghost use Rattle.loft_tree.specs.declared.heads.Heads.{Heads};
 ghost use Rattle.loft_orders.specs.declared.note.Ended.{Ended};
 ghost use Rattle.loft_orders.specs.Lines.{text_of, ends_at};
-ghost use Rattle.loft_text.specs.Appending.{Appends};
+ghost use Rattle.loft_value_text.specs.Appending.{Appends};
 ghost use Rattle.loft_instant_text.specs.Ends.{InOrderFrom, AreLeft, leading};
 
 use crate::lines::push_end_line;
 use loft_orders::Ended;
-use loft_text::TextWriter;
 use loft_tree::Heads;
+use loft_value_text::TextWriter;
 
 /// Whether ends stand in the order of their indexes. All that an instant's batch makes do.
 #[tactic(auto, using(crate::proofs::EndLemmas::from_next))]

@@ -1,15 +1,15 @@
 //! The text of an instant, and its length.
 
 ghost use Rattle.std.specs.Prelude.{◌≡◌, ◌-◌, ◌^◌, map, min, length};
-ghost use Rattle.loft_text.specs.Appending.{Appends};
+ghost use Rattle.loft_value_text.specs.Appending.{Appends};
 ghost use Rattle.loft_orders.specs.Lines.{text_of, batch_lines, leave_line, leave_lines, instant_lines};
 
 use crate::ends::{are_in_order, ends_from, push_ends};
 use crate::lines::{InOneLine, push_leave_line, push_order_line};
 use loft_base::SchedId;
 use loft_orders::{Ended, InstantNote, Mark, Order, Orders, Sent};
-use loft_text::{TextLength, TextWriter};
 use loft_tree::Heads;
+use loft_value_text::{TextLength, TextWriter};
 
 /// How long the text is that a report has of an instant (docs/REPORT.md, "An instant"), by its batch
 /// and what it did. Where it is longer than the largest number, that number. It takes no memory. Its

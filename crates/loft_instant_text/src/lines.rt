@@ -1,7 +1,7 @@
 //! The lines of an instant: each function appends one, without its line feed.
 
 ghost use Rattle.std.specs.Prelude.{◌++◌, ℕ, List, codes};
-ghost use Rattle.loft_text.specs.Appending.{Appends};
+ghost use Rattle.loft_value_text.specs.Appending.{Appends};
 ghost use Rattle.loft_tree.specs.declared.heads.Heads.{Heads};
 ghost use Rattle.loft_orders.specs.Text.{space, event_name, sent_value, id_text, order_text};
 ghost use Rattle.loft_orders.specs.Lines.{end_line, mark_word, receiver_name, leave_place, act_line, at_line, shared_line};
@@ -10,10 +10,10 @@ use crate::order_text::{push_order, push_sent_value};
 use crate::thread_text::push_thread;
 use loft_base::{EventId, ThreadId};
 use loft_orders::{Act, Change, End, Mark, Order, Sent, Thread, To};
-use loft_text::{
+use loft_tree::Heads;
+use loft_value_text::{
     TextWriter, push_end, push_event_name, push_id, push_scheduler_name, push_shared_name,
 };
-use loft_tree::Heads;
 
 /// An end.
 pub fn push_end_line<W: TextWriter>(line: &mut W, heads: &Heads, thread: ThreadId, end: End)

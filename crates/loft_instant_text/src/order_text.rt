@@ -1,14 +1,16 @@
 //! The texts of orders: each function appends one.
 
 ghost use Rattle.std.specs.Prelude.{◌++◌, codes};
-ghost use Rattle.loft_text.specs.Appending.{Appends};
+ghost use Rattle.loft_value_text.specs.Appending.{Appends};
 ghost use Rattle.loft_orders.specs.Text.{space, separated, module_name, event_name, id_text, value_text, end_text, sent_value, order_text};
 
 use crate::thread_text::push_thread;
 use loft_base::{EventId, ModuleId, ThreadId, Value};
 use loft_orders::{End, Order};
-use loft_text::{TextWriter, push_end, push_event_name, push_id, push_module_name, push_separated};
 use loft_tree::Heads;
+use loft_value_text::{
+    TextWriter, push_end, push_event_name, push_id, push_module_name, push_separated,
+};
 
 /// A value after the name of an event, where there is one.
 pub fn push_sent_value<W: TextWriter>(line: &mut W, value: Option<i64>)

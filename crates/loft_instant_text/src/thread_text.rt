@@ -2,14 +2,14 @@
 
 ghost use Rattle.std.specs.Prelude.{◌++◌, codes};
 ghost use Rattle.std.specs.Fmt.{signed_decimal};
-ghost use Rattle.loft_text.specs.Appending.{Appends};
+ghost use Rattle.loft_value_text.specs.Appending.{Appends};
 ghost use Rattle.loft_orders.specs.declared.thread.Wait.TheVariants.{Events};
 ghost use Rattle.loft_orders.specs.Text.{space, colon, id_text, left_text, events_word, wait_text, thread_text};
 
 use loft_base::{EventId, ThreadId};
 use loft_orders::{Thread, Wait};
-use loft_text::{TextWriter, push_id, push_separated, push_separated_by};
 use loft_tree::Heads;
+use loft_value_text::{TextWriter, push_id, push_separated, push_separated_by};
 
 /// The instants that are left of a wait, or a sign that there is no number.
 fn push_left<W: TextWriter>(line: &mut W, left: Option<i64>)

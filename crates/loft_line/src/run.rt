@@ -12,7 +12,7 @@ use crate::line::Line;
 use crate::slots::{enter, leave};
 use loft_base::NoMemory;
 use loft_count::Steps;
-use loft_counted::{CountedInterpreter, run_counted};
+use loft_counted_run::{CountedInterpreter, run_counted};
 use loft_effect::Around;
 use loft_ready::{from, tell_acts, tell_ends};
 use loft_sense::acts_tell_what_was_done;

@@ -14,7 +14,7 @@ use crate::state::State;
 use crate::step::instant;
 use loft_base::{Limits, NoMemory, SchedId, Sequence};
 use loft_count::Steps;
-use loft_counted::CountedInterpreter;
+use loft_counted_run::CountedInterpreter;
 use loft_instant::{Setting, own_of};
 use loft_orders::{FinalState, InstantNote, Orders};
 use loft_passes::Interpreter;

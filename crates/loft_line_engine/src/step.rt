@@ -25,7 +25,7 @@ use crate::state::State;
 use loft_base::{NoMemory, Sequence};
 use loft_board::Board;
 use loft_count::Steps;
-use loft_counted::CountedInterpreter;
+use loft_counted_run::CountedInterpreter;
 use loft_effect::{Around, tell_all};
 use loft_ended::Ended;
 use loft_instant::{Setting, changes, fitted, keep_values};

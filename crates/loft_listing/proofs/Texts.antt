@@ -16,9 +16,9 @@ use Rattle.loft_code.specs.Operations.{Operation, Do, Hold, Call, Branch, Enter,
 use Rattle.loft_show.specs.Canon as canon
 use Rattle.loft_show.specs.Canon.{lines_text, head_line, end_line, outside_line, brace_line, order_line, order_lines, space}
 use Rattle.loft_show.proofs.Texts.{lines_text-append}
-use Rattle.loft_rows.specs.Instructions.{instruction_text}
-use Rattle.loft_rows.specs.Rows as rows
-use Rattle.loft_rows.specs.Rows.{ListingLine, line_text}
+use Rattle.loft_listing_line.specs.Instructions.{instruction_text}
+use Rattle.loft_listing_line.specs.Rows as rows
+use Rattle.loft_listing_line.specs.Rows.{ListingLine, line_text}
 use Rattle.loft_listing.specs.Called.{called_head, called_variable, scheduler_declaration, event_declaration, shared_declaration, start_declaration, client_declaration}
 use Rattle.loft_listing.specs.Lines.{called_operation, operation_line, operation_lines, module_lines, declaration_lines, lines_if, item_lines, listing_lines}
 use Rattle.loft_listing.specs.Listing as listing

@@ -8,10 +8,10 @@ use Rattle.loft_tree.specs.declared.heads.HeadItem.{HeadItem}
 use Rattle.loft_tree.specs.declared.heads.HeadItem.TheVariants as item
 use Rattle.loft_tree.specs.declared.heads.Heads.{Heads}
 use Rattle.loft_code.specs.Operations.{Operation, Do, Hold, Call, Branch, Enter, Count, Turn, Jump, End, Line, Automata}
-use Rattle.loft_rows.specs.Instructions as instruction
-use Rattle.loft_rows.specs.Instructions.{Instruction}
-use Rattle.loft_rows.specs.Rows as rows
-use Rattle.loft_rows.specs.Rows.{ListingLine}
+use Rattle.loft_listing_line.specs.Instructions as instruction
+use Rattle.loft_listing_line.specs.Instructions.{Instruction}
+use Rattle.loft_listing_line.specs.Rows as rows
+use Rattle.loft_listing_line.specs.Rows.{ListingLine}
 use Rattle.loft_listing.specs.Called.{called_expression, called_action, called_pause, called_run, called_place, called_head, called_variable, scheduler_declaration, event_declaration, shared_declaration, start_declaration, client_declaration}
 use Rattle.loft_listing.specs.Listing.{operations_of}
 

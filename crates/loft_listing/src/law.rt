@@ -3,7 +3,7 @@
 ghost use Rattle.std.specs.Prelude.{◌≡◌};
 ghost use Rattle.std.specs.List.{flat_map};
 ghost use Rattle.loft_code.specs.Operations.{Automata};
-ghost use Rattle.loft_rows.specs.Rows.{line_text};
+ghost use Rattle.loft_listing_line.specs.Rows.{line_text};
 ghost use Rattle.loft_listing.specs.Lines.{listing_lines};
 ghost use Rattle.loft_listing.specs.Listing.{listing_text};
 

@@ -9,9 +9,9 @@ use Rattle.loft_tree.specs.declared.heads.Heads.{Heads}
 use Rattle.loft_tree.specs.Resolved.{Resolved}
 use Rattle.loft_sense.specs.Eval.{is_true}
 use Rattle.loft_sense.specs.Stands.{end_of, end_or_unlinked}
-use Rattle.loft_stand.specs.Numbered.{IsNumbered}
-use Rattle.loft_stand.specs.WellFormed.{IsPlacedTree}
-use Rattle.loft_stand.proofs.NumberLemmas.{is_numbered}
+use Rattle.loft_soundness.specs.Numbered.{IsNumbered}
+use Rattle.loft_soundness.specs.WellFormed.{IsPlacedTree}
+use Rattle.loft_soundness.proofs.NumberLemmas.{is_numbered}
 use Rattle.loft_locks.specs.Locks.{LockCall, Takes, Gives, Other, after_call}
 use Rattle.loft_locks.specs.LocksHold.{one}
 

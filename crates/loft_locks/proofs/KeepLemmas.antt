@@ -31,8 +31,8 @@ use Rattle.loft_sense.specs.CanGo.{has_any, is_index, is_known}
 use Rattle.loft_orders.specs.Text.{value_text}
 use Rattle.loft_sense.specs.Statements.{Effect, GoesOn, Waits, Leaves, Dies, set, set_if, if_value, most_entries, if_room, new_id, order_of, text_if, did, with_code, is_up, hold, gotten, begun, target_of, answered}
 use Rattle.loft_sense.specs.Stands.{place_after}
-use Rattle.loft_stand.specs.WorkFits.{TargetHasKind, ActionFits, PauseFits}
-use Rattle.loft_stand.proofs.ListLemmas.{each_append}
+use Rattle.loft_soundness.specs.WorkFits.{TargetHasKind, ActionFits, PauseFits}
+use Rattle.loft_soundness.proofs.ListLemmas.{each_append}
 use Rattle.loft_locks.specs.Locks.{Lock, Gives, Other, call_of, inside_at, IsAway, TargetKeeps, ActionKeeps, PauseKeeps, IsExpanded}
 use Rattle.loft_locks.specs.LocksHold.{one, held_in}
 use Rattle.loft_locks.proofs.ShareLemmas.{set_apart, rank_apart}

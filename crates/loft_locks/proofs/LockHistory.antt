@@ -40,14 +40,14 @@ use Rattle.loft_history.specs.Clients.{orders_from, outside_of}
 use Rattle.loft_history.specs.History.{sends, log, is_addressed, orders_to, starts_from, starts_of, waiting, job_before, jobs_sent, jobs, unposted, replayed}
 use Rattle.loft_history.specs.Legal.{actor_of, AtEach, IsLegal, IsNoCaller, HasNoCallers, IsCallersEntry, ComesNext}
 use Rattle.loft_history.proofs.LegalEntries.{legal_exactly}
-use Rattle.loft_stand.specs.Machines.{ThreadFits, MachFits, SentFits}
-use Rattle.loft_stand.specs.WellFormed.{IsPlacedTree}
-use Rattle.loft_stand.proofs.ListLemmas.{each_map, each_at, all_of, each_of}
-use Rattle.loft_stand.proofs.CarryLemmas.{each_both, each_first, each_second}
-use Rattle.loft_stand.proofs.OrderLemmas.{orders_fit, starts_fit, outside_fits}
-use Rattle.loft_stand.proofs.InstantLemmas.{instant_fits, async_fits, empty_fits}
-use Rattle.loft_stand.proofs.HistoryFits.{sent_stand}
-use Rattle.loft_stand.proofs.HistoryWalk.{Claims, AreKept, NoteHolds, BatchHolds, ReplayedHolds, HistoryHolds, begun_holds, one_more_holds, replay_holds, replayed_holds, waits_hold, jobs_hold, picked_holds, history_holds}
+use Rattle.loft_soundness.specs.Machines.{ThreadFits, MachFits, SentFits}
+use Rattle.loft_soundness.specs.WellFormed.{IsPlacedTree}
+use Rattle.loft_soundness.proofs.ListLemmas.{each_map, each_at, all_of, each_of}
+use Rattle.loft_soundness.proofs.CarryLemmas.{each_both, each_first, each_second}
+use Rattle.loft_soundness.proofs.OrderLemmas.{orders_fit, starts_fit, outside_fits}
+use Rattle.loft_soundness.proofs.InstantLemmas.{instant_fits, async_fits, empty_fits}
+use Rattle.loft_soundness.proofs.HistoryFits.{sent_stand}
+use Rattle.loft_soundness.proofs.HistoryWalk.{Claims, AreKept, NoteHolds, BatchHolds, ReplayedHolds, HistoryHolds, begun_holds, one_more_holds, replay_holds, replayed_holds, waits_hold, jobs_hold, picked_holds, history_holds}
 use Rattle.loft_locks.specs.Locks.{Lock, Other, call_of, OrderKeeps, is_inside, IsExpanded}
 use Rattle.loft_locks.specs.LocksHold.{insiders, held_in, OneHolds, IsLost, LockHolds, CarriesOutside, moments_in, threads_at, MomentHolds, after_instants, MachHolds, MachLost, StaysLost, LockKept}
 use Rattle.loft_locks.proofs.ShareLemmas.{first_held}

@@ -17,10 +17,10 @@ use Rattle.loft_sense.specs.Apply.{apply}
 use Rattle.loft_sense.specs.Instant.{runner_of, around_of, instant}
 use Rattle.loft_sense.specs.Fits.{Fits}
 use Rattle.loft_sense.proofs.MomentLemmas.{moments_run_by_run, moments_end, runs_keep, last_keeps}
-use Rattle.loft_stand.specs.Machines.{MachFits}
-use Rattle.loft_stand.specs.WellFormed.{IsPlacedTree}
-use Rattle.loft_stand.proofs.ListLemmas.{each_map, all_of}
-use Rattle.loft_stand.proofs.CarryLemmas.{each_parted}
+use Rattle.loft_soundness.specs.Machines.{MachFits}
+use Rattle.loft_soundness.specs.WellFormed.{IsPlacedTree}
+use Rattle.loft_soundness.proofs.ListLemmas.{each_map, all_of}
+use Rattle.loft_soundness.proofs.CarryLemmas.{each_parted}
 use Rattle.loft_locks.specs.Locks.{Lock, has_inside, inside_at, IsExpanded}
 use Rattle.loft_locks.specs.LocksHold.{one, insiders, OneHolds, IsLost, moments_in, threads_at, MomentLost, MachLost, StaysLost}
 use Rattle.loft_locks.proofs.KeepLemmas.{depth, OrderRuns, held_at}

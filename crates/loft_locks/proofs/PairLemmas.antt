@@ -9,8 +9,8 @@ use Rattle.loft_tree.specs.Resolved.{Pause, Step, Do, Hold, Call, Choose, Loop, 
 use Rattle.loft_sense.specs.Run.{Next, Finish, Stuck, Acts, Advances, Tests, Counts, Holds, Runs}
 use Rattle.loft_sense.specs.Tree.{Work, Begin, Again, Turns, body_then, next_begin, next_turn, next_work, first_some, at_stop, first_count, after_step, after_body, body_at}
 use Rattle.loft_sense.specs.Stands.{StopKind, Begins, Pauses, Calls, StopAt, leads_step, stop_in_step, stop_in}
-use Rattle.loft_stand.specs.Numbered.{stops_in, body_stops, StepNumbered, BodyNumbered}
-use Rattle.loft_stand.proofs.NumberLemmas.{elsewhere, found_here, neither, in_first, in_second, none_some, IsOutside, outside_left, outside_right, outside_one, apart}
+use Rattle.loft_soundness.specs.Numbered.{stops_in, body_stops, StepNumbered, BodyNumbered}
+use Rattle.loft_soundness.proofs.NumberLemmas.{elsewhere, found_here, neither, in_first, in_second, none_some, IsOutside, outside_left, outside_right, outside_one, apart}
 use Rattle.loft_locks.specs.Locks.{Lock, LockCall, Takes, Gives, Other, call_of, after_call, at_call, inside_after, inside_step, inside_body, or_false, inside_at, IsAway, StepLeaves, BodyLeaves, StepCalls, BodyCalls, Leaves, itself, through, ActionKeeps, PauseKeeps, PauseStays, CallStays, CallPairs, StepPairs, BodyPairs}
 
 -- ---- nothing leaves

@@ -28,15 +28,15 @@ use Rattle.loft_sense.specs.Moments.{Moment, moment, end_of, IsKeptByRuns}
 use Rattle.loft_sense.specs.Apply.{Applied, new_thread, with_last, is_linked, without_first, suspend, tell_end, apply_order, apply_orders, unapplied, apply}
 use Rattle.loft_sense.specs.Instant.{runner_of, around_of, closed_wait, closed, stays, leaver, leavers, sent_by, instant}
 use Rattle.loft_sense.specs.Async.{alone, block_sent, async}
-use Rattle.loft_stand.specs.Machines.{ThreadFits, MachFits}
-use Rattle.loft_stand.specs.WellFormed.{IsPlacedTree}
+use Rattle.loft_soundness.specs.Machines.{ThreadFits, MachFits}
+use Rattle.loft_soundness.specs.WellFormed.{IsPlacedTree}
 use Rattle.loft_sense.specs.Fits.{Fits}
-use Rattle.loft_stand.proofs.ListLemmas.{each_append}
-use Rattle.loft_stand.proofs.InstantLemmas.{RunnerFits, runners_fit, around_fits, ready_fits, begin_fit, batch_applied, first_around}
-use Rattle.loft_stand.proofs.CarryLemmas.{each_parted}
-use Rattle.loft_stand.proofs.StandLemmas.{run_leaves}
+use Rattle.loft_soundness.proofs.ListLemmas.{each_append}
+use Rattle.loft_soundness.proofs.InstantLemmas.{RunnerFits, runners_fit, around_fits, ready_fits, begin_fit, batch_applied, first_around}
+use Rattle.loft_soundness.proofs.CarryLemmas.{each_parted}
+use Rattle.loft_soundness.proofs.StandLemmas.{run_leaves}
 use Rattle.loft_sense.proofs.MomentLemmas.{kept_by_passes}
-use Rattle.loft_stand.specs.Points.{AroundFits}
+use Rattle.loft_soundness.specs.Points.{AroundFits}
 use Rattle.loft_locks.specs.Locks.{Lock, has_inside, is_inside, inside_at, IsExpanded}
 use Rattle.loft_locks.specs.LocksHold.{one, insiders, held_in}
 use Rattle.loft_locks.proofs.KeepLemmas.{depth, ThreadBegun, IsOutside, OrderRuns, ActRuns}

@@ -16,8 +16,8 @@ use Rattle.loft_sense.specs.Around.{Around, Beside}
 use Rattle.loft_sense.specs.Run.{Active, Outcome, Held, Left, Ended, ends, frame_of}
 use Rattle.loft_sense.specs.Tree.{Work, Begin, Again, body_at, tree}
 use Rattle.loft_sense.specs.Stands.{begin_of, end_of, begin_or_unlinked, end_or_unlinked}
-use Rattle.loft_stand.specs.Points.{WorkIsAt}
-use Rattle.loft_stand.proofs.ListLemmas.{each_append}
+use Rattle.loft_soundness.specs.Points.{WorkIsAt}
+use Rattle.loft_soundness.proofs.ListLemmas.{each_append}
 use Rattle.loft_locks.specs.Locks.{Lock, Takes, Gives, Other, call_of, lock_body, unlock_body, after_call, inside_at, IsExpanded}
 use Rattle.loft_locks.specs.LocksHold.{one}
 use Rattle.loft_locks.proofs.PairLemmas.{WorkRuns}

@@ -9,7 +9,7 @@ use Rattle.loft_tree.specs.Resolved.{Pause, Resolved, pause_of, body_of}
 use Rattle.loft_sense.specs.Tree.{first_some}
 use Rattle.loft_locks.specs.Locks.{Lock, LockCall, Takes as TakesCall, Gives as GivesCall, Other, call_of, after_call, at_call, is_away, IsAway, Leaves, PauseStays, CallStays, CallPairs, BodyPairs}
 use Rattle.loft_locks.specs.Outline.{Outline, Takes, Gives, goes_if, run_part, outline, has, closes, pair_fault, outermost, leave_fault}
-use Rattle.loft_forms.specs.Marks.{Use, TakeOf, GiveOf, Mark, use_at}
+use Rattle.loft_lock_forms.specs.Marks.{Use, TakeOf, GiveOf, Mark, use_at}
 use Rattle.loft_locks.specs.Marked.{BodyKeeps, UseAgrees, BodyMarked}
 
 -- ---- answers that are none

@@ -16,7 +16,7 @@ use Rattle.loft_orders.specs.declared.order.End.TheVariants.{Done, Div, Deep, Ov
 use Rattle.loft_orders.specs.declared.order.To.{To}
 use Rattle.loft_orders.specs.declared.note.Act.TheVariants as act
 use Rattle.loft_board.specs.Board.{generate}
-use Rattle.loft_stand.proofs.ListLemmas.{each_append}
+use Rattle.loft_soundness.proofs.ListLemmas.{each_append}
 use Rattle.loft_sense.specs.declared.limits.TheConstants.{MAX_FRAMES}
 use Rattle.loft_sense.specs.Heads.{rank}
 use Rattle.loft_sense.specs.Around.{Around, Beside}
@@ -27,10 +27,10 @@ use Rattle.loft_sense.specs.Run.{Next, Finish, Stuck, Acts, Advances, Tests, Cou
 use Rattle.loft_sense.specs.Tree.{Work, body_then, next_work, body_at, tree}
 use Rattle.loft_sense.specs.Machine.{Tree}
 use Rattle.loft_sense.specs.Stands.{begin_of, end_of, place_after}
-use Rattle.loft_stand.specs.WellFormed.{IsPlacedTree}
-use Rattle.loft_stand.specs.WorkFits.{NextFits}
-use Rattle.loft_stand.proofs.LeadsToPoints.{LeadsAt, LeadsToPoints}
-use Rattle.loft_stand.proofs.ProgramLemmas.{leads_to_points}
+use Rattle.loft_soundness.specs.WellFormed.{IsPlacedTree}
+use Rattle.loft_soundness.specs.WorkFits.{NextFits}
+use Rattle.loft_soundness.proofs.LeadsToPoints.{LeadsAt, LeadsToPoints}
+use Rattle.loft_soundness.proofs.ProgramLemmas.{leads_to_points}
 use Rattle.loft_locks.specs.Locks.{Lock, LockCall, Takes, Gives, Other, call_of, after_call, at_call, inside_body, or_false, inside_at, IsAway, CallStays, IsExpanded}
 use Rattle.loft_locks.specs.LocksHold.{one}
 use Rattle.loft_locks.proofs.ShareLemmas.{set_here}

@@ -21,11 +21,11 @@ use Rattle.loft_sense.specs.Tree.{Work, body_then, first_some, after_body, body_
 use Rattle.loft_sense.specs.Machine.{Tree}
 use Rattle.loft_sense.specs.Passes.{run_of}
 use Rattle.loft_sense.specs.Stands.{StopKind, Begins, Pauses, Calls, StopAt, begin_of, end_of, stop_in, tree_stop, ValuesAgree, WaitAgrees, OuterStand, FramesStand, Stands}
-use Rattle.loft_stand.specs.WellFormed.{IsPlacedTree}
-use Rattle.loft_stand.specs.WorkFits.{TargetHasKind}
-use Rattle.loft_stand.specs.Points.{WorkIsAt}
-use Rattle.loft_stand.proofs.LeadsToPoints.{begin_stop, KindFits, IsPauseOf, IsAfter, LeadsToPoints}
-use Rattle.loft_stand.proofs.ProgramLemmas.{leads_to_points, stop_pauses}
+use Rattle.loft_soundness.specs.WellFormed.{IsPlacedTree}
+use Rattle.loft_soundness.specs.WorkFits.{TargetHasKind}
+use Rattle.loft_soundness.specs.Points.{WorkIsAt}
+use Rattle.loft_soundness.proofs.LeadsToPoints.{begin_stop, KindFits, IsPauseOf, IsAfter, LeadsToPoints}
+use Rattle.loft_soundness.proofs.ProgramLemmas.{leads_to_points, stop_pauses}
 use Rattle.loft_locks.specs.Locks.{Lock, LockCall, Takes, Gives, Other, call_of, lock_body, unlock_body, after_call, inside_at, TargetKeeps, PauseKeeps, CallStays, IsExpanded}
 use Rattle.loft_locks.specs.LocksHold.{one}
 use Rattle.loft_locks.proofs.PairLemmas.{WorkRuns, BodyRuns, runs_before, KindRuns, AfterRuns, after_body_runs, module_runs}

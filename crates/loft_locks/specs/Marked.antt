@@ -3,7 +3,7 @@ use Rattle.std.specs.Prelude.{◌≡◌, ◌≢◌, ℕ, List, Option, Some}
 use Rattle.loft_tree.specs.NamedTree as named
 use Rattle.loft_tree.specs.Resolved.{Step, Do, Hold, Call, Choose, Loop, Times, Body, Empty, Then}
 use Rattle.loft_locks.specs.Locks.{Lock, LockCall, Takes, Gives, Other, call_of, ActionKeeps, PauseKeeps}
-use Rattle.loft_forms.specs.Marks.{Use, TakeOf, GiveOf, Mark, use_at}
+use Rattle.loft_lock_forms.specs.Marks.{Use, TakeOf, GiveOf, Mark, use_at}
 
 -- no statement names what is the lock's but by a `run`
 module _ (l : Lock) where

@@ -5,7 +5,7 @@ use Rattle.loft_base.specs.declared.ids.ModuleId.{ModuleId}
 use Rattle.loft_tree.specs.NamedTree.{NamedStatement, NamedStatements, Do, Hold, Run, If, While, Repeat, Done, Then}
 use Rattle.loft_tree.specs.Resolved.{pause_of}
 use Rattle.loft_sense.specs.Tree.{first_some}
-use Rattle.loft_forms.specs.Marks.{Use, TakeOf, GiveOf, Mark, use_at}
+use Rattle.loft_lock_forms.specs.Marks.{Use, TakeOf, GiveOf, Mark, use_at}
 use Rattle.loft_locks.specs.Locks.{is_away}
 
 -- ---- outlines

@@ -13,7 +13,7 @@ ghost use Rattle.loft_history.specs.History.{choice_of};
 ghost use Rattle.loft_orders.specs.Text.{scheduler_name};
 ghost use Rattle.loft_orders.specs.Lines.{text_of};
 ghost use Rattle.loft_history.specs.Report.{head_lines, standing_line, shared_lines, final_lines, schedulers_from};
-ghost use Rattle.loft_text.specs.Buffer.{Holds};
+ghost use Rattle.loft_value_text.specs.Buffer.{Holds};
 ghost use Rattle.loft_log.specs.WorldReport.{world_block, world_blocks, world_report};
 ghost use Rattle.loft_base.specs.Writing.{WritesTo};
 
@@ -24,8 +24,8 @@ use self::lines::{
 use loft_base::{NoMemory, RunOptions, SchedId, Sink, WriteError, write_lines};
 use loft_instant_text::InOneLine;
 use loft_orders::{FinalState, InstantNote, Standing};
-use loft_text::LineBuffer;
 use loft_tree::Heads;
+use loft_value_text::LineBuffer;
 use loft_world::{Finals, NoteList, Notes, World};
 use std::alloc::Global;
 

@@ -15,8 +15,8 @@ use Rattle.loft_scopes.specs.declared.error.NameError.TheVariants as name
 use Rattle.loft_numbers.specs.Numbers.{numbered}
 use Rattle.loft_place.specs.Links.{IsPlaced, PlaceFault}
 use Rattle.loft_place.specs.declared.error.PlaceError.{PlaceError}
-use Rattle.loft_forms.specs.Marks.{Mark}
-use Rattle.loft_expansion.specs.Expansion.{first_unpaired}
+use Rattle.loft_lock_forms.specs.Marks.{Mark}
+use Rattle.loft_lock_expansion.specs.Expansion.{first_unpaired}
 use Rattle.loft_mutex.specs.declared.error.MutexError.{MutexError}
 use Rattle.loft_mutex.specs.declared.error.MutexError.TheVariants as error
 use Rattle.loft_mutex.specs.Refusing.{module_names}

@@ -15,14 +15,14 @@ use Rattle.loft_translation.specs.Compiled.{compiled}
 use Rattle.loft_grammar.specs.Texts.{Reads}
 use Rattle.loft_scopes.specs.Faults.{NamesFit}
 use Rattle.loft_numbers.specs.Numbers.{numbered}
-use Rattle.loft_forms.specs.Rewriting.{written}
-use Rattle.loft_forms.specs.Marks.{Mark, AreRising, text_marks}
-use Rattle.loft_forms.specs.Seen.{marks_seen}
-use Rattle.loft_forms.specs.declared.rewriting.Written.{Written}
-use Rattle.loft_rewritten.specs.Told.{program_of}
-use Rattle.loft_expansion.specs.Expansion.{IsNamed, IsExpansion, first_unpaired, first_leaving}
-use Rattle.loft_expansion.specs.Refusals.{IsRefused}
-use Rattle.loft_expansion.specs.Kept.{forms_of, FormKept}
+use Rattle.loft_lock_forms.specs.Rewriting.{written}
+use Rattle.loft_lock_forms.specs.Marks.{Mark, AreRising, text_marks}
+use Rattle.loft_lock_forms.specs.Seen.{marks_seen}
+use Rattle.loft_lock_forms.specs.declared.rewriting.Written.{Written}
+use Rattle.loft_lock_rewriting.specs.Told.{program_of}
+use Rattle.loft_lock_expansion.specs.Expansion.{IsNamed, IsExpansion, first_unpaired, first_leaving}
+use Rattle.loft_lock_expansion.specs.Refusals.{IsRefused}
+use Rattle.loft_lock_expansion.specs.Kept.{forms_of, FormKept}
 use Rattle.loft_mutex.specs.declared.error.MutexError.{MutexError}
 use Rattle.loft_mutex.specs.declared.error.MutexError.TheVariants as error
 use Rattle.loft_mutex.specs.Refusing.{refusal_of, IsReadFor, AreNamesFor}

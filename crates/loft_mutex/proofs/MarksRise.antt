@@ -2,8 +2,8 @@
 use Rattle.std.proofs.Common.{◌≡◌, ℕ, zero, suc, ◌+◌, ◌≤◌, List, [], ◌∷◌, ◌++◌, length, slice_range, Option, Some, None, refl, arith, length-append}
 use Rattle.std.specs.Prelude.{codes}
 use Rattle.loft_lex.specs.declared.token.Token.{Token}
-use Rattle.loft_forms.specs.Rewriting.{LockForm, Declares, TakesIt, GivesIt, more_of, form_at, form_text, with_form, says, all_say}
-use Rattle.loft_forms.specs.Marks.{Mark, form_mark, marks, AreRising}
+use Rattle.loft_lock_forms.specs.Rewriting.{LockForm, Declares, TakesIt, GivesIt, more_of, form_at, form_text, with_form, says, all_say}
+use Rattle.loft_lock_forms.specs.Marks.{Mark, form_mark, marks, AreRising}
 
 lower : (ms : List Mark) (a b : ℕ) → a ≤ b → AreRising b ms → AreRising a ms
 lower [] a b le r = tt

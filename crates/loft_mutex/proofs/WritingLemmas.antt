@@ -7,9 +7,9 @@ use Rattle.loft_lex.specs.declared.token.LexError.TheVariants as lex
 use Rattle.loft_lex.specs.declared.TheConstants.{MAX_TEXT_LEN}
 use Rattle.loft_lex.specs.Tokens.{Found, tokens, IsFirstFault}
 use Rattle.loft_lex.specs.Cut.{Cut}
-use Rattle.loft_forms.specs.Rewriting.{written}
-use Rattle.loft_expansion.specs.Expansion.{IsWritten}
-use Rattle.loft_expansion.specs.Refusals.{IsRefused, TooLong}
+use Rattle.loft_lock_forms.specs.Rewriting.{written}
+use Rattle.loft_lock_expansion.specs.Expansion.{IsWritten}
+use Rattle.loft_lock_expansion.specs.Refusals.{IsRefused, TooLong}
 use Rattle.loft_mutex.specs.declared.error.MutexError.{MutexError}
 use Rattle.loft_mutex.specs.declared.error.MutexError.TheVariants as error
 use Rattle.loft_mutex.specs.Refusing.{refusal_of, AreNamesFor}

@@ -12,9 +12,9 @@ use Rattle.loft_sense.specs.Machine.{Tree, Code}
 use Rattle.loft_history.specs.History.{replayed}
 use Rattle.loft_history.specs.Legal.{IsLegal, HasNoCallers}
 use Rattle.loft_translation.specs.Compiled.{compiled}
-use Rattle.loft_forms.specs.Rewriting.{all_say, forms}
-use Rattle.loft_rewritten.specs.Told.{program_of}
-use Rattle.loft_expansion.specs.Kept.{FormKept}
+use Rattle.loft_lock_forms.specs.Rewriting.{all_say, forms}
+use Rattle.loft_lock_rewriting.specs.Told.{program_of}
+use Rattle.loft_lock_expansion.specs.Kept.{FormKept}
 
 -- Each lock that the text declares is kept in each legal history without callers of the program, and of its compiled code,
 -- where each scheduler has the same machines.

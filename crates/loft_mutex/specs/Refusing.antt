@@ -6,8 +6,8 @@ use Rattle.loft_tree.specs.Source.{Source}
 use Rattle.loft_tree.specs.declared.heads.Heads.{Heads}
 use Rattle.loft_grammar.specs.Texts.{Reads}
 use Rattle.loft_numbers.specs.Numbers.{numbered}
-use Rattle.loft_forms.specs.Rewriting.{written}
-use Rattle.loft_expansion.specs.Refusals.{Refusal, IsRefused, TooLong, Lex, LongName, Reserved, Parse, Names, Place, Pair, Leaves}
+use Rattle.loft_lock_forms.specs.Rewriting.{written}
+use Rattle.loft_lock_expansion.specs.Refusals.{Refusal, IsRefused, TooLong, Lex, LongName, Reserved, Parse, Names, Place, Pair, Leaves}
 use Rattle.loft_mutex.specs.declared.error.MutexError.{MutexError}
 use Rattle.loft_mutex.specs.declared.error.MutexError.TheVariants as error
 

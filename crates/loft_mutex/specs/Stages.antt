@@ -15,12 +15,12 @@ use Rattle.loft_scopes.specs.declared.error.NameError.{NameError}
 use Rattle.loft_scopes.specs.declared.error.NameError.TheVariants as name
 use Rattle.loft_numbers.specs.Numbers.{numbered}
 use Rattle.loft_place.specs.Links.{IsPlaced, PlaceFault}
-use Rattle.loft_forms.specs.Rewriting.{all_say, forms, written}
-use Rattle.loft_forms.specs.Names.{long_name, reserved_name}
-use Rattle.loft_forms.specs.Marks.{Mark, text_marks}
-use Rattle.loft_forms.specs.Seen.{marks_seen}
-use Rattle.loft_forms.specs.declared.rewriting.Written.{Written}
-use Rattle.loft_expansion.specs.Expansion.{IsRewritten, TellsLeaving, first_unpaired, first_leaving}
+use Rattle.loft_lock_forms.specs.Rewriting.{all_say, forms, written}
+use Rattle.loft_lock_forms.specs.Names.{long_name, reserved_name}
+use Rattle.loft_lock_forms.specs.Marks.{Mark, text_marks}
+use Rattle.loft_lock_forms.specs.Seen.{marks_seen}
+use Rattle.loft_lock_forms.specs.declared.rewriting.Written.{Written}
+use Rattle.loft_lock_expansion.specs.Expansion.{IsRewritten, TellsLeaving, first_unpaired, first_leaving}
 use Rattle.loft_mutex.specs.declared.error.MutexError.{MutexError}
 use Rattle.loft_mutex.specs.declared.error.MutexError.TheVariants as error
 use Rattle.loft_mutex.specs.Refusing.{module_names}

@@ -4,17 +4,17 @@ ghost use Rattle.std.specs.Prelude.{◌≡◌, ◌≤◌, map, length, IfOk, IfE
 ghost use Rattle.loft_lex.specs.declared.TheConstants.{MAX_TEXT_LEN};
 ghost use Rattle.loft_tree.specs.ProgramView.{module_of, program_of};
 ghost use Rattle.loft_place.specs.Links.{IsPlaced};
-ghost use Rattle.loft_forms.specs.Marks.{AreRising};
-ghost use Rattle.loft_forms.specs.Seen.{marks_seen};
-ghost use Rattle.loft_expansion.specs.Expansion.{first_unpaired};
+ghost use Rattle.loft_lock_forms.specs.Marks.{AreRising};
+ghost use Rattle.loft_lock_forms.specs.Seen.{marks_seen};
+ghost use Rattle.loft_lock_expansion.specs.Expansion.{first_unpaired};
 ghost use Rattle.loft_mutex.specs.Refusing.{module_names};
 ghost use Rattle.loft_mutex.specs.Stages.{IsProgramOf, IsTextFault, IsPlaceFault, IsUnpaired, IsLeaving, Stays, IsChecked, IsCheckFault};
 
 use crate::error::MutexError;
 use loft_base::{NoMemory, Sequence};
-use loft_forms::{Mark, Written};
+use loft_lock_forms::{Mark, Written};
+use loft_lock_pairs::{first_leaving, first_unpaired, leaving_modules};
 use loft_names::resolve;
-use loft_pairs::{first_leaving, first_unpaired, leaving_modules};
 use loft_parse::parse;
 use loft_place::{Placed, place};
 use loft_tree::{Heads, Module, Named, Names};

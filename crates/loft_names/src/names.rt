@@ -7,9 +7,9 @@ ghost use Rattle.loft_scopes.specs.Scopes.{declared};
 ghost use Rattle.loft_scopes.specs.Faults.{IsFirst, faults};
 
 use loft_base::NoMemory;
+use loft_name_faults::note_uses;
 use loft_scopes::{NameError, Table, declare_all};
 use loft_tree::Item;
-use loft_uses::note_uses;
 use std::alloc::Global;
 
 /// What is declared, and the first of all that is wrong with names and kinds, by its offset; no fault

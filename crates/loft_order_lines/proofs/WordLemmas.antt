@@ -6,9 +6,9 @@ use Rattle.loft_base.specs.declared.ids.ThreadId.{ThreadId}
 use Rattle.loft_base.specs.declared.ids.Value.{Value}
 use Rattle.loft_tree.specs.declared.heads.Heads.{Heads}
 use Rattle.loft_orders.specs.declared.order.At.{At}
-use Rattle.loft_shape.specs.Word.{spelling, word_of}
-use Rattle.loft_shape.specs.declared.word.Word.{Word}
-use Rattle.loft_shape.specs.declared.word.Word.TheVariants as word
+use Rattle.loft_report_shape.specs.Word.{spelling, word_of}
+use Rattle.loft_report_shape.specs.declared.word.Word.{Word}
+use Rattle.loft_report_shape.specs.declared.word.Word.TheVariants as word
 use Rattle.loft_orders.specs.declared.order.End.{End}
 use Rattle.loft_orders.specs.declared.order.End.TheVariants as end
 use Rattle.loft_orders.specs.declared.order.Order.{Order}

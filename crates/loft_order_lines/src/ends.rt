@@ -10,8 +10,8 @@ ghost use Rattle.loft_order_lines.specs.Words.{word_of_end, plain_of, point_in};
 use crate::cut::cut_at;
 use crate::value::point_of;
 use loft_orders::{At, End};
-use loft_sets::word_of;
-use loft_shape::Word;
+use loft_report_sets::word_of;
+use loft_report_shape::Word;
 use loft_tree::Heads;
 
 /// The end of this word, if it is one without a point.

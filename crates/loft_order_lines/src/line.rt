@@ -8,7 +8,7 @@ ghost use Rattle.loft_orders.specs.Text.{order_text};
 ghost use Rattle.loft_order_lines.specs.Texts.{OwnNames};
 ghost use Rattle.loft_order_lines.specs.Says.{Says};
 ghost use Rattle.loft_order_lines.specs.Words.{word_of_mark};
-ghost use Rattle.loft_shape.specs.Word.{spelling};
+ghost use Rattle.loft_report_shape.specs.Word.{spelling};
 ghost use Rattle.std.specs.Str.{bytes_eq};
 
 use crate::cut::cut_at;
@@ -16,10 +16,10 @@ use crate::order::order_of;
 use loft_base::{NoMemory, Room};
 use loft_instant_text::push_order_line;
 use loft_orders::{Mark, Order};
-use loft_sets::word_of;
-use loft_shape::Word;
-use loft_text::LineBuffer;
+use loft_report_sets::word_of;
+use loft_report_shape::Word;
 use loft_tree::Heads;
+use loft_value_text::LineBuffer;
 use std::alloc::Global;
 
 /// The mark that is spelled so, if one is.

@@ -5,7 +5,7 @@ ghost use Rattle.loft_base.specs.declared.ids.Value.{Value as PlainValue};
 ghost use Rattle.loft_tree.specs.Fits.{Each};
 ghost use Rattle.loft_orders.specs.declared.order.Order.{Order};
 ghost use Rattle.loft_orders.specs.Text.{order_text, separated, value_text};
-ghost use Rattle.loft_shape.specs.declared.word.Word.TheVariants as word;
+ghost use Rattle.loft_report_shape.specs.declared.word.Word.TheVariants as word;
 ghost use Rattle.loft_tree.specs.declared.heads.Heads.{Heads};
 ghost use Rattle.loft_order_lines.specs.Texts.{OwnNames, IdHasText, ValueHasText, OrderHasText};
 ghost use Rattle.loft_order_lines.specs.Words.{word_of_order, rest_of_order, thread_in};
@@ -19,8 +19,8 @@ use crate::thread::thread_of;
 use crate::value::id_of;
 use loft_base::{Room, ThreadId, Value};
 use loft_orders::{Order, SharedThread, SharedValues};
-use loft_sets::word_of;
-use loft_shape::Word;
+use loft_report_sets::word_of;
+use loft_report_shape::Word;
 use loft_tree::Heads;
 
 /// The arguments whose texts these bytes are, with a comma between each two, if there are such values.

@@ -28,9 +28,9 @@ use Rattle.loft_grammar.specs.Limits.{limits, nesting, beginning}
 use Rattle.loft_parse.specs.Faults.{located, IsFault}
 use Rattle.loft_grammar.specs.Texts.{SpellsProgram, Reads}
 use Rattle.loft_parse.specs.Parsing.{locate, whole_text, parsed, Answers}
-use Rattle.loft_parts.proofs.fits.SpelledFits.{spelled_fits}
+use Rattle.loft_productions.proofs.fits.SpelledFits.{spelled_fits}
 use Rattle.loft_parse.proofs.SourceFaults.{parsed_fault}
-use Rattle.loft_parts.proofs.Checked.{known, fair, program_clear}
+use Rattle.loft_productions.proofs.Checked.{known, fair, program_clear}
 
 -- what is read with no symbol left is spelled by all of them
 pub whole_spells : (ss : List Symbol) (p : Source) (d : State Language) → read rules limits nesting program ss beginning ≡ done p [] d → SpellsProgram ss p

@@ -18,7 +18,7 @@ use Rattle.loft_grammar.specs.Limits.{limits, nesting, beginning}
 use Rattle.loft_parse.specs.Faults.{place, SourceFault}
 use Rattle.loft_grammar.specs.Texts.{Reads}
 use Rattle.loft_parse.specs.Unlimited.{ReadsUnlimited, StopsUnlimited}
-use Rattle.loft_parts.proofs.Checked.{checked}
+use Rattle.loft_productions.proofs.Checked.{checked}
 use Rattle.loft_parse.proofs.Offsets.{tokens_between, place_rises}
 
 one_cut : (text : List ℕ) (ts us : List Token) → Cut text (Ok ts) → Cut text (Ok us) → ts ≡ us

@@ -18,7 +18,7 @@ use Rattle.loft_grammar.specs.Limits.{limits, nesting, beginning}
 use Rattle.loft_parse.specs.Faults.{first_place, place, located, SourceFault}
 use Rattle.loft_grammar.specs.Texts.{Reads}
 use Rattle.loft_parse.specs.Alike.{AgreeUpTo, StandsAt}
-use Rattle.loft_parts.proofs.Checked.{checked}
+use Rattle.loft_productions.proofs.Checked.{checked}
 use Rattle.loft_parse.proofs.Offsets.{Between, tokens_between, rises, symbol_at, same_offset, token_count}
 use Rattle.loft_parse.proofs.TextLaws.{never_both}
 

@@ -16,7 +16,7 @@ use Rattle.loft_grammar.specs.Items.{program}
 use Rattle.loft_grammar.specs.Limits.{limits, nesting, beginning}
 use Rattle.loft_parse.specs.Faults.{located, SourceFault}
 use Rattle.loft_parse.specs.Parsing.{locate, whole_text, parsed}
-use Rattle.loft_parts.proofs.Checked.{checked}
+use Rattle.loft_productions.proofs.Checked.{checked}
 
 -- the fault of a text of these tokens
 located_fault : (text : List ℕ) (ts : List Token) → tokens text ≡ Ok ts → (r : Result Source Fault)

@@ -15,7 +15,7 @@ use crate::error::ParseError;
 use loft_form::{Fault, Stop};
 use loft_grammar::Reader;
 use loft_lex::{LexError, MAX_TEXT_LEN, Symbol, read_symbols};
-use loft_parts::item::items;
+use loft_productions::item::items;
 use loft_tree::Program;
 use std::alloc::Global;
 

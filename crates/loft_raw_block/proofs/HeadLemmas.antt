@@ -2,9 +2,9 @@
 use Rattle.std.proofs.Common.{◌≡◌, ℕ, List, [], ◌∷◌, ◌++◌, length, codes, refl}
 use Rattle.std.specs.Fmt.{decimal}
 use Rattle.std.specs.List.{flat_map}
-use Rattle.loft_shape.specs.Told.{Report}
-use Rattle.loft_shape.specs.Text.{choice_text, block_text, head_text}
-use Rattle.loft_shape.specs.declared.raw.RawBlock.{RawBlock}
+use Rattle.loft_report_shape.specs.Told.{Report}
+use Rattle.loft_report_shape.specs.Text.{choice_text, block_text, head_text}
+use Rattle.loft_report_shape.specs.declared.raw.RawBlock.{RawBlock}
 
 -- a line of a word and a number, as it is written
 abbrev pub line : List ℕ → List ℕ → List ℕ

@@ -2,11 +2,11 @@
 
 ghost use Rattle.std.specs.Prelude.{◌++◌, ℕ, List};
 ghost use Rattle.std.specs.List.{flat_map};
-ghost use Rattle.loft_shape.specs.Text.{block_text};
+ghost use Rattle.loft_report_shape.specs.Text.{block_text};
 ghost use Rattle.loft_replay_error.specs.Difference.{IsDifference};
 ghost use Rattle.loft_raw_block.specs.Compared.{SameFront, Matches};
 
-use loft_shape::RawBlock;
+use loft_report_shape::RawBlock;
 
 /// How far a text that comes in pieces is another one, of which this is left.
 #[derive(Drop)]

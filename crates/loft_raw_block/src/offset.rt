@@ -3,15 +3,15 @@
 ghost use Rattle.std.specs.Prelude.{◌≡◌, ◌++◌, ◌∷◌, [], min, length};
 ghost use Rattle.std.specs.Fmt.{decimal};
 ghost use Rattle.std.specs.List.{flat_map};
-ghost use Rattle.loft_text.specs.Appending.{Appends};
-ghost use Rattle.loft_shape.specs.Text.{block_text, choice_text, head_text};
-ghost use Rattle.loft_reader.specs.Answer.{report_in};
+ghost use Rattle.loft_value_text.specs.Appending.{Appends};
+ghost use Rattle.loft_report_shape.specs.Text.{block_text, choice_text, head_text};
+ghost use Rattle.loft_report_reader.specs.Answer.{report_in};
 ghost use Rattle.loft_raw_block.specs.Offsets.{last_place};
 
 use loft_base::Sequence;
-use loft_reader::RawReport;
-use loft_shape::{Choice, RawBlock};
-use loft_text::{TextLength, TextWriter};
+use loft_report_reader::RawReport;
+use loft_report_shape::{Choice, RawBlock};
+use loft_value_text::{TextLength, TextWriter};
 
 /// The line of a word and a number.
 fn push_number_line<W: TextWriter>(text: &mut W, word: &str, number: u64)

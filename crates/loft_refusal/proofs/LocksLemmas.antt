@@ -4,7 +4,7 @@ use Rattle.std.specs.Prelude.{IfSome}
 use Rattle.loft_base.specs.declared.errors.FileError.{FileError}
 use Rattle.loft_base.specs.declared.errors.FileError.TheVariants as file
 use Rattle.loft_lex.specs.declared.TheConstants.{MAX_TEXT_LEN}
-use Rattle.loft_expansion.specs.Refusals.{IsRefused, TooLong, Lex, LongName, Reserved, Parse, Names, Place, Pair, Leaves}
+use Rattle.loft_lock_expansion.specs.Refusals.{IsRefused, TooLong, Lex, LongName, Reserved, Parse, Names, Place, Pair, Leaves}
 use Rattle.loft_mutex.specs.declared.error.MutexError.{MutexError}
 use Rattle.loft_mutex.specs.declared.error.MutexError.TheVariants as locks
 use Rattle.loft_mutex.specs.Refusing.{refusal_of, AreNamesFor}

@@ -24,11 +24,11 @@ use Rattle.loft_code.specs.declared.error.CodeError.{CodeError}
 use Rattle.loft_code.specs.declared.error.CodeError.TheVariants as code
 use Rattle.loft_code.specs.Operations.{Automata}
 use Rattle.loft_code.specs.Valid.{CodeFault}
-use Rattle.loft_draft.specs.declared.draft.TheConstants.{MAX_LISTING_LEN}
-use Rattle.loft_reading.specs.declared.error.ListError.{ListError}
-use Rattle.loft_reading.specs.declared.error.ListError.TheVariants as list
-use Rattle.loft_reading.specs.Lists.{Lists, LineFault}
-use Rattle.loft_expansion.specs.Expansion.{IsExpansion}
+use Rattle.loft_listing_draft.specs.declared.draft.TheConstants.{MAX_LISTING_LEN}
+use Rattle.loft_listing_reader.specs.declared.error.ListError.{ListError}
+use Rattle.loft_listing_reader.specs.declared.error.ListError.TheVariants as list
+use Rattle.loft_listing_reader.specs.Lists.{Lists, LineFault}
+use Rattle.loft_lock_expansion.specs.Expansion.{IsExpansion}
 use Rattle.loft_mutex.specs.declared.error.MutexError.{MutexError}
 use Rattle.loft_mutex.specs.declared.error.MutexError.TheVariants as locks
 use Rattle.loft_mutex.specs.Refusing.{IsErrorOf, AreNamesFor, module_names}

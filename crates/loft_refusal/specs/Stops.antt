@@ -8,8 +8,8 @@ use Rattle.loft_parse.specs.declared.error.ParseError.{ParseError}
 use Rattle.loft_parse.specs.declared.error.ParseError.TheVariants as text
 use Rattle.loft_scopes.specs.declared.error.NameError.{NameError}
 use Rattle.loft_scopes.specs.declared.error.NameError.TheVariants as name
-use Rattle.loft_reading.specs.declared.error.ListError.{ListError}
-use Rattle.loft_reading.specs.declared.error.ListError.TheVariants as list
+use Rattle.loft_listing_reader.specs.declared.error.ListError.{ListError}
+use Rattle.loft_listing_reader.specs.declared.error.ListError.TheVariants as list
 use Rattle.loft_mutex.specs.declared.error.MutexError.{MutexError}
 use Rattle.loft_mutex.specs.declared.error.MutexError.TheVariants as locks
 use Rattle.loft_refusal.specs.declared.refusal.Refusal.TheVariants.{Text, Names, Listing, Locks}

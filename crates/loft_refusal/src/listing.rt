@@ -3,7 +3,7 @@
 ghost use Rattle.std.specs.Prelude.{◌≡◌, ◌≤◌, ℕ, List, Some, length, IfOk, IfErr, IsErrOf, IsTrue};
 ghost use Rattle.loft_base.specs.Outside.{Rose};
 ghost use Rattle.loft_code.specs.View.{automata_of};
-ghost use Rattle.loft_draft.specs.declared.draft.TheConstants.{MAX_LISTING_LEN};
+ghost use Rattle.loft_listing_draft.specs.declared.draft.TheConstants.{MAX_LISTING_LEN};
 ghost use Rattle.loft_refusal.specs.Refusals.{IsListingOf};
 ghost use Rattle.loft_refusal.specs.Found.{IsUnlisted};
 ghost use Rattle.loft_refusal.specs.Stops.{stop_of_listing_file};
@@ -11,9 +11,9 @@ ghost use Rattle.loft_refusal.specs.Stops.{stop_of_listing_file};
 use crate::refusal::{Refusal, Stopped};
 use loft_base::{FileError, Files, read_whole};
 use loft_code::{Code, validate};
-use loft_draft::MAX_LISTING_LEN;
+use loft_listing_draft::MAX_LISTING_LEN;
+use loft_listing_reader::{ListError, read};
 use loft_mutex::module_names;
-use loft_reading::{ListError, read};
 use std::alloc::Global;
 
 /// The valid code of a listing; else why there is none.

@@ -3,7 +3,7 @@
 ghost use Rattle.std.specs.Prelude.{◌≡◌, ◌≤◌, ℕ, List, Some, IfOk, IfErr, IsErrOf, IsTrue};
 ghost use Rattle.loft_base.specs.Outside.{Rose};
 ghost use Rattle.loft_tree.specs.View.{source_of};
-ghost use Rattle.loft_expansion.specs.Expansion.{IsExpansion};
+ghost use Rattle.loft_lock_expansion.specs.Expansion.{IsExpansion};
 ghost use Rattle.loft_refusal.specs.Found.{IsUnexpanded};
 ghost use Rattle.loft_refusal.specs.Stops.{stop_of_locks, stop_of_locks_file};
 

@@ -2,10 +2,10 @@
 
 use loft_base::{Failed, FileError, NoMemory, WriteError};
 use loft_code::CodeError;
+use loft_listing_reader::ListError;
 use loft_mutex::MutexError;
 use loft_parse::ParseError;
 use loft_place::PlaceError;
-use loft_reading::ListError;
 use loft_scopes::NameError;
 use loft_tree::Names;
 use std::alloc::AllocError;

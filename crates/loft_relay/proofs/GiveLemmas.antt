@@ -22,7 +22,7 @@ use Rattle.loft_base.specs.declared.options.RunOptions.{RunOptions}
 use Rattle.loft_sense.specs.Machine.{Code, heads}
 use Rattle.loft_history.specs.History.{sent_in}
 use Rattle.loft_history.specs.Legal.{actor_of, same_actor, of, IsRouted, IsDeclared, IsFaithful, IsLegal}
-use Rattle.loft_stand.specs.Machines.{SentFits}
+use Rattle.loft_soundness.specs.Machines.{SentFits}
 use Rattle.loft_world.specs.State.{State, with_entry}
 use Rattle.loft_baton.specs.declared.knows.Own.{Own}
 use Rattle.loft_baton.specs.declared.knows.Knows.{Knows}

@@ -8,7 +8,7 @@ use Rattle.loft_orders.specs.declared.entry.Entry.{Entry}
 use Rattle.loft_orders.specs.declared.entry.Entry.TheVariants as entry
 use Rattle.loft_orders.specs.declared.order.Sent.{Sent}
 use Rattle.loft_sense.specs.Machine.{Code}
-use Rattle.loft_stand.specs.Machines.{SentFits}
+use Rattle.loft_soundness.specs.Machines.{SentFits}
 use Rattle.loft_world.specs.State.{IsToOne, IsForClients}
 use Rattle.loft_baton.specs.Knowing.{IsIdle, own_of}
 use Rattle.loft_baton.specs.PassValue.{PassValue}

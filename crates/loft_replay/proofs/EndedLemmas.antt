@@ -9,8 +9,8 @@ use Rattle.loft_orders.specs.declared.entry.Entry.TheVariants.{Take, Give, Pick,
 use Rattle.loft_orders.specs.declared.order.Sent.{Sent}
 use Rattle.loft_sense.specs.Machine.{Prog, heads}
 use Rattle.loft_history.specs.History.{Choice, waiting, jobs, unposted, unsent, replayed, has_turn, is_open, sent_last, entry_of_first, pick_of, entry_of, HasEnded}
-use Rattle.loft_turns.specs.Course.{Moves}
-use Rattle.loft_shape.specs.declared.raw.Choice.{Choice as ByName}
+use Rattle.loft_course.specs.Course.{Moves}
+use Rattle.loft_report_shape.specs.declared.raw.Choice.{Choice as ByName}
 use Rattle.loft_replay.specs.Named.{follows, IsRefused}
 use Rattle.loft_replay.specs.Whole.{IsNotWhole, choice_at, HasTried, GoesOnOrEnded}
 use Rattle.loft_replay.specs.declared.ended.Kind.TheVariants as kind

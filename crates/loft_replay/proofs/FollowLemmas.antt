@@ -6,7 +6,7 @@ use Rattle.loft_orders.specs.declared.entry.Entry.{Entry}
 use Rattle.loft_base.specs.declared.options.RunOptions.{RunOptions}
 use Rattle.loft_sense.specs.Machine.{Prog, heads}
 use Rattle.loft_history.specs.History.{with_entry}
-use Rattle.loft_shape.specs.declared.raw.Choice.{Choice}
+use Rattle.loft_report_shape.specs.declared.raw.Choice.{Choice}
 use Rattle.loft_replay.specs.Named.{meant, entry_meant, follows_on, follows, MovesBy}
 
 -- a history goes on after the choices that made it

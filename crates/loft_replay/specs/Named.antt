@@ -12,8 +12,8 @@ use Rattle.loft_history.specs.History.{Choice, TakeBy, GiveBy, PickBy, PostBy, C
 use Rattle.loft_sense.specs.Heads.{scheduler}
 use Rattle.loft_world.specs.declared.results.Finished.{Finished}
 use Rattle.loft_world.specs.Replay.{IsReplayOf}
-use Rattle.loft_shape.specs.declared.raw.Choice.{Choice as ByName}
-use Rattle.loft_shape.specs.declared.raw.Choice.TheVariants.{Take, Give, Pick, Post, Client}
+use Rattle.loft_report_shape.specs.declared.raw.Choice.{Choice as ByName}
+use Rattle.loft_report_shape.specs.declared.raw.Choice.TheVariants.{Take, Give, Pick, Post, Client}
 use Rattle.loft_replay.specs.declared.replay.FollowError.{FollowError}
 use Rattle.loft_replay.specs.declared.replay.FollowError.TheVariants.{NotAllowed, NoMemory}
 

@@ -5,7 +5,7 @@ use Rattle.loft_base.specs.declared.options.RunOptions.{RunOptions}
 use Rattle.loft_sense.specs.Heads.{scheduler}
 use Rattle.loft_sense.specs.Machine.{Prog}
 use Rattle.loft_history.specs.History.{Choice, TakeBy, GiveBy, PickBy, PostBy, ClientBy, entry_of, HasEnded}
-use Rattle.loft_shape.specs.declared.raw.Choice.{Choice as ByName}
+use Rattle.loft_report_shape.specs.declared.raw.Choice.{Choice as ByName}
 use Rattle.loft_replay.specs.Named.{follows}
 use Rattle.loft_replay.specs.declared.ended.Kind.{Kind}
 use Rattle.loft_replay.specs.declared.ended.Kind.TheVariants as kind

@@ -2,15 +2,15 @@
 
 ghost use Rattle.std.specs.Prelude.{◌≡◌, OnOk, IfOk};
 ghost use Rattle.loft_sense.specs.Machine.{heads as heads_of};
-ghost use Rattle.loft_turns.specs.Course.{IsRun, CanRun};
+ghost use Rattle.loft_course.specs.Course.{IsRun, CanRun};
 ghost use Rattle.loft_replay.specs.Named.{meant, MovesBy};
 
 use crate::names::{client_named, scheduler_named};
 use loft_base::{NoMemory, SchedId};
+use loft_course::{BlockEngine, Course, Setting};
+use loft_report_shape::Choice;
 use loft_sense::Engine;
-use loft_shape::Choice;
 use loft_tree::Heads;
-use loft_turns::{BlockEngine, Course, Setting};
 use std::alloc::Global;
 
 /// Goes on by a choice, where it is allowed. Answers whether it was.

@@ -2,14 +2,14 @@
 
 ghost use Rattle.std.specs.Prelude.{◌≡◌, OnOk, IfOk};
 ghost use Rattle.loft_sense.specs.Machine.{heads as heads_of};
-ghost use Rattle.loft_turns.specs.Course.{IsRun, CanRun, Moves};
+ghost use Rattle.loft_course.specs.Course.{IsRun, CanRun, Moves};
 ghost use Rattle.loft_replay.specs.Whole.{choice_at, HasTried, GoesOnOrEnded};
 
 use loft_base::{NoMemory, SchedId};
+use loft_course::{BlockEngine, Course, Setting};
 use loft_history::ended_histories_go_no_further;
 use loft_sense::Engine;
 use loft_tree::Heads;
-use loft_turns::{BlockEngine, Course, Setting};
 use std::alloc::Global;
 
 /// Who makes an entry, and which.

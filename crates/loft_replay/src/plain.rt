@@ -5,13 +5,13 @@ ghost use Rattle.loft_tree.specs.ProgramView.{program_of};
 ghost use Rattle.loft_tree.specs.Resolved.{resolved_of};
 ghost use Rattle.loft_sense.specs.Machine.{Tree, heads as heads_of};
 ghost use Rattle.loft_base.specs.Options.{IsInRange};
-ghost use Rattle.loft_turns.specs.Course.{stands_after, hands_after};
+ghost use Rattle.loft_course.specs.Course.{stands_after, hands_after};
 
 use crate::plain_blocks::PlainBlocks;
 use loft_base::{NoMemory, RunOptions, SchedId};
+use loft_course::{Setting, Station, Worker};
 use loft_place::Placed;
 use loft_plain::PlainEngine;
-use loft_turns::{Setting, Station, Worker};
 use std::alloc::Global;
 
 /// The schedulers of a program before their first instant, in the order of their declarations.

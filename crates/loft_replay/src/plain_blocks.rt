@@ -6,10 +6,10 @@ ghost use Rattle.loft_tree.specs.Resolved.{resolved_of};
 ghost use Rattle.loft_sense.specs.Machine.{Tree};
 
 use loft_base::NoMemory;
+use loft_course::BlockEngine;
 use loft_orders::{Sent, Thread};
 use loft_place::Placed;
 use loft_plain::PlainJob;
-use loft_turns::BlockEngine;
 use std::alloc::Global;
 
 /// Runs the blocks of unlinked threads of a placed program by walking its statements, one after

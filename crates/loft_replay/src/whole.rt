@@ -6,7 +6,7 @@ ghost use Rattle.loft_tree.specs.Resolved.{resolved_of};
 ghost use Rattle.loft_sense.specs.Machine.{Tree, heads as heads_of};
 ghost use Rattle.loft_base.specs.Options.{IsInRange, HasWorkers};
 ghost use Rattle.loft_history.specs.History.{HasEnded};
-ghost use Rattle.loft_turns.specs.Course.{IsRun, CanRun};
+ghost use Rattle.loft_course.specs.Course.{IsRun, CanRun};
 ghost use Rattle.loft_replay.specs.Named.{IsFollowed};
 ghost use Rattle.loft_replay.specs.Whole.{IsNotWhole};
 
@@ -14,11 +14,11 @@ use crate::ended::goes_on;
 use crate::plain::{stations, workers};
 use crate::replay::{FollowError, Replayed, choose_all};
 use loft_base::RunOptions;
+use loft_course::{BlockEngine, Course, Setting, well_formed_programs_can_run};
 use loft_place::Placed;
+use loft_report_shape::Choices;
 use loft_sense::Engine;
-use loft_shape::Choices;
 use loft_tree::Heads;
-use loft_turns::{BlockEngine, Course, Setting, well_formed_programs_can_run};
 use std::alloc::Global;
 use std::marker::Brand;
 

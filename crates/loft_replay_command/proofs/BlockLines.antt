@@ -5,7 +5,7 @@ use Rattle.loft_base.specs.declared.ids.SchedId.{SchedId}
 use Rattle.loft_sense.specs.Machine.{Prog, heads}
 use Rattle.loft_sense.specs.Instant.{replay}
 use Rattle.loft_history.specs.Report.{block_lines}
-use Rattle.loft_shape.specs.Told.{Report}
+use Rattle.loft_report_shape.specs.Told.{Report}
 use Rattle.loft_replay_error.specs.declared.error.ReplayError.TheVariants as error
 use Rattle.loft_block_replay.specs.Answer.{HasCause, Gives}
 use Rattle.loft_commands.proofs.AnswerLines.{text_lines}

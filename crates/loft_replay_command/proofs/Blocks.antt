@@ -2,12 +2,12 @@
 use Rattle.std.proofs.Common.{◌≡◌, ℕ, List, Result, Ok, Err, ap}
 use Rattle.loft_base.specs.declared.ids.SchedId.{SchedId}
 use Rattle.loft_sense.specs.Machine.{Prog}
-use Rattle.loft_shape.specs.Told.{Report}
-use Rattle.loft_reader.specs.declared.error.LogError.{LogError}
-use Rattle.loft_reader.specs.declared.error.LogError.TheVariants as log
+use Rattle.loft_report_shape.specs.Told.{Report}
+use Rattle.loft_report_reader.specs.declared.error.LogError.{LogError}
+use Rattle.loft_report_reader.specs.declared.error.LogError.TheVariants as log
 use Rattle.loft_replay_error.specs.declared.error.ReplayError.{ReplayError}
 use Rattle.loft_replay_error.specs.declared.error.ReplayError.TheVariants as error
-use Rattle.loft_replayed.specs.Replays.{Tells}
+use Rattle.loft_replay_report.specs.Replays.{Tells}
 use Rattle.loft_block_replay.specs.Answer.{IsAnswer, HasAnswer, HasCause, Gives, in_range, TextCause}
 use Rattle.loft_block_replay.proofs.TextLemmas.{read_cause, read_exact}
 use Rattle.loft_replay_command.specs.declared.refusal.LogRefusal.{LogRefusal}

@@ -2,9 +2,9 @@
 use Rattle.std.proofs.Common.{◌≡◌, ℕ, ◌<◌, List, length, Option, Some, None, Result, Ok, Err, IfErr, ap}
 use Rattle.loft_base.specs.declared.ids.SchedId.{SchedId}
 use Rattle.loft_sense.specs.Machine.{Prog}
-use Rattle.loft_shape.specs.Report.{longest}
-use Rattle.loft_reader.specs.declared.error.LogError.{LogError}
-use Rattle.loft_reader.specs.declared.error.LogError.TheVariants as log
+use Rattle.loft_report_shape.specs.Report.{longest}
+use Rattle.loft_report_reader.specs.declared.error.LogError.{LogError}
+use Rattle.loft_report_reader.specs.declared.error.LogError.TheVariants as log
 use Rattle.loft_report_file.specs.Answer.{FileAnswers, FileVerdict}
 use Rattle.loft_report_file.specs.declared.error.ReportFileError.{ReportFileError}
 use Rattle.loft_report_file.specs.declared.error.ReportFileError.TheVariants as file

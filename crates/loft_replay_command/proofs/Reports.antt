@@ -1,13 +1,13 @@
 -- Texts that aren't reports.
 use Rattle.std.proofs.Common.{◌≡◌, ℕ, ◌+◌, ◌<◌, ◌≤◌, nat_lt, Bool, true, false, List, length, take, Err, refl, sym, ap, ◌∙◌, arith}
 use Rattle.std.proofs.lemmas.Bool.{ltb-true, ltb-false}
-use Rattle.loft_shape.specs.Told.{Report}
-use Rattle.loft_shape.specs.Text.{text_of}
-use Rattle.loft_shape.specs.Report.{Shape, StopsAt, feeds, longest}
-use Rattle.loft_reader.specs.Answer.{Fault, Answers}
-use Rattle.loft_reader.specs.declared.error.LogError.{LogError}
-use Rattle.loft_reader.specs.declared.error.LogError.TheVariants as log
-use Rattle.loft_replayed.specs.Replays.{Tells}
+use Rattle.loft_report_shape.specs.Told.{Report}
+use Rattle.loft_report_shape.specs.Text.{text_of}
+use Rattle.loft_report_shape.specs.Report.{Shape, StopsAt, feeds, longest}
+use Rattle.loft_report_reader.specs.Answer.{Fault, Answers}
+use Rattle.loft_report_reader.specs.declared.error.LogError.{LogError}
+use Rattle.loft_report_reader.specs.declared.error.LogError.TheVariants as log
+use Rattle.loft_replay_report.specs.Replays.{Tells}
 use Rattle.loft_replay_command.specs.Replay.{IsNoReport}
 
 -- what is known of all reports: each has one text, and a text is one report or stops to be one, at one place

@@ -3,13 +3,13 @@ use Rattle.std.proofs.Common.{◌≡◌, ℕ, List, Result, Ok, Err, ◌++◌, �
 use Rattle.std.specs.Prelude.{codes}
 use Rattle.loft_orders.specs.declared.entry.Entry.{Entry as HistoryEntry}
 use Rattle.loft_sense.specs.Machine.{Prog}
-use Rattle.loft_shape.specs.Told.{Report}
-use Rattle.loft_shape.specs.Text.{text_of}
+use Rattle.loft_report_shape.specs.Told.{Report}
+use Rattle.loft_report_shape.specs.Text.{text_of}
 use Rattle.loft_replay_error.specs.declared.error.ReplayError.{ReplayError}
 use Rattle.loft_replay_error.specs.declared.error.ReplayError.TheVariants as error
-use Rattle.loft_replayed.specs.Replays.{Tells, IsReportOf, IsRefusal, IsReplayed, IsRefusalOf, IsAccepted, IsRefused}
-use Rattle.loft_replayed.proofs.Judging.{Judged, judged_accepted, judged_not_allowed, judged_differs}
-use Rattle.loft_replayed.proofs.Texts.{refusal_of_text, replayed_text, its_history, its_entry, its_whole, its_difference}
+use Rattle.loft_replay_report.specs.Replays.{Tells, IsReportOf, IsRefusal, IsReplayed, IsRefusalOf, IsAccepted, IsRefused}
+use Rattle.loft_replay_report.proofs.Judging.{Judged, judged_accepted, judged_not_allowed, judged_differs}
+use Rattle.loft_replay_report.proofs.Texts.{refusal_of_text, replayed_text, its_history, its_entry, its_whole, its_difference}
 use Rattle.loft_replay_command.specs.declared.refusal.LogRefusal.{LogRefusal}
 use Rattle.loft_replay_command.specs.declared.refusal.LogRefusal.TheVariants.{NoReport, Entry, Instant, Byte}
 use Rattle.loft_replay_command.specs.Replay.{WholeComesTo}

@@ -9,12 +9,12 @@ use Rattle.loft_sense.specs.Machine.{Prog, Tree, heads}
 use Rattle.loft_refusal.specs.Refusals.{IsSourceOf, Well, IsCause}
 use Rattle.loft_commands.specs.Written.{IsLine}
 use Rattle.loft_commands.specs.Asks.{asks_well}
-use Rattle.loft_shape.specs.Report.{StopsAt, IsLine as StopsInLine, longest}
-use Rattle.loft_reader.specs.declared.error.LogError.{LogError}
-use Rattle.loft_reader.specs.declared.error.LogError.TheVariants as log
+use Rattle.loft_report_shape.specs.Report.{StopsAt, IsLine as StopsInLine, longest}
+use Rattle.loft_report_reader.specs.declared.error.LogError.{LogError}
+use Rattle.loft_report_reader.specs.declared.error.LogError.TheVariants as log
 use Rattle.loft_replay.specs.Named.{scheduler_named}
 use Rattle.loft_replay_error.specs.declared.error.ReplayError.TheVariants as error
-use Rattle.loft_replayed.specs.Replays.{IsReplayed, IsRefusalOf}
+use Rattle.loft_replay_report.specs.Replays.{IsReplayed, IsRefusalOf}
 use Rattle.loft_block_replay.specs.Answer.{HasAnswer}
 use Rattle.loft_replay_command.specs.declared.refusal.LogRefusal.{LogRefusal}
 use Rattle.loft_replay_command.specs.declared.refusal.LogRefusal.TheVariants.{NoReport, Entry, Instant, Byte}

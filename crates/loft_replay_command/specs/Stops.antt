@@ -1,8 +1,8 @@
 -- What stops the command, by what a part of it answered.
 use Rattle.loft_base.specs.declared.writing.WriteError.{WriteError}
 use Rattle.loft_base.specs.declared.writing.WriteError.TheVariants as write
-use Rattle.loft_reader.specs.declared.error.LogError.{LogError}
-use Rattle.loft_reader.specs.declared.error.LogError.TheVariants as log
+use Rattle.loft_report_reader.specs.declared.error.LogError.{LogError}
+use Rattle.loft_report_reader.specs.declared.error.LogError.TheVariants as log
 use Rattle.loft_report_file.specs.declared.error.ReportFileError.{ReportFileError}
 use Rattle.loft_report_file.specs.declared.error.ReportFileError.TheVariants as file
 use Rattle.loft_replay_error.specs.declared.error.ReplayError.{ReplayError}

@@ -3,9 +3,9 @@
 ghost use Rattle.std.specs.Prelude.{◌≢◌, ◌<◌, ◌≤◌, ℕ, List, length, Some, Err, IfSome, IfOk, IfErr, IsTrue, IsErrOf, true, ◌≡◌};
 ghost use Rattle.loft_base.specs.Writing.{are_lines};
 ghost use Rattle.loft_base.specs.Outside.{Rose};
-ghost use Rattle.loft_reader.specs.Answer.{report_in};
+ghost use Rattle.loft_report_reader.specs.Answer.{report_in};
 ghost use Rattle.loft_standing.specs.Stops.{tree_of};
-ghost use Rattle.loft_replayed.specs.Replays.{Tells};
+ghost use Rattle.loft_replay_report.specs.Replays.{Tells};
 ghost use Rattle.loft_replay_command.specs.Replay.{WholeComesTo, BlockComesTo};
 ghost use Rattle.loft_replay_command.specs.Finding.{seen, answer_text, Found, CheckComesTo, IsOfCheck, IsOfReport};
 
@@ -15,10 +15,10 @@ use crate::stops::{stop_of_block, stop_of_whole};
 use loft_base::{Files, SchedId};
 use loft_block_replay::raw_one;
 use loft_place::Placed;
-use loft_reader::RawReport;
-use loft_replayed::replay_raw;
+use loft_replay_report::replay_raw;
 use loft_report_file::read_log;
-use loft_shape::{reports_have_one_text, texts_are_one_report_or_stop};
+use loft_report_reader::RawReport;
+use loft_report_shape::{reports_have_one_text, texts_are_one_report_or_stop};
 use std::alloc::Global;
 
 /// Checks that a report is that of its own history.

@@ -5,8 +5,8 @@ ghost use Rattle.std.specs.Fmt.{decimal};
 ghost use Rattle.loft_replay_command.specs.Refusals.{report_line, log_line};
 
 use loft_base::NoMemory;
-use loft_reader::LogError;
 use loft_refusal::Refusal;
+use loft_report_reader::LogError;
 use std::alloc::Global;
 
 /// Why a report is refused.

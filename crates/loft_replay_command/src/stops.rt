@@ -5,10 +5,10 @@ ghost use Rattle.loft_replay_command.specs.Stops.{stop_of_source, stop_of_log, s
 
 use crate::refusal::{LogRefusal, ReplayStop};
 use loft_base::WriteError;
-use loft_reader::LogError;
 use loft_refusal::Stopped;
 use loft_replay_error::ReplayError;
 use loft_report_file::ReportFileError;
+use loft_report_reader::LogError;
 
 impl From<Stopped> for ReplayStop {
     ghost from_gives = { λ stopped stop. stop ≡ stop_of_source stopped };

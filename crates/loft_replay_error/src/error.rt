@@ -5,7 +5,7 @@ ghost use Rattle.loft_replay_error.specs.Errors.{of_log};
 ghost use Rattle.loft_replay_error.specs.declared.error.ReplayError.TheVariants.{NoMemory as no_memory};
 
 use loft_base::NoMemory;
-use loft_reader::LogError;
+use loft_report_reader::LogError;
 
 /// Why a report isn't that of its history, or a block of it isn't that of its batches (docs/REPORT.md, "Replay").
 #[derive(Clone, Copy, Debug, PartialEq, Eq)]

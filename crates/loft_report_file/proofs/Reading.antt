@@ -3,11 +3,11 @@ use Rattle.std.proofs.Common.{◌≡◌, ℕ, ◌+◌, ◌≤◌, ◌<◌, List,
 use Rattle.std.proofs.lemmas.List.{take_all}
 use Rattle.loft_base.specs.Walk.{count_of, part_of, given, IsWithin, Grows}
 use Rattle.loft_base.specs.declared.walk.FileWalk.{FileWalk}
-use Rattle.loft_shape.specs.Report.{longest}
-use Rattle.loft_reader.specs.Answer.{HasRead, Verdict}
-use Rattle.loft_reader.specs.declared.log.LogReader.{LogReader}
-use Rattle.loft_reader.specs.declared.error.LogError.{LogError}
-use Rattle.loft_reader.specs.declared.error.LogError.TheVariants.{TooLong}
+use Rattle.loft_report_shape.specs.Report.{longest}
+use Rattle.loft_report_reader.specs.Answer.{HasRead, Verdict}
+use Rattle.loft_report_reader.specs.declared.log.LogReader.{LogReader}
+use Rattle.loft_report_reader.specs.declared.error.LogError.{LogError}
+use Rattle.loft_report_reader.specs.declared.error.LogError.TheVariants.{TooLong}
 
 -- the reader was given what the walk gave so far of the file
 pub record IsReadOn (walk : FileWalk) (reader : LogReader) (file : List ℕ) : Type 0 where

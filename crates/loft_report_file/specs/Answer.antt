@@ -1,10 +1,10 @@
 -- What is answered of a file that may be a report.
 use Rattle.std.specs.Prelude.{◌≡◌, List, ℕ, Result, Ok, Err}
-use Rattle.loft_shape.specs.Told.{Report}
-use Rattle.loft_reader.specs.Answer.{Answers, Verdict, report_in}
-use Rattle.loft_reader.specs.declared.raw.RawReport.{RawReport}
-use Rattle.loft_reader.specs.declared.error.LogError.{LogError}
-use Rattle.loft_reader.specs.declared.error.LogError.TheVariants.{Line, Ends}
+use Rattle.loft_report_shape.specs.Told.{Report}
+use Rattle.loft_report_reader.specs.Answer.{Answers, Verdict, report_in}
+use Rattle.loft_report_reader.specs.declared.raw.RawReport.{RawReport}
+use Rattle.loft_report_reader.specs.declared.error.LogError.{LogError}
+use Rattle.loft_report_reader.specs.declared.error.LogError.TheVariants.{Line, Ends}
 use Rattle.loft_report_file.specs.declared.error.ReportFileError.{ReportFileError}
 use Rattle.loft_report_file.specs.declared.error.ReportFileError.TheVariants.{Failed, Log}
 

@@ -1,11 +1,11 @@
 //! Why a file wasn't read as a report.
 
 ghost use Rattle.std.specs.Prelude.{◌≡◌};
-ghost use Rattle.loft_reader.specs.declared.error.LogError.TheVariants.{NoMemory as no_memory};
+ghost use Rattle.loft_report_reader.specs.declared.error.LogError.TheVariants.{NoMemory as no_memory};
 ghost use Rattle.loft_report_file.specs.declared.error.ReportFileError.TheVariants.{Failed as failed, Log as log};
 
 use loft_base::{Failed, NoMemory};
-use loft_reader::LogError;
+use loft_report_reader::LogError;
 
 /// Why a file wasn't read as a report.
 #[derive(Clone, Copy, Debug, PartialEq, Eq)]

@@ -2,16 +2,16 @@
 
 ghost use Rattle.std.specs.Prelude.{◌≡◌, ◌≢◌, ◌⊎◌, ◌<◌, ◌≤◌, ℕ, length, Ok, Err, IsTrue, IfSome, IsErrOf};
 ghost use Rattle.loft_base.specs.Outside.{Rose};
-ghost use Rattle.loft_shape.specs.Told.{Report};
-ghost use Rattle.loft_shape.specs.Report.{Shape, StopsAt, longest};
-ghost use Rattle.loft_reader.specs.Log.{error_at};
-ghost use Rattle.loft_reader.specs.declared.error.LogError.TheVariants.{TooLong, NoMemory as no_memory};
+ghost use Rattle.loft_report_shape.specs.Told.{Report};
+ghost use Rattle.loft_report_shape.specs.Report.{Shape, StopsAt, longest};
+ghost use Rattle.loft_report_reader.specs.Log.{error_at};
+ghost use Rattle.loft_report_reader.specs.declared.error.LogError.TheVariants.{TooLong, NoMemory as no_memory};
 ghost use Rattle.loft_report_file.specs.declared.error.ReportFileError.TheVariants.{Failed as failed, Log as log};
 ghost use Rattle.loft_report_file.specs.Answer.{FileAnswers, FileVerdict, IsOfAll};
 
 use crate::error::ReportFileError;
 use loft_base::{FileWalk, Files};
-use loft_reader::{LogError, LogReader, MAX_REPORT_LEN, RawReport};
+use loft_report_reader::{LogError, LogReader, MAX_REPORT_LEN, RawReport};
 use std::alloc::Global;
 
 /// How many bytes of a file are asked for at once.

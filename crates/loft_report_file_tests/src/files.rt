@@ -1,8 +1,8 @@
 //! Reports in files in memory.
 
 use loft_base::{MemFiles, NoMemory};
-use loft_reader::LogError;
 use loft_report_file::{ReportFileError, read_log};
+use loft_report_reader::LogError;
 use std::alloc::Global;
 
 /// A report of one instant of one thread.

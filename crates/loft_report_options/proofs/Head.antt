@@ -8,17 +8,17 @@ use Rattle.loft_base.specs.Options.{AreInRange}
 use Rattle.loft_spelling.specs.Sets.{is_digit, is_empty, value_of, is_number}
 use Rattle.loft_spelling.specs.Parts.{Left}
 use Rattle.loft_spelling.proofs.Sets.{and_both}
-use Rattle.loft_shape.specs.Sets.{number_set}
-use Rattle.loft_shape.specs.Grammar.{after, blank, feed, number_line}
-use Rattle.loft_shape.specs.Told.{Report, Told, nothing_told, number_told}
-use Rattle.loft_shape.specs.Report.{grammar, Shape}
-use Rattle.loft_shape.specs.declared.word.Word.{Word}
-use Rattle.loft_shape.specs.declared.word.Word.TheVariants as word
-use Rattle.loft_shape.specs.declared.part.Part.{Part}
-use Rattle.loft_shape.specs.declared.part.Part.TheVariants as part
-use Rattle.loft_shape.specs.declared.part.NumberKind.{NumberKind}
-use Rattle.loft_shape.specs.declared.part.NumberKind.TheVariants as number
-use Rattle.loft_shape.proofs.Spelled.{Sp, top, number_is, one}
+use Rattle.loft_report_shape.specs.Sets.{number_set}
+use Rattle.loft_report_shape.specs.Grammar.{after, blank, feed, number_line}
+use Rattle.loft_report_shape.specs.Told.{Report, Told, nothing_told, number_told}
+use Rattle.loft_report_shape.specs.Report.{grammar, Shape}
+use Rattle.loft_report_shape.specs.declared.word.Word.{Word}
+use Rattle.loft_report_shape.specs.declared.word.Word.TheVariants as word
+use Rattle.loft_report_shape.specs.declared.part.Part.{Part}
+use Rattle.loft_report_shape.specs.declared.part.Part.TheVariants as part
+use Rattle.loft_report_shape.specs.declared.part.NumberKind.{NumberKind}
+use Rattle.loft_report_shape.specs.declared.part.NumberKind.TheVariants as number
+use Rattle.loft_report_shape.proofs.Spelled.{Sp, top, number_is, one}
 use Rattle.loft_report_options.proofs.Later.{later_options}
 
 -- ---- a number that is not 0

@@ -4,22 +4,22 @@ use Rattle.std.specs.List.{list_all}
 use Rattle.loft_spelling.specs.Sets.{value_of}
 use Rattle.loft_spelling.specs.Parts.{Left}
 use Rattle.loft_spelling.proofs.Sets.{and_both, both_and}
-use Rattle.loft_shape.specs.Word.{word_of}
-use Rattle.loft_shape.specs.Grammar.{after, after_maker, after_value, after_blocks, after_final, after_choice, after_line, after_order, after_wait, after_reason, after_number, frames, thread, feed, blank, other_name, begins_number, head_is}
-use Rattle.loft_shape.specs.Told.{Report, Told, kept, enters, number_told, name_told, note}
-use Rattle.loft_shape.specs.Report.{grammar}
-use Rattle.loft_shape.specs.declared.word.Word.{Word}
-use Rattle.loft_shape.specs.declared.word.Word.TheVariants as word
-use Rattle.loft_shape.specs.declared.part.Part.{Part}
-use Rattle.loft_shape.specs.declared.part.Part.TheVariants as part
-use Rattle.loft_shape.specs.declared.part.NumberKind.{NumberKind}
-use Rattle.loft_shape.specs.declared.part.NumberKind.TheVariants as number
-use Rattle.loft_shape.specs.declared.part.NameRole.{NameRole}
-use Rattle.loft_shape.specs.declared.part.NameRole.TheVariants as role
-use Rattle.loft_shape.specs.declared.part.Section.{Section}
-use Rattle.loft_shape.specs.declared.part.Section.TheVariants as section
-use Rattle.loft_shape.specs.declared.part.Stage.{Stage}
-use Rattle.loft_shape.proofs.Spelled.{Sp}
+use Rattle.loft_report_shape.specs.Word.{word_of}
+use Rattle.loft_report_shape.specs.Grammar.{after, after_maker, after_value, after_blocks, after_final, after_choice, after_line, after_order, after_wait, after_reason, after_number, frames, thread, feed, blank, other_name, begins_number, head_is}
+use Rattle.loft_report_shape.specs.Told.{Report, Told, kept, enters, number_told, name_told, note}
+use Rattle.loft_report_shape.specs.Report.{grammar}
+use Rattle.loft_report_shape.specs.declared.word.Word.{Word}
+use Rattle.loft_report_shape.specs.declared.word.Word.TheVariants as word
+use Rattle.loft_report_shape.specs.declared.part.Part.{Part}
+use Rattle.loft_report_shape.specs.declared.part.Part.TheVariants as part
+use Rattle.loft_report_shape.specs.declared.part.NumberKind.{NumberKind}
+use Rattle.loft_report_shape.specs.declared.part.NumberKind.TheVariants as number
+use Rattle.loft_report_shape.specs.declared.part.NameRole.{NameRole}
+use Rattle.loft_report_shape.specs.declared.part.NameRole.TheVariants as role
+use Rattle.loft_report_shape.specs.declared.part.Section.{Section}
+use Rattle.loft_report_shape.specs.declared.part.Section.TheVariants as section
+use Rattle.loft_report_shape.specs.declared.part.Stage.{Stage}
+use Rattle.loft_report_shape.proofs.Spelled.{Sp}
 
 -- the number isn't an option
 abbrev is_later : NumberKind → Bool

@@ -11,7 +11,7 @@ ghost use Rattle.loft_actor.specs.Engines.{shown, new_engine, engine_after};
 ghost use Rattle.loft_actor.specs.Runs.{IsRun};
 ghost use Rattle.loft_history.specs.History.{replayed};
 ghost use Rattle.loft_history.specs.Report.{schedulers};
-ghost use Rattle.loft_turns.specs.Running.{IsWholeRun};
+ghost use Rattle.loft_course.specs.Running.{IsWholeRun};
 ghost use Rattle.loft_world.specs.Replay.{stand_of};
 
 use loft_actor::{Engines, run_all};

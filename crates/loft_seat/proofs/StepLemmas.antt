@@ -24,11 +24,11 @@ use Rattle.loft_sense.specs.Machine.{Prog, Code, Mach}
 use Rattle.loft_history.specs.History.{sent_in, waiting, jobs, has_turn, is_open, is_busy}
 use Rattle.loft_history.specs.Legal.{actor_of, same_actor, of}
 use Rattle.loft_history.proofs.OwnLemmas.{scheduler_own, worker_own}
-use Rattle.loft_stand.specs.Machines.{ThreadFits, SentFits}
-use Rattle.loft_stand.specs.WellFormed.{IsWellFormed}
-use Rattle.loft_stand.proofs.HistoryFits.{sent_waits_fit, sent_jobs_stand}
+use Rattle.loft_soundness.specs.Machines.{ThreadFits, SentFits}
+use Rattle.loft_soundness.specs.WellFormed.{IsWellFormed}
+use Rattle.loft_soundness.proofs.HistoryFits.{sent_waits_fit, sent_jobs_stand}
 use Rattle.loft_world.specs.State.{State, with_entry}
-use Rattle.loft_steps.specs.Turns.{due}
+use Rattle.loft_turn_parts.specs.Turns.{due}
 use Rattle.loft_baton.specs.declared.knows.Own.{Own}
 use Rattle.loft_baton.specs.declared.knows.Knows.{Knows}
 use Rattle.loft_baton.specs.OfCode.{IsOfCode}

@@ -17,7 +17,7 @@ use Rattle.loft_sense.specs.Fits.{Fits}
 use Rattle.loft_sense.specs.Machine.{Prog, Code, Mach}
 use Rattle.loft_history.specs.History.{waiting, jobs, has_turn}
 use Rattle.loft_history.specs.Legal.{actor_of, same_actor, of}
-use Rattle.loft_stand.specs.Machines.{ThreadFits}
+use Rattle.loft_soundness.specs.Machines.{ThreadFits}
 use Rattle.loft_baton.specs.declared.knows.Own.{Own}
 use Rattle.loft_baton.specs.Knowing.{IsIdle, own_of}
 use Rattle.loft_baton.specs.PassValue.{PassValue}

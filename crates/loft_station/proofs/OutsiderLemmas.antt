@@ -27,11 +27,11 @@ use Rattle.loft_history.specs.Legal.{of, FitsOne, Gives, IsFirst, IsFaithful}
 use Rattle.loft_history.proofs.GrowthLemmas.{own_grows}
 use Rattle.loft_history.proofs.LegalLemmas.{faithful_none}
 use Rattle.loft_history.proofs.OwnLemmas.{given}
-use Rattle.loft_stand.specs.Machines.{SentFits}
-use Rattle.loft_stand.specs.WellFormed.{IsWellFormed}
-use Rattle.loft_stand.proofs.OrderLemmas.{outside_for_one, one_fits}
-use Rattle.loft_steps.specs.Clients.{orders_at, HasEvent}
-use Rattle.loft_steps.proofs.ClientLemmas.{left_by_entries}
+use Rattle.loft_soundness.specs.Machines.{SentFits}
+use Rattle.loft_soundness.specs.WellFormed.{IsWellFormed}
+use Rattle.loft_soundness.proofs.OrderLemmas.{outside_for_one, one_fits}
+use Rattle.loft_turn_parts.specs.Clients.{orders_at, HasEvent}
+use Rattle.loft_turn_parts.proofs.ClientLemmas.{left_by_entries}
 use Rattle.loft_world.specs.State.{IsToOne, IsForClients}
 use Rattle.loft_seat.specs.Seats.{entries_of, IsOf, IsSeat, HasSame, HasMore, IsNewPass}
 use Rattle.loft_seat.proofs.SeatLemmas.{entries_is, reseat, new_seat}

@@ -25,11 +25,11 @@ use Rattle.loft_history.specs.History.{log, is_open, waiting, has_turn, sent_las
 use Rattle.loft_history.proofs.GrowthLemmas.{own_grows}
 use Rattle.loft_history.proofs.HistoryLemmas.{same_self, log-append}
 use Rattle.loft_history.proofs.LegalLemmas.{faithful_none}
-use Rattle.loft_stand.specs.Machines.{SentFits}
-use Rattle.loft_stand.specs.WellFormed.{IsWellFormed}
-use Rattle.loft_stand.proofs.HistoryFits.{replayed_notes}
-use Rattle.loft_steps.specs.Turns.{IsReplay}
-use Rattle.loft_steps.proofs.TurnLemmas.{opened, shut, log_given, replay_given}
+use Rattle.loft_soundness.specs.Machines.{SentFits}
+use Rattle.loft_soundness.specs.WellFormed.{IsWellFormed}
+use Rattle.loft_soundness.proofs.HistoryFits.{replayed_notes}
+use Rattle.loft_turn_parts.specs.Turns.{IsReplay}
+use Rattle.loft_turn_parts.proofs.TurnLemmas.{opened, shut, log_given, replay_given}
 use Rattle.loft_baton.specs.declared.knows.Own.{Own}
 use Rattle.loft_baton.specs.Count.{sole}
 use Rattle.loft_baton.specs.Knowing.{own_of}

@@ -18,12 +18,12 @@ use Rattle.loft_history.specs.History.{is_busy}
 use Rattle.loft_history.specs.Legal.{IsFirst}
 use Rattle.loft_history.proofs.GrowthLemmas.{own_grows}
 use Rattle.loft_history.proofs.LegalLemmas.{faithful_none}
-use Rattle.loft_stand.specs.Machines.{SentFits}
-use Rattle.loft_stand.specs.WellFormed.{IsWellFormed}
-use Rattle.loft_stand.proofs.InstantLemmas.{unlinked_fits}
-use Rattle.loft_sends.specs.Blocks.{EndsAtLast}
-use Rattle.loft_sends.proofs.BlockLemmas.{block_ends}
-use Rattle.loft_steps.proofs.HandLemmas.{left_picked, busy_picked, left_posted, busy_posted}
+use Rattle.loft_soundness.specs.Machines.{SentFits}
+use Rattle.loft_soundness.specs.WellFormed.{IsWellFormed}
+use Rattle.loft_soundness.proofs.InstantLemmas.{unlinked_fits}
+use Rattle.loft_conservation.specs.Blocks.{EndsAtLast}
+use Rattle.loft_conservation.proofs.BlockLemmas.{block_ends}
+use Rattle.loft_turn_parts.proofs.HandLemmas.{left_picked, busy_picked, left_posted, busy_posted}
 use Rattle.loft_job.specs.declared.job.Job.{Job}
 use Rattle.loft_job.specs.Job.{left_of_job}
 use Rattle.loft_seat.specs.declared.seat.Seat.{Seat}

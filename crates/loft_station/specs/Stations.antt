@@ -17,7 +17,7 @@ use Rattle.loft_sense.specs.Fits.{Fits}
 use Rattle.loft_sense.specs.Machine.{Prog, Code, Mach}
 use Rattle.loft_history.specs.History.{log, is_open, waiting, has_turn, sent_last}
 use Rattle.loft_history.specs.Legal.{IsFaithful}
-use Rattle.loft_steps.specs.Turns.{IsReplay}
+use Rattle.loft_turn_parts.specs.Turns.{IsReplay}
 use Rattle.loft_seat.specs.declared.seat.Seat.{Seat}
 use Rattle.loft_seat.specs.Seats.{entries_of, HasSame}
 

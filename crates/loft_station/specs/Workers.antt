@@ -14,8 +14,8 @@ use Rattle.loft_sense.specs.Async.{async}
 use Rattle.loft_sense.specs.Machine.{Prog, Code}
 use Rattle.loft_history.specs.History.{jobs, unposted, is_busy}
 use Rattle.loft_history.specs.Legal.{IsFaithful}
-use Rattle.loft_stand.specs.Machines.{SentFits}
-use Rattle.loft_sends.specs.Blocks.{EndsAtLast}
+use Rattle.loft_soundness.specs.Machines.{SentFits}
+use Rattle.loft_conservation.specs.Blocks.{EndsAtLast}
 use Rattle.loft_job.specs.declared.job.Job.{Job}
 use Rattle.loft_job.specs.Job.{left_of_job}
 use Rattle.loft_seat.specs.Seats.{entries_of, HasSame}

@@ -13,7 +13,7 @@ use loft_baton::{Baton, Pass};
 use loft_code::Code;
 use loft_orders::{Order, Sent};
 use loft_seat::{Seat, code_is_well_formed, give_order};
-use loft_steps::next_order;
+use loft_turn_parts::next_order;
 use std::alloc::Global;
 use std::sync::Wait;
 

@@ -20,7 +20,7 @@ use loft_code::Code;
 use loft_orders::{Actor, Orders};
 use loft_seat::{Seat, code_is_well_formed, give, take};
 use loft_sense::Engine;
-use loft_steps::make_instant;
+use loft_turn_parts::make_instant;
 use loft_world::{NoteList, World};
 use std::alloc::Global;
 use std::marker::Model;

@@ -11,7 +11,7 @@ ghost use Rattle.loft_step.specs.Midst.{paused_outcome, paused_left};
 use loft_base::NoMemory;
 use loft_code::Code;
 use loft_count::Steps;
-use loft_counted::CountedInterpreter;
+use loft_counted_run::CountedInterpreter;
 use loft_effect::{Around, Progress};
 use loft_orders::{Acts, Stop, Thread};
 use loft_passes::Interpreter;

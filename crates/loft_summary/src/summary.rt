@@ -3,13 +3,13 @@
 ghost use Rattle.std.specs.Prelude.{◌≡◌, ◌+◌, cond, map, IfOk};
 ghost use Rattle.loft_orders.specs.Lines.{text_of};
 ghost use Rattle.loft_sense.specs.Tally.{capped};
-ghost use Rattle.loft_text.specs.Buffer.{Adds};
+ghost use Rattle.loft_value_text.specs.Buffer.{Adds};
 ghost use Rattle.loft_summary.specs.Lines.{acts_in, all_acts, count_line, done_among, is_done, shared_text, summary_text, value_line};
 
 use loft_base::NoMemory;
 use loft_gen::{rounds_of, threads_of};
 use loft_orders::{Act, End, FinalState, InstantNote};
-use loft_text::LineBuffer;
+use loft_value_text::LineBuffer;
 use loft_world::{Finals, NoteList, Notes};
 use std::alloc::Global;
 

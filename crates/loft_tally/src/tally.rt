@@ -8,8 +8,8 @@ use loft_base::SchedId;
 use loft_instant_text::note_length;
 use loft_orders::{InstantNote, Order, Orders, Sent, To};
 use loft_sense::Tally;
-use loft_text::{TextLength, TextWriter, push_scheduler_name};
 use loft_tree::Heads;
+use loft_value_text::{TextLength, TextWriter, push_scheduler_name};
 
 /// Before the first instant of this scheduler.
 pub fn first_tally(heads: &Heads, scheduler: SchedId) -> Tally

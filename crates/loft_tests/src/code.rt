@@ -5,7 +5,7 @@ mod calls;
 
 use loft_base::{ModuleId, NoMemory};
 use loft_code::{CodeError, OpAt, validate};
-use loft_reading::read;
+use loft_listing_reader::read;
 use std::alloc::Global;
 
 /// What stands before the operations of the module `m`.

@@ -6,7 +6,7 @@ use Rattle.loft_top.specs.declared.status.Status.{Status}
 use Rattle.loft_top.specs.declared.status.Status.TheVariants as status
 use Rattle.loft_refusal.specs.declared.refusal.Refusal.{Refusal}
 use Rattle.loft_refusal.specs.declared.refusal.Stopped.TheVariants as stopped
-use Rattle.loft_words.specs.Command.{FileCommand, Command, OfFile}
+use Rattle.loft_arguments.specs.Command.{FileCommand, Command, OfFile}
 use Rattle.loft_commands.specs.Written.{Appends, IsLine, IsPrefix, HasNoRoom}
 use Rattle.loft_refusal.specs.Refusals.{line_of}
 use Rattle.loft_commands.specs.Promise.{IsFileAnswer}

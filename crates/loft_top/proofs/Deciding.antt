@@ -13,13 +13,13 @@ use Rattle.loft_parse.specs.Faults.{SourceFault}
 use Rattle.loft_code.specs.declared.error.CodeError.{CodeError}
 use Rattle.loft_code.specs.Operations.{Automata}
 use Rattle.loft_code.specs.Valid.{Valid, CodeFault}
-use Rattle.loft_reading.specs.declared.error.ListError.{ListError}
-use Rattle.loft_reading.specs.Lists.{Lists, LineFault}
-use Rattle.loft_expansion.specs.Expansion.{IsExpansion}
-use Rattle.loft_expansion.specs.Refusals.{IsRefused, Refusal as LocksRefusal}
+use Rattle.loft_listing_reader.specs.declared.error.ListError.{ListError}
+use Rattle.loft_listing_reader.specs.Lists.{Lists, LineFault}
+use Rattle.loft_lock_expansion.specs.Expansion.{IsExpansion}
+use Rattle.loft_lock_expansion.specs.Refusals.{IsRefused, Refusal as LocksRefusal}
 use Rattle.loft_refusal.specs.declared.refusal.Refusal.{Refusal}
 use Rattle.loft_refusal.specs.declared.refusal.Refusal.TheVariants as refusal
-use Rattle.loft_words.specs.Command.{FileCommand, Run, Exec, Show, Check, Compile, Bound, Expand}
+use Rattle.loft_arguments.specs.Command.{FileCommand, Run, Exec, Show, Check, Compile, Bound, Expand}
 use Rattle.loft_refusal.specs.Input.{Input, ASource, AListing, AnExpansion}
 use Rattle.loft_refusal.specs.Refusals.{IsTextOf, IsSourceOf, IsListingOf, Well, IsCause}
 use Rattle.loft_commands.specs.Asks.{Asks, Takes, asks_source, asks_well, asks_listing, asks_locks}

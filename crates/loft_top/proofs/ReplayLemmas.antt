@@ -3,7 +3,7 @@ use Rattle.std.proofs.Common.{◌≡◌, ℕ, ◌⊎◌, inl, inr, Bool, List, [
 use Rattle.std.specs.Prelude.{option_and_then}
 use Rattle.std.specs.Option.{option_map}
 use Rattle.loft_base.specs.Outside.{appended, GrowsByPrefix}
-use Rattle.loft_words.specs.Command.{Command, Replay}
+use Rattle.loft_arguments.specs.Command.{Command, Replay}
 use Rattle.loft_commands.specs.Written.{Appends, IsPrefix, HasNoRoom}
 use Rattle.loft_replay_command.specs.Refusals.{log_line}
 use Rattle.loft_replay_command.specs.Replay.{IsSourceStop, ReplayComesTo}

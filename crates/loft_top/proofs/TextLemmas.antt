@@ -3,7 +3,7 @@ use Rattle.std.proofs.Common.{◌≡◌, ℕ, ◌≤◌, arith, Bool, inl, inr, 
 use Rattle.loft_base.specs.Outside.{Rose}
 use Rattle.loft_base.specs.declared.writing.WriteError.{WriteError}
 use Rattle.loft_base.specs.declared.writing.WriteError.TheVariants as write
-use Rattle.loft_words.specs.Command.{Command}
+use Rattle.loft_arguments.specs.Command.{Command}
 use Rattle.loft_commands.specs.Written.{Appends, IsPrefix, HasNoRoom}
 use Rattle.loft_gen_command.specs.Writes.{WritesOneOf}
 use Rattle.loft_top.specs.declared.status.Status.TheVariants as status

@@ -5,7 +5,7 @@ use Rattle.loft_gen.specs.Generated.{generated}
 use Rattle.loft_generated_run.specs.Summary.{IsSummary}
 use Rattle.loft_refusal.specs.Input.{Input}
 use Rattle.loft_refusal.specs.Refusals.{IsTextOf}
-use Rattle.loft_words.specs.Command.{Command, OfFile, Replay, Gen, GenRun}
+use Rattle.loft_arguments.specs.Command.{Command, OfFile, Replay, Gen, GenRun}
 use Rattle.loft_commands.specs.Written.{Appends, IsLine, IsPrefix, HasNoRoom}
 use Rattle.loft_commands.specs.Asks.{RefusesFile, Takes}
 use Rattle.loft_commands.specs.Promise.{IsFileAnswer}

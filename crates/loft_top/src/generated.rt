@@ -2,7 +2,7 @@
 
 ghost use Rattle.std.specs.Prelude.{◌≡◌, ◌≢◌, ◌≤◌, ℕ, Some, []};
 ghost use Rattle.loft_base.specs.Outside.{Rose};
-ghost use Rattle.loft_words.specs.Command.{Gen, GenRun};
+ghost use Rattle.loft_arguments.specs.Command.{Gen, GenRun};
 ghost use Rattle.loft_top.specs.Answer.{Answers};
 
 use crate::status::{Status, status_of};

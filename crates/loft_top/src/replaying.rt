@@ -3,7 +3,7 @@
 ghost use Rattle.std.specs.Prelude.{◌≡◌, ◌≢◌, ◌≤◌, ◌∷◌, [], IsTrue};
 ghost use Rattle.std.specs.Option.{option_copied};
 ghost use Rattle.loft_base.specs.Outside.{Rose};
-ghost use Rattle.loft_words.specs.Command.{Replay};
+ghost use Rattle.loft_arguments.specs.Command.{Replay};
 ghost use Rattle.loft_top.specs.Reads.{contents_of};
 ghost use Rattle.loft_top.specs.Answer.{Answers};
 

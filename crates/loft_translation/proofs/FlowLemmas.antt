@@ -15,7 +15,7 @@ use Rattle.loft_code.specs.Valid.{test_in}
 use Rattle.loft_code.specs.Leads.{IsReached, LeadsOn}
 use Rattle.loft_sense.specs.Stands.{end_or_unlinked, place_after, leads_step, leads}
 use Rattle.loft_translation.specs.Compiled.{line, if_lines, else_lines, again_lines, turn_lines, step_lines, body_lines}
-use Rattle.loft_stand.specs.Numbered.{stops_in as step_stops, body_stops}
+use Rattle.loft_soundness.specs.Numbered.{stops_in as step_stops, body_stops}
 use Rattle.loft_translation.proofs.StepLemmas.{StepPasses, BodyPasses}
 
 -- ---- lists in lists

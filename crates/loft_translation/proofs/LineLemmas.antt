@@ -18,7 +18,7 @@ use Rattle.loft_code.specs.Kinds.{has_bad_kind}
 use Rattle.loft_code.specs.Leads.{EndsWell}
 use Rattle.loft_sense.specs.Stands.{leads_step, leads}
 use Rattle.loft_translation.specs.Compiled.{line, step_lines, body_lines}
-use Rattle.loft_stand.specs.Numbered.{stops_in as step_stops, body_stops}
+use Rattle.loft_soundness.specs.Numbered.{stops_in as step_stops, body_stops}
 use Rattle.loft_translation.proofs.OperationLemmas.{OperationPasses, allowed_anywhere}
 use Rattle.loft_translation.proofs.StepLemmas.{StepPasses, BodyPasses}
 

@@ -13,7 +13,7 @@ use Rattle.loft_code.specs.Operations as op
 use Rattle.loft_code.specs.Valid.{is_stop, stops_before, is_wrong_stop}
 use Rattle.loft_sense.specs.Stands.{leads_step, leads}
 use Rattle.loft_translation.specs.Compiled.{line, step_lines, body_lines}
-use Rattle.loft_stand.specs.Numbered.{stops_in as step_stops, body_stops}
+use Rattle.loft_soundness.specs.Numbered.{stops_in as step_stops, body_stops}
 use Rattle.loft_translation.proofs.StepLemmas.{StepPasses, BodyPasses}
 
 -- ---- how many stops there are

@@ -12,8 +12,8 @@ use Rattle.loft_tree.specs.Resolved.{Step, Do, Hold, Call, Choose, Loop, Times, 
 use Rattle.loft_place.specs.Links.{IsPlaced}
 use Rattle.loft_sense.specs.Tree.{body_at}
 use Rattle.loft_sense.specs.Stands.{begin_or_unlinked, begin_of, leads_step}
-use Rattle.loft_stand.specs.WorkFits.{StepFits, BodyFits}
-use Rattle.loft_stand.proofs.FitLemmas.{module_fits}
+use Rattle.loft_soundness.specs.WorkFits.{StepFits, BodyFits}
+use Rattle.loft_soundness.proofs.FitLemmas.{module_fits}
 use Rattle.loft_translation.specs.Compiled.{compiled}
 use Rattle.loft_translation.specs.Implements.{Implements}
 use Rattle.loft_translation.specs.Whole.{StepIsWhole, BodyIsWhole, IsWhole}

@@ -12,9 +12,9 @@ use Rattle.loft_sense.specs.Machine.{Prog, Tree, Code}
 use Rattle.loft_history.specs.History.{Choice, hist, HasEnded}
 use Rattle.loft_history.specs.Legal.{IsLegal}
 use Rattle.loft_history.specs.Report.{report}
-use Rattle.loft_stand.specs.WellFormed.{IsWellFormed}
-use Rattle.loft_stand.specs.Alike.{RunsAlike}
-use Rattle.loft_stand.proofs.HistoryAlike.{histories_same, legal_same, ended_same, reports_same}
+use Rattle.loft_soundness.specs.WellFormed.{IsWellFormed}
+use Rattle.loft_soundness.specs.Alike.{RunsAlike}
+use Rattle.loft_soundness.proofs.HistoryAlike.{histories_same, legal_same, ended_same, reports_same}
 use Rattle.loft_translation.specs.Compiled.{compiled}
 use Rattle.loft_translation.specs.Implements.{Implements}
 use Rattle.loft_translation.proofs.Placed.{placed_implements}

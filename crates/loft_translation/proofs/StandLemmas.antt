@@ -18,7 +18,7 @@ use Rattle.loft_sense.specs.Machine.{Prog, Tree, Code}
 use Rattle.loft_sense.specs.Tree.{body_at}
 use Rattle.loft_sense.specs.Code.{lines_at}
 use Rattle.loft_sense.specs.Stands.{StopAt, begin_of, leads_step, leads, stop_in, line_stop, program_stop, ValuesAgree, FrameStands, OuterStand, FramesStand, Stands}
-use Rattle.loft_stand.specs.Numbered.{stops_in, body_stops}
+use Rattle.loft_soundness.specs.Numbered.{stops_in, body_stops}
 use Rattle.loft_translation.specs.Compiled.{line, again_lines, turn_lines, step_lines, body_lines, compiled}
 use Rattle.loft_translation.specs.Implements.{IsSame}
 use Rattle.loft_translation.specs.Whole.{BodyIsWhole, IsWhole}

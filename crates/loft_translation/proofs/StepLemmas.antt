@@ -23,7 +23,7 @@ use Rattle.loft_code.specs.declared.limits.TheConstants.{MAX_DEPTH}
 use Rattle.loft_code.specs.Operations as op
 use Rattle.loft_code.specs.Names.{has_place}
 use Rattle.loft_sense.specs.Stands.{end_or_unlinked, place_after, leads_step, leads}
-use Rattle.loft_stand.specs.Numbered.{stops_in as step_stops, body_stops}
+use Rattle.loft_soundness.specs.Numbered.{stops_in as step_stops, body_stops}
 use Rattle.loft_translation.proofs.OperandLemmas.{operand_passes, call_passes, begins_there}
 use Rattle.loft_translation.proofs.OperationLemmas.{OperationPasses, action_passes, pause_passes, run_passes, branch_passes, count_passes}
 

@@ -13,7 +13,7 @@ use Rattle.loft_sense.specs.Run.{go}
 use Rattle.loft_sense.specs.Tree.{tree, body_at}
 use Rattle.loft_sense.specs.Code.{code, lines_at}
 use Rattle.loft_sense.specs.Stands.{Stands}
-use Rattle.loft_stand.specs.Numbered.{body_stops}
+use Rattle.loft_soundness.specs.Numbered.{body_stops}
 
 -- both, each from the other
 pub record IsSame (P Q : Type 0) : Type 0 where

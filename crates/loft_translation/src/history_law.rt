@@ -13,7 +13,7 @@ ghost use Rattle.loft_sense.specs.Machine.{Tree, Code};
 ghost use Rattle.loft_history.specs.History.{Choice, hist, HasEnded};
 ghost use Rattle.loft_history.specs.Legal.{IsLegal};
 ghost use Rattle.loft_history.specs.Report.{report};
-ghost use Rattle.loft_stand.specs.Alike.{RunsAlike};
+ghost use Rattle.loft_soundness.specs.Alike.{RunsAlike};
 ghost use Rattle.loft_translation.specs.Compiled.{compiled};
 ghost use Rattle.loft_translation.specs.Implements.{Implements};
 

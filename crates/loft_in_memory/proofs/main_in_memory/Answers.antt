@@ -1,8 +1,8 @@
 use Rattle.std.proofs.Common.{not}
 use Rattle.loft_base.specs.MemFiles.{is_planned, contents_of, faults_of}
 use Rattle.loft_base.specs.MemSink.{known_room}
-use Rattle.loft_words.specs.Words.{words_of}
-use Rattle.loft_words.specs.Command.{command, OfFile, Run}
+use Rattle.loft_arguments.specs.Words.{words_of}
+use Rattle.loft_arguments.specs.Command.{command, OfFile, Run}
 use Rattle.loft_refusal.specs.Input.{ASource}
 use Rattle.std.proofs.Common.{◌∷◌, [], ap, List, ℕ, Option, Some}
 use Rattle.std.specs.Prelude.{option_and_then}

@@ -11,7 +11,7 @@ use super::{ReportWriter, write_line};
 use loft_base::{SchedId, Sink, WriteError};
 use loft_choices::make_choice_line;
 use loft_orders::{Entry, Order};
-use loft_text::LineBuffer;
+use loft_value_text::LineBuffer;
 use loft_world::World;
 
 /// The batch that the scheduler takes by this entry, if it does.

@@ -13,7 +13,7 @@ use super::{ReportWriter, write_line};
 use loft_base::{SchedId, Sink, WriteError};
 use loft_instant_text::{are_in_order, ends_from};
 use loft_orders::{Ended, InstantNote, Mark, Order, Sent};
-use loft_text::LineBuffer;
+use loft_value_text::LineBuffer;
 use loft_world::World;
 
 impl ReportWriter<'_> {

@@ -10,7 +10,7 @@ use super::lines::make_left_order_line;
 use super::{ReportWriter, scheduler_at, write_line};
 use loft_base::{NoMemory, SchedId, Sink, WriteError};
 use loft_orders::Order;
-use loft_text::LineBuffer;
+use loft_value_text::LineBuffer;
 use loft_world::World;
 
 impl ReportWriter<'_> {

@@ -3,7 +3,7 @@
 
 ghost use Rattle.std.specs.Prelude.{◌++◌, codes};
 ghost use Rattle.std.specs.Fmt.{decimal, signed_decimal};
-ghost use Rattle.loft_text.specs.Buffer.{Holds};
+ghost use Rattle.loft_value_text.specs.Buffer.{Holds};
 ghost use Rattle.loft_orders.specs.Text.{space, scheduler_name, id_text, order_text};
 ghost use Rattle.loft_orders.specs.Lines.{end_line, mark_word, leave_place};
 ghost use Rattle.loft_history.specs.Report.{left_line, standing_line};
@@ -13,8 +13,8 @@ use loft_instant_text::{
     InOneLine, push_end_line, push_leave_line, push_order, push_order_line, push_thread,
 };
 use loft_orders::{End, Mark, Order, Standing, To};
-use loft_text::{LineBuffer, push_scheduler_name};
 use loft_tree::Heads;
+use loft_value_text::{LineBuffer, push_scheduler_name};
 
 /// Makes the line of an act, of a thread as it stands after its instant, or of a shared variable
 /// with its new value.

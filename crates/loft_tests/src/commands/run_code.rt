@@ -6,7 +6,7 @@ ghost use Rattle.loft_commands.specs.Options.{options_of};
 use loft_base::{Limits, MemSink, OpenGate};
 use loft_code::{Code, validate};
 use loft_commands::run_code;
-use loft_reading::read;
+use loft_listing_reader::read;
 use std::sync::Wait;
 use std::test::Fail;
 use std::thread::Threads;

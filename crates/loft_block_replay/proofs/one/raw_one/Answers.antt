@@ -2,7 +2,7 @@ use Rattle.std.proofs.Common.{◌<◌, ℕ, List, length, sym, ap, subst, ◌∙
 use Rattle.loft_tree.specs.declared.heads.Heads.{Heads}
 use Rattle.loft_orders.specs.Text.{name_at, scheduler_name}
 use Rattle.loft_sense.specs.Machine.{heads}
-use Rattle.loft_reader.specs.Answer.{report_in}
+use Rattle.loft_report_reader.specs.Answer.{report_in}
 use Rattle.loft_standing.specs.Stops.{tree_of}
 use Rattle.loft_block_replay.proofs.AnswerLemmas.{named_at, none_named, all_blocks, missing_cause, missing_exact}
 use Rattle.loft_block_replay.proofs.one.raw_one.Goals as goal

@@ -1,9 +1,9 @@
 use Rattle.std.proofs.Common.{◌≡◌, ◌<◌, ℕ, List, ◌++◌, Some, Ok, length, min, take, sym, ap, subst, ◌∙◌}
 use Rattle.std.specs.Prelude.{slice_get}
 use Rattle.std.specs.List.{flat_map}
-use Rattle.loft_shape.specs.declared.raw.RawBlock.{RawBlock}
-use Rattle.loft_shape.specs.Text.{head_text, block_text}
-use Rattle.loft_reader.specs.Answer.{report_in}
+use Rattle.loft_report_shape.specs.declared.raw.RawBlock.{RawBlock}
+use Rattle.loft_report_shape.specs.Text.{head_text, block_text}
+use Rattle.loft_report_reader.specs.Answer.{report_in}
 use Rattle.loft_standing.specs.Stops.{tree_of}
 use Rattle.loft_replay_error.specs.Difference.{DifferAt}
 use Rattle.loft_raw_block.specs.Offsets.{last_place}

@@ -1,6 +1,6 @@
 use Rattle.std.proofs.Common.{◌≡◌, ℕ, Result, Ok, Err, refl, sym, subst, Vec, Global}
 use Rattle.std.proofs.lemmas.Result.{err_from_is_err_and}
-use Rattle.loft_reader.specs.Answer.{report_in}
+use Rattle.loft_report_reader.specs.Answer.{report_in}
 use Rattle.loft_standing.specs.Stops.{tree_of}
 use Rattle.loft_replay_error.specs.Errors.{of_log}
 use Rattle.loft_replay_error.specs.declared.error.ReplayError.{ReplayError}

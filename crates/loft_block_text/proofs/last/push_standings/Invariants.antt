@@ -1,7 +1,7 @@
 use Rattle.std.proofs.Common.{take, map}
 use Rattle.loft_history.specs.Report.{standing_line}
 use Rattle.loft_orders.specs.Lines.{text_of}
-use Rattle.loft_text.specs.Appending.{Appends}
+use Rattle.loft_value_text.specs.Appending.{Appends}
 use Rattle.loft_block_text.proofs.last.push_standings.Given as goal
 
 -- the lines of those so far

@@ -1,7 +1,7 @@
 use Rattle.std.proofs.Common.{◌∙◌, sym, ap, subst, [], Result, Err}
 use Rattle.std.proofs.lemmas.Result.{err_from_is_err_and}
-use Rattle.loft_words.specs.Command.{FileCommand, Run, Exec, Show, Check, Compile, Bound, Expand, file_of}
-use Rattle.loft_words.specs.CommandView.{file_command_of}
+use Rattle.loft_arguments.specs.Command.{FileCommand, Run, Exec, Show, Check, Compile, Bound, Expand, file_of}
+use Rattle.loft_arguments.specs.CommandView.{file_command_of}
 use Rattle.loft_refusal.specs.declared.refusal.Stopped.{Stopped}
 use Rattle.loft_commands.specs.Doing.{AttemptsTo}
 use Rattle.loft_commands.proofs.Doing.{does_attempts, unread_attempts, unlisted_attempts, unexpanded_attempts}

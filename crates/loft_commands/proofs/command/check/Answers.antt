@@ -6,7 +6,7 @@ use Rattle.std.proofs.lemmas.Result.{err_from_is_err_and}
 use Rattle.loft_tree.specs.View.{source_of}
 use Rattle.loft_refusal.specs.declared.refusal.Stopped.{Stopped}
 use Rattle.loft_refusal.specs.declared.refusal.Stopped.TheVariants as stopped
-use Rattle.loft_words.specs.Command.{Check}
+use Rattle.loft_arguments.specs.Command.{Check}
 use Rattle.loft_refusal.specs.Input.{ASource}
 use Rattle.loft_commands.specs.Promise.{IsAnswerFor}
 use Rattle.loft_commands.proofs.Doing.{failed_does}

@@ -5,7 +5,7 @@ use Rattle.loft_sense.specs.Machine.{Code}
 use Rattle.loft_refusal.specs.declared.refusal.Stopped.{Stopped}
 use Rattle.loft_commands.specs.declared.code_run.RunError.{RunError}
 use Rattle.loft_commands.specs.RunStops.{stop_of_run}
-use Rattle.loft_words.specs.Command.{Exec}
+use Rattle.loft_arguments.specs.Command.{Exec}
 use Rattle.loft_refusal.specs.Input.{AListing}
 use Rattle.loft_commands.specs.Promise.{IsReport, IsAnswerFor}
 use Rattle.loft_commands.proofs.Doing.{failed_does, run_stops, run_blamed}

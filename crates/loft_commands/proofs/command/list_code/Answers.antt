@@ -10,7 +10,7 @@ use Rattle.loft_translation.specs.Compiled.{compiled}
 use Rattle.loft_listing.specs.Listing.{listing_text}
 use Rattle.loft_refusal.specs.declared.refusal.Stopped.{Stopped}
 use Rattle.loft_refusal.specs.Stops.{stop_of_write}
-use Rattle.loft_words.specs.Command.{Compile}
+use Rattle.loft_arguments.specs.Command.{Compile}
 use Rattle.loft_refusal.specs.Input.{ASource}
 use Rattle.loft_commands.specs.Promise.{IsAnswerFor}
 use Rattle.loft_commands.proofs.AnswerLines.{listing_lines}

@@ -9,7 +9,7 @@ use Rattle.loft_sense.specs.Machine.{Tree}
 use Rattle.loft_refusal.specs.declared.refusal.Stopped.{Stopped}
 use Rattle.loft_commands.specs.declared.code_run.RunError.{RunError}
 use Rattle.loft_commands.specs.RunStops.{stop_of_run}
-use Rattle.loft_words.specs.Command.{Run}
+use Rattle.loft_arguments.specs.Command.{Run}
 use Rattle.loft_refusal.specs.Input.{ASource}
 use Rattle.loft_commands.specs.Promise.{IsReport, IsAnswerFor}
 use Rattle.loft_commands.proofs.Doing.{failed_does, run_stops, run_blamed}

@@ -5,7 +5,7 @@ use Rattle.loft_base.specs.declared.writing.WriteError.{WriteError}
 use Rattle.loft_tree.specs.View.{source_of}
 use Rattle.loft_refusal.specs.declared.refusal.Stopped.{Stopped}
 use Rattle.loft_refusal.specs.Stops.{stop_of_write}
-use Rattle.loft_words.specs.Command.{Show, Expand}
+use Rattle.loft_arguments.specs.Command.{Show, Expand}
 use Rattle.loft_refusal.specs.Input.{ASource, AnExpansion}
 use Rattle.loft_commands.specs.Promise.{IsAnswerFor}
 use Rattle.loft_commands.proofs.AnswerLines.{canon_lines}

@@ -8,7 +8,7 @@ use Rattle.loft_tree.specs.View.{source_of}
 use Rattle.loft_bound.specs.BoundText.{IsBoundText}
 use Rattle.loft_refusal.specs.declared.refusal.Stopped.{Stopped}
 use Rattle.loft_refusal.specs.Stops.{stop_of_write}
-use Rattle.loft_words.specs.Command.{Bound}
+use Rattle.loft_arguments.specs.Command.{Bound}
 use Rattle.loft_refusal.specs.Input.{ASource}
 use Rattle.loft_commands.specs.Promise.{IsAnswerFor}
 use Rattle.loft_commands.proofs.AnswerLines.{bound_lines}

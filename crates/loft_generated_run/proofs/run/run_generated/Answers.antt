@@ -6,8 +6,8 @@ use Rattle.loft_code.specs.Operations.{Automata}
 use Rattle.loft_sense.specs.Machine.{Tree, Code}
 use Rattle.loft_history.specs.History.{choice_of}
 use Rattle.loft_translation.specs.Compiled.{compiled}
-use Rattle.loft_stand.specs.WellFormed.{IsPlacedTree}
-use Rattle.loft_turns.specs.Running.{IsWholeRun}
+use Rattle.loft_soundness.specs.WellFormed.{IsPlacedTree}
+use Rattle.loft_course.specs.Running.{IsWholeRun}
 use Rattle.loft_world.specs.Replay.{IsReplayOf}
 use Rattle.loft_generated_run.specs.Summary.{IsRunBy, run_options}
 use Rattle.loft_generated_run.proofs.Runs.{if_ok, replay_told}

@@ -1,6 +1,6 @@
 use Rattle.std.proofs.Common.{take}
 use Rattle.loft_orders.specs.Lines.{text_of, ends_at}
-use Rattle.loft_text.specs.Appending.{Appends}
+use Rattle.loft_value_text.specs.Appending.{Appends}
 use Rattle.loft_instant_text.proofs.ends.push_ends.Given as goal
 
 -- the lines of those so far

@@ -3,8 +3,8 @@ use Rattle.std.specs.Prelude.{IfSome}
 use Rattle.std.proofs.lemmas.Result.{err_from_is_err_and}
 use Rattle.loft_tree.specs.View.{source_of}
 use Rattle.loft_grammar.specs.Texts.{Reads}
-use Rattle.loft_expansion.specs.Expansion.{IsExpansion}
-use Rattle.loft_expansion.specs.Refusals.{IsRefused}
+use Rattle.loft_lock_expansion.specs.Expansion.{IsExpansion}
+use Rattle.loft_lock_expansion.specs.Refusals.{IsRefused}
 use Rattle.loft_mutex.specs.declared.error.MutexError.{MutexError}
 use Rattle.loft_mutex.specs.Refusing.{refusal_of, AreNamesFor}
 use Rattle.loft_mutex.proofs.ExpandLemmas.{err_has, written_rises, expansion_of, check_refused, check_named, locks_kept}

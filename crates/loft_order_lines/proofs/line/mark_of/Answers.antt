@@ -1,5 +1,5 @@
 use Rattle.std.proofs.Common.{Some, ap, ◌∙◌}
-use Rattle.loft_shape.specs.Word.{word_of}
+use Rattle.loft_report_shape.specs.Word.{word_of}
 use Rattle.loft_orders.specs.declared.order.Mark.{Mark}
 use Rattle.loft_order_lines.specs.Words.{word_of_mark}
 use Rattle.loft_order_lines.proofs.WordLemmas.{mark_spelled, arm, mark_done, mark_void, mark_full, no_mark}

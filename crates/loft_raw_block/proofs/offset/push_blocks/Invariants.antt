@@ -1,7 +1,7 @@
 use Rattle.std.proofs.Common.{take}
 use Rattle.std.specs.List.{flat_map}
-use Rattle.loft_shape.specs.Text.{block_text}
-use Rattle.loft_text.specs.Appending.{Appends}
+use Rattle.loft_report_shape.specs.Text.{block_text}
+use Rattle.loft_value_text.specs.Appending.{Appends}
 use Rattle.loft_raw_block.proofs.offset.push_blocks.Given as goal
 
 -- the texts of those so far

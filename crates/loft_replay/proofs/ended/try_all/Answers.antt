@@ -1,5 +1,5 @@
 use Rattle.std.proofs.Common.{Bool, true, subst}
-use Rattle.loft_turns.specs.Course.{Moves}
+use Rattle.loft_course.specs.Course.{Moves}
 use Rattle.loft_replay.specs.Whole.{choice_at}
 use Rattle.loft_replay.proofs.EndedLemmas.{at_least_one, goes_on_by}
 use Rattle.loft_replay.proofs.ended.try_all.Goals as goal

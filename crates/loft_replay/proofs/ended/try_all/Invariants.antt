@@ -1,5 +1,5 @@
 use Rattle.std.specs.Prelude.{false}
-use Rattle.loft_turns.specs.Course.{IsRun}
+use Rattle.loft_course.specs.Course.{IsRun}
 use Rattle.loft_replay.specs.Whole.{choice_at, HasTried}
 use Rattle.loft_replay.proofs.ended.try_all.Given as goal
 

@@ -1,7 +1,7 @@
 use Rattle.std.proofs.Common.{◌≡◌, ◌∙◌, ◌++◌, ◌∷◌, [], List, sym, ap}
 use Rattle.std.proofs.lemmas.List.FromFn.{map-range_with_len_more}
-use Rattle.loft_turns.specs.Course.{Stand, stand_after, stands_after}
-use Rattle.loft_turns.proofs.RunsOn.{from_none}
+use Rattle.loft_course.specs.Course.{Stand, stand_after, stands_after}
+use Rattle.loft_course.proofs.RunsOn.{from_none}
 use Rattle.loft_replay.proofs.plain.stations.Goals as goal
 
 pub schedulers-preserved : goal.schedulers-preserved

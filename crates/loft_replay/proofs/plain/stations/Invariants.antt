@@ -1,5 +1,5 @@
 use Rattle.std.proofs.Common.{◌≡◌, []}
-use Rattle.loft_turns.specs.Course.{stands_after}
+use Rattle.loft_course.specs.Course.{stands_after}
 use Rattle.loft_replay.proofs.plain.stations.Given as goal
 
 -- the schedulers so far

@@ -1,7 +1,7 @@
 use Rattle.std.proofs.Common.{◌≡◌, ◌∙◌, ◌++◌, ◌∷◌, [], List, sym, ap}
 use Rattle.std.proofs.lemmas.List.FromFn.{map-range_with_len_more}
-use Rattle.loft_turns.specs.Course.{Hand, hand_after, hands_after}
-use Rattle.loft_turns.proofs.RunsOn.{from_none}
+use Rattle.loft_course.specs.Course.{Hand, hand_after, hands_after}
+use Rattle.loft_course.proofs.RunsOn.{from_none}
 use Rattle.loft_replay.proofs.plain.workers.Goals as goal
 
 pub workers-preserved : goal.workers-preserved

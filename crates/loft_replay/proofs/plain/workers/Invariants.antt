@@ -1,5 +1,5 @@
 use Rattle.std.proofs.Common.{◌≡◌, []}
-use Rattle.loft_turns.specs.Course.{hands_after}
+use Rattle.loft_course.specs.Course.{hands_after}
 use Rattle.loft_replay.proofs.plain.workers.Given as goal
 
 -- the workers so far

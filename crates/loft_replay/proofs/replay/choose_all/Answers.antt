@@ -1,7 +1,7 @@
 use Rattle.std.proofs.Common.{◌∙◌, ◌+◌, List, Bool, true, false, sym, ap, subst}
 use Rattle.std.specs.Prelude.{take, drop}
 use Rattle.loft_sense.specs.Machine.{heads}
-use Rattle.loft_shape.specs.declared.raw.Choice.{Choice}
+use Rattle.loft_report_shape.specs.declared.raw.Choice.{Choice}
 use Rattle.loft_replay.specs.Named.{meant, follows, MovesBy}
 use Rattle.loft_replay.proofs.FollowLemmas.{HasFollowed, one_more, refused, one_there}
 use Rattle.loft_replay.proofs.replay.choose_all.Goals as goal

@@ -1,5 +1,5 @@
 use Rattle.std.specs.Prelude.{take}
-use Rattle.loft_turns.specs.Course.{IsRun}
+use Rattle.loft_course.specs.Course.{IsRun}
 use Rattle.loft_replay.proofs.FollowLemmas.{HasFollowed}
 use Rattle.loft_replay.proofs.replay.choose_all.Given as goal
 

@@ -3,8 +3,8 @@ use Rattle.loft_tree.specs.ProgramView.{program_of}
 use Rattle.loft_tree.specs.Resolved.{resolved_of}
 use Rattle.loft_base.specs.declared.options.RunOptions.{RunOptions}
 use Rattle.loft_sense.specs.Machine.{Prog, Tree}
-use Rattle.loft_stand.specs.WellFormed.{IsPlacedTree}
-use Rattle.loft_turns.specs.Course.{CanRun}
+use Rattle.loft_soundness.specs.WellFormed.{IsPlacedTree}
+use Rattle.loft_course.specs.Course.{CanRun}
 use Rattle.loft_replay.proofs.replay.follow_in.Goals as goal
 
 pub follow_all-requires-clause-can : goal.follow_all-requires-clause-can

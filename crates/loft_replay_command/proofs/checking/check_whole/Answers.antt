@@ -1,5 +1,5 @@
 use Rattle.std.proofs.Common.{Err, sym, subst}
-use Rattle.loft_reader.specs.Answer.{report_in}
+use Rattle.loft_report_reader.specs.Answer.{report_in}
 use Rattle.loft_standing.specs.Stops.{tree_of}
 use Rattle.loft_replay_command.specs.declared.refusal.ReplayStop.{ReplayStop}
 use Rattle.loft_replay_command.specs.Replay.{WholeComesTo}

@@ -1,8 +1,8 @@
 use Rattle.std.proofs.Common.{rules, arith, inr, ◌≡◌, false, length, List, ℕ, Ok, Option, IfSome, sym, ap, subst, ◌∙◌}
 use Rattle.std.proofs.Math.Nat.{le_trans}
 use Rattle.loft_base.specs.Walk.{count_of}
-use Rattle.loft_reader.specs.Answer.{HasRead}
-use Rattle.loft_reader.specs.declared.error.LogError.TheVariants.{TooLong}
+use Rattle.loft_report_reader.specs.Answer.{HasRead}
+use Rattle.loft_report_reader.specs.declared.error.LogError.TheVariants.{TooLong}
 use Rattle.loft_report_file.proofs.Reading.{fed_more, known_map, at_end, never_long}
 use Rattle.loft_report_file.proofs.read.read_log.Goals as goal
 

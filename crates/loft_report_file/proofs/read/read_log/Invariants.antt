@@ -1,6 +1,6 @@
 use Rattle.std.proofs.Common.{◌≡◌, ◌-◌, ◌≤◌, IsTrue, IfSome}
 use Rattle.loft_base.specs.Outside.{IsNextPlace}
-use Rattle.loft_shape.specs.Report.{longest}
+use Rattle.loft_report_shape.specs.Report.{longest}
 use Rattle.loft_base.specs.Walk.{count_of, room_of}
 use Rattle.loft_report_file.specs.declared.read.TheConstants.{PART}
 use Rattle.loft_report_file.proofs.Reading.{IsReadOn, IsFed}

@@ -7,7 +7,7 @@ use Rattle.loft_orders.specs.declared.entry.Actor.TheVariants.{Sched}
 use Rattle.loft_orders.specs.declared.entry.Entry.TheVariants as entry
 use Rattle.loft_sense.specs.Machine.{Code}
 use Rattle.loft_history.specs.History.{sent_last}
-use Rattle.loft_stand.specs.Machines.{SentFits}
+use Rattle.loft_soundness.specs.Machines.{SentFits}
 use Rattle.loft_baton.proofs.HistoryLemmas.{same-refl}
 use Rattle.loft_seat.specs.declared.seat.Seat.{Seat}
 use Rattle.loft_seat.specs.Seats.{entries_of}

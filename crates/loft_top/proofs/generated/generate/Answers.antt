@@ -1,6 +1,6 @@
 use Rattle.std.proofs.Common.{◌≡◌, ℕ, List, [], Some, sym, subst, ◌∙◌}
 use Rattle.loft_gen.specs.Generated.{generated}
-use Rattle.loft_words.specs.Command.{Gen}
+use Rattle.loft_arguments.specs.Command.{Gen}
 use Rattle.loft_top.specs.declared.status.Status.{Status}
 use Rattle.loft_top.specs.Answer.{Answers}
 use Rattle.loft_top.proofs.TextLemmas.{text_answers, sink_blamed, no_file_blamed, never_fell}

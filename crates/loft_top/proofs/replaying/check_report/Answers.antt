@@ -3,7 +3,7 @@ use Rattle.std.specs.Option.{option_copied}
 use Rattle.loft_replay_command.specs.declared.refusal.ReplayStop.{ReplayStop}
 use Rattle.loft_replay_command.specs.declared.refusal.ReplayStop.TheVariants as stop
 use Rattle.loft_replay_command.specs.Command.{Replays}
-use Rattle.loft_words.specs.Command.{Replay}
+use Rattle.loft_arguments.specs.Command.{Replay}
 use Rattle.loft_top.specs.declared.status.Status.TheVariants as status
 use Rattle.loft_top.proofs.AnswerLemmas.{file_answers}
 use Rattle.loft_top.proofs.ReplayLemmas.{two, replay_done, replay_broken, source_answers, log_answers}

@@ -1,6 +1,6 @@
 use Rattle.std.proofs.Common.{ap, sym, subst}
-use Rattle.loft_words.specs.Command.{Command, files_of}
-use Rattle.loft_words.specs.CommandView.{command_of}
+use Rattle.loft_arguments.specs.Command.{Command, files_of}
+use Rattle.loft_arguments.specs.CommandView.{command_of}
 use Rattle.loft_top.specs.Reads.{contents_of}
 use Rattle.loft_top.specs.Answer.{Answers}
 use Rattle.loft_top.proofs.top_call.answer.Goals as goal

@@ -2,8 +2,8 @@ use Rattle.std.proofs.Common.{◌≡◌, ◌∙◌, ap, subst, Ok, Err, Result, 
 use Rattle.loft_refusal.specs.declared.refusal.Stopped.{Stopped}
 use Rattle.loft_refusal.specs.declared.refusal.Stopped.TheVariants as stopped
 use Rattle.loft_top.specs.declared.status.Status.TheVariants as status
-use Rattle.loft_words.specs.Command.{OfFile, file_of}
-use Rattle.loft_words.specs.CommandView.{file_command_of}
+use Rattle.loft_arguments.specs.Command.{OfFile, file_of}
+use Rattle.loft_arguments.specs.CommandView.{file_command_of}
 use Rattle.loft_commands.specs.Doing.{Attempts}
 use Rattle.loft_top.proofs.Deciding.{never_both}
 use Rattle.loft_top.proofs.AnswerLemmas.{one, done_answers, broken_answers, file_answers, refused_answers}

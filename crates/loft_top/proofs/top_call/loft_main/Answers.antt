@@ -1,7 +1,7 @@
 use Rattle.std.proofs.Common.{◌≡◌, ◌++◌, ◌∷◌, [], inl, refl, sym, List, ℕ, Some}
 use Rattle.std.specs.Prelude.{codes}
-use Rattle.loft_words.specs.Command.{files_of}
-use Rattle.loft_words.specs.CommandView.{command_of}
+use Rattle.loft_arguments.specs.Command.{files_of}
+use Rattle.loft_arguments.specs.CommandView.{command_of}
 use Rattle.loft_commands.specs.Written.{Appends, IsLine, IsPrefix, HasNoRoom}
 use Rattle.loft_top.specs.declared.status.Status.TheVariants as status
 use Rattle.loft_top.specs.Status.{IsRefused, IsLogRefused}

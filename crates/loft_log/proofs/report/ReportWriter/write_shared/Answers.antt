@@ -1,7 +1,7 @@
 use Rattle.std.proofs.Common.{◌≡◌, Err, refl, FitsSigned, w64, rules}
 use Rattle.std.proofs.lemmas.Result.{err_from_is_err_and}
 use Rattle.loft_base.proofs.WritesLemmas.{goes_on, fails, rest_is}
-use Rattle.loft_text.specs.Buffer.{Holds}
+use Rattle.loft_value_text.specs.Buffer.{Holds}
 use Rattle.loft_log.proofs.ReportLemmas.{value_text, value_line-read, shared-written, shared-skipped}
 use Rattle.loft_log.proofs.report.ReportWriter.write_shared.Goals.{then-s-head+in-Some+in_ok-write_line, else-s-head}
 use Rattle.loft_log.proofs.report.ReportWriter.write_shared.Goals as goal

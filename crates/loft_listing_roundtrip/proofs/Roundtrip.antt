@@ -1,0 +1,77 @@
+-- What is written of code is a listing of the code.
+use Rattle.std.proofs.Common.{◌≡◌, List, [], ◌∷◌, ◌++◌, map, refl, sym, subst, ap, ◌∙◌}
+use Rattle.std.specs.List.{flat_map}
+use Rattle.loft_tree.specs.declared.heads.Heads.{Heads}
+use Rattle.loft_tree.specs.Fits.{Each}
+use Rattle.loft_scopes.specs.Scopes.{Declared, declared}
+use Rattle.loft_names.proofs.HeadsLists.{follows_all}
+use Rattle.loft_code.specs.Fits.{RawFits}
+use Rattle.loft_code.specs.Operations.{Automata}
+use Rattle.loft_code.specs.Valid.{Valid}
+use Rattle.loft_listing_line.specs.Rows.{ListingLine, Title, line_text}
+use Rattle.loft_listing_line.specs.RowsFit.{ListingLineFits}
+use Rattle.loft_listing_draft.specs.Drafts.{Draft, DraftFits, draft_lines, item_lines, source_of}
+use Rattle.loft_listing_reader.specs.Lists.{Lists}
+use Rattle.loft_listing.specs.Lines.{listing_lines}
+use Rattle.loft_listing.specs.Listing.{listing_text}
+use Rattle.loft_listing.proofs.Texts.{listing_is}
+use Rattle.loft_listing_roundtrip.specs.ThreadsNamed.{ThreadsNamed}
+use Rattle.loft_listing_roundtrip.proofs.Parts.{Part, heads_in, lines_in, parts_of, together}
+use Rattle.loft_listing_roundtrip.proofs.Collecting.{put_together}
+use Rattle.loft_listing_roundtrip.proofs.Saying.{said}
+use Rattle.loft_listing_roundtrip.proofs.HeadsAgain.{heads_again}
+use Rattle.loft_listing_roundtrip.proofs.ModulesAgain.{modules_again}
+use Rattle.loft_listing_roundtrip.proofs.PartsHold.{PartKeeps, modules_pass, parts_keep}
+use Rattle.loft_listing_roundtrip.proofs.LinesFit.{said_lines_fit}
+use Rattle.loft_listing_roundtrip.proofs.LinesSame.{items_lines, part_lines, same_texts}
+use Rattle.loft_listing_roundtrip.proofs.Lining.{lined_again}
+use Rattle.loft_listing_roundtrip.proofs.SourceSaid.{all_bare, items_hold, none_wrong, says, source_fits}
+
+-- ---- texts of lines
+
+-- lines are the texts of each, one after the other
+flat_of_texts : (ls : List ListingLine) → flat_map line_text ls ≡ flat_map (λ t. t) (map line_text ls)
+flat_of_texts [] = refl
+flat_of_texts (l ∷ ls) = ap (λ ts. line_text l ++ ts) (flat_of_texts ls)
+
+pub same_flat : (ls ks : List ListingLine) → map line_text ls ≡ map line_text ks → flat_map line_text ls ≡ flat_map line_text ks
+same_flat ls ks same = flat_of_texts ls ∙ ap (flat_map (λ t. t)) same ∙ sym (flat_of_texts ks)
+
+-- ---- the law
+
+of_parts : (ps : List Part) → listing_lines (together ps) ≡ Title ∷ flat_map (part_lines (heads_in ps)) ps → RawFits (together ps) → Valid (together ps) → ThreadsNamed (heads_in ps)
+    → Lists (listing_text (together ps)) (together ps)
+of_parts ps lines fits valid named =
+    let h : Heads = heads_in ps in
+    let d : Draft = said h 2 ps in
+    let ds : List Declared = declared (source_of d) in
+    let keep : Each (PartKeeps h) ps = parts_keep ps fits valid named in
+    let pass = modules_pass ps fits valid in
+    let say = says 2 ps fits.heads in
+    let lines_fit : Each ListingLineFits (flat_map item_lines d) = said_lines_fit h fits.heads 2 ps keep in
+    let texts : map line_text (draft_lines d) ≡ map line_text (listing_lines (together ps)) =
+    ap (λ ts. line_text Title ∷ ts) (same_texts h 2 ps lines_fit) ∙ ap (map line_text) (sym lines) in
+    let draft_fits : DraftFits d = record {
+      source = source_fits 2 ps fits.heads keep;
+      items = items_hold h 2 ps keep;
+      lines = (tt, lines_fit);
+      lined = lined_again 2 _;
+      bare = all_bare h 2 ps;
+    } in (
+      d,
+      record {
+        said = record { fits = draft_fits; written = listing_is (together ps) ∙ same_flat (listing_lines (together ps)) (draft_lines d) (sym texts) };
+        right = none_wrong 2 ps fits.heads keep pass;
+        numbers = (λ i. record {
+          heads = sym (heads_again ds ps say fits.heads named 2) i;
+          modules = sym (modules_again ds h say (lines_in ps) pass 0 2 ps (follows_all h.modules) (follows_all (lines_in ps))) i;
+        });
+      },
+    )
+
+pub written_is_listing : (c : Automata) → RawFits c → Valid c → ThreadsNamed c.heads → Lists (listing_text c) c
+written_is_listing c fits =
+    let ps : List Part = parts_of c in
+    let lines : listing_lines c ≡ Title ∷ flat_map (part_lines c.heads) ps = ap (λ ls. Title ∷ ls) (items_lines c.heads c.modules c.heads.items) in
+    subst (λ (x : Automata). listing_lines x ≡ Title ∷ flat_map (part_lines x.heads) ps → RawFits x → Valid x → ThreadsNamed x.heads → Lists (listing_text x) x)
+    (put_together c fits) (of_parts ps) lines fits

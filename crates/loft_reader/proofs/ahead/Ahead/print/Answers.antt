@@ -1,9 +1,0 @@
-use Rattle.std.proofs.Common.{refl}
-use Rattle.loft_reader.proofs.AheadLemmas.{then}
-use Rattle.loft_reader.proofs.ahead.Ahead.print.Goals as goal
-
-pub returns-clause-goes : goal.returns-clause-goes
-returns-clause-goes c = λ fits ps.
-    let f2 = c.plain.ensures.before fits in
-    let f1 = c.sign.ensures.before f2 in
-    then (c.id.ensures.goes f1 _) (then (c.sign.ensures.goes f2 _) (c.plain.ensures.goes fits (λ w. (refl, λ told. refl)) ps))

@@ -1,5 +1,0 @@
-use Rattle.loft_reader.proofs.ValuesThere.{limit_digits}
-use Rattle.loft_reader.proofs.there.limit_there.Goals as goal
-
-pub returns-then-n-gt0-clause-there : goal.returns-then-n-gt0-clause-there
-returns-then-n-gt0-clause-there c = λ some. limit_digits c.args.bytes.now c.digits_there-n.result (c.digits_there-n.ensures.there some) (c.digits_there-n.ensures.digit some)

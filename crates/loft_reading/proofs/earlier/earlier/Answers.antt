@@ -1,8 +1,0 @@
-use Rattle.std.proofs.Common.{subst}
-use Rattle.loft_reading.specs.Comes.{IsLeastOf}
-use Rattle.loft_reading.proofs.Leasts.{least_both}
-use Rattle.loft_reading.proofs.earlier.earlier.Goals as goal
-
-pub returns-in-Some-other : goal.returns-in-Some-other
-returns-in-Some-other c ms ns one other =
-    least_both c.min.result c.in-Some.m c.in-Some-other.n ms ns c.min.ensures (subst (λ v. IsLeastOf v ms) c.in-Some.is one) (subst (λ v. IsLeastOf v ns) c.in-Some-other.is other)

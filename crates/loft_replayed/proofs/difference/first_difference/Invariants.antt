@@ -1,7 +1,0 @@
-use Rattle.loft_shape.specs.Text.{text_of}
-use Rattle.loft_reader.specs.Answer.{report_in}
-use Rattle.loft_replayed.proofs.difference.first_difference.Given as goal
-
--- the text of the report
-abbrev pub ghosts-first_difference_in : goal.ghosts-first_difference_in
-ghosts-first_difference_in a = record { text = text_of (report_in a.r.now) }

@@ -1,0 +1,14 @@
+use Rattle.std.proofs.Common.{◌≡◌, ◌-◌, ◌≤◌, true, length, take}
+use Rattle.std.specs.List.{list_all}
+use Rattle.loft_spelling.specs.Sets.{is_printed}
+use Rattle.loft_report_sets.proofs.taking.printed_bytes.Given as goal
+
+abbrev pub invariant-loop-n : goal.invariant-loop-n
+invariant-loop-n l = record {
+  within : l.n ≤ length l.bytes;
+  few : l.n ≤ 256;
+  all : list_all is_printed (take l.n l.bytes) ≡ true;
+}
+
+abbrev pub decreases-loop-n : goal.decreases-loop-n
+decreases-loop-n l = length l.bytes - l.n

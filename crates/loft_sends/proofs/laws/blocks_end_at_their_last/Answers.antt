@@ -1,5 +1,0 @@
-use Rattle.loft_sends.proofs.BlockLemmas.{block_ends}
-use Rattle.loft_sends.proofs.laws.blocks_end_at_their_last.Goals as goal
-
-pub returns : goal.returns
-returns c = block_ends

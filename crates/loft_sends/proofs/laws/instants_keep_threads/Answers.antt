@@ -1,5 +1,0 @@
-use Rattle.loft_sends.proofs.InstantKeeps.{instant_keeps}
-use Rattle.loft_sends.proofs.laws.instants_keep_threads.Goals as goal
-
-pub returns : goal.returns
-returns c = instant_keeps

@@ -1,6 +1,0 @@
-use Rattle.std.proofs.Common.{arith}
-use Rattle.loft_shape.proofs.HonestSets.{honest}
-use Rattle.loft_sets.proofs.taking.tested_each.Goals as goal
-
-pub loop-n-init : goal.loop-n-init
-loop-n-init c = record { within = omega arith; begun = (honest c.args.p).live }

@@ -1,5 +1,0 @@
-use Rattle.loft_shape.proofs.OneText.{one_text}
-use Rattle.loft_shape.proofs.laws.reports_have_one_text.Goals as goal
-
-pub returns : goal.returns
-returns c = one_text

@@ -1,5 +1,0 @@
-use Rattle.loft_steps.proofs.ClientLemmas.{left_by_entries}
-use Rattle.loft_steps.proofs.laws.orders_follow_their_entries.Goals as goal
-
-pub returns : goal.returns
-returns c = left_by_entries

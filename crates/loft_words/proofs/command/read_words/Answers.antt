@@ -1,6 +1,0 @@
-use Rattle.loft_words.specs.Words.{words_of}
-use Rattle.loft_words.proofs.InRange.{command_range}
-use Rattle.loft_words.proofs.command.read_words.Goals as goal
-
-pub returns-clause-in_range : goal.returns-clause-in_range
-returns-clause-in_range c = command_range (words_of c.args.words.now)
