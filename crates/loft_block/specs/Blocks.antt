@@ -24,6 +24,6 @@ has_failed (Goes orders run) = false
 has_failed Failed = true
 
 -- the first of what was left is given, or nothing was left
-abbrev pub Gives : Option Sent → List Sent → List Sent → Type 0
-Gives None before after = (before ≡ []) × (after ≡ [])
-Gives (Some m) before after = before ≡ m ∷ after
+abbrev pub GivesNext : Option Sent → List Sent → List Sent → Type 0
+GivesNext None before after = (before ≡ []) × (after ≡ [])
+GivesNext (Some m) before after = before ≡ m ∷ after

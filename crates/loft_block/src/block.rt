@@ -2,7 +2,7 @@
 
 ghost use Rattle.std.specs.Prelude.{◌≡◌, ◌++◌, [], None, true, false, IfOk, IsNone, OnOk, OnErr};
 ghost use Rattle.std.specs.Option.{option_to_list};
-ghost use Rattle.loft_block.specs.Blocks.{sent_if, left_of, has_failed, Gives};
+ghost use Rattle.loft_block.specs.Blocks.{sent_if, left_of, has_failed, GivesNext};
 
 use crate::piece::{begin, go_on};
 use loft_base::{NoMemory, Sequence};
@@ -60,7 +60,7 @@ fn give<I: Interpreter>(
     mut orders: Sents,
     run: Option<I::Paused>,
 ) -> Result<(Option<Sent>, Block<I::Paused>), NoMemory>
-    ensures gives { IfOk result (λ given. Gives given.0
+    ensures gives { IfOk result (λ given. GivesNext given.0
         (orders ++ sent_if (I.comes_to interpreter.now) run)
         (left_of (I.program interpreter.now) (I.comes_to interpreter.now) given.1)) }
     ensures works { IfOk result (λ given. has_failed given.1 ≡ false) }
@@ -76,7 +76,7 @@ fn advance<I: Interpreter>(
     interpreter: &I,
     block: Block<I::Paused>,
 ) -> Result<(Option<Sent>, Block<I::Paused>), NoMemory>
-    ensures gives { IfOk result (λ given. Gives given.0
+    ensures gives { IfOk result (λ given. GivesNext given.0
         (left_of (I.program interpreter.now) (I.comes_to interpreter.now) block)
         (left_of (I.program interpreter.now) (I.comes_to interpreter.now) given.1)) }
     ensures works { IfOk result (λ given. (has_failed block ≡ false) × (has_failed given.1 ≡ false)) }
@@ -99,7 +99,7 @@ impl<R: Drop> Block<R> {
         alloc: Global,
         interpreter: &I,
     ) -> Result<Option<Sent>, NoMemory>
-        ensures gives { IfOk result (λ sent. Gives sent
+        ensures gives { IfOk result (λ sent. GivesNext sent
             (left_of (I.program interpreter.now) (I.comes_to interpreter.now) self.old)
             (left_of (I.program interpreter.now) (I.comes_to interpreter.now) self.new)) }
         ensures works { OnOk result ((has_failed self.old ≡ false) × (has_failed self.new ≡ false)) }

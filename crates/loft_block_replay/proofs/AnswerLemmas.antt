@@ -16,7 +16,7 @@ use Rattle.loft_replay_error.specs.declared.error.ReplayError.{ReplayError}
 use Rattle.loft_replay_error.specs.declared.error.ReplayError.TheVariants.{Log, NotAllowed, Differs, NoMemory}
 use Rattle.loft_raw_block.specs.Offsets.{last_place}
 use Rattle.loft_block_replay.specs.Block.{Follow, FailsAt, block_bytes}
-use Rattle.loft_block_replay.specs.Made.{StopsAt}
+use Rattle.loft_block_replay.specs.Made.{FailsFirstAt}
 use Rattle.loft_block_replay.specs.Outcomes.{IsWhole, Ends}
 use Rattle.loft_block_replay.specs.declared.block.Outcome.{Outcome}
 use Rattle.loft_block_replay.specs.declared.block.Outcome.TheVariants.{Whole, Stopped}
@@ -92,10 +92,10 @@ module _ (x : Prog) (r : Report) (s : SchedId) (index : ℕ) (block : RawBlock) 
 
   -- ---- an instant isn't allowed
 
-  pub stopped_cause : (n : ℕ) → StopsAt x r.options.limits s (empty x s) block.instants n → HasCause x r s (Err (NotAllowed n))
+  pub stopped_cause : (n : ℕ) → FailsFirstAt x r.options.limits s (empty x s) block.instants n → HasCause x r s (Err (NotAllowed n))
   stopped_cause n stop = (Err (NotAllowed n), record { index = index; block = block; first = this_block; fails = stop.fails }, refl)
 
-  pub stopped_exact : (n : ℕ) → StopsAt x r.options.limits s (empty x s) block.instants n → (answer : Result (List ℕ) ReplayError) → IsAnswer x r s answer → Gives (Err (NotAllowed n)) (in_range answer)
+  pub stopped_exact : (n : ℕ) → FailsFirstAt x r.options.limits s (empty x s) block.instants n → (answer : Result (List ℕ) ReplayError) → IsAnswer x r s answer → Gives (Err (NotAllowed n)) (in_range answer)
   stopped_exact n stop (Ok bytes) is = absurd (stop.never is.batches (only_follow is.index is.block is.batches is.first is.follow))
   stopped_exact n stop (Err (NotAllowed m)) is = ap (λ (k : ℕ). Err (NotAllowed k)) (sym (stop.only m (only_fails is.index is.block m is.first is.fails)))
   stopped_exact n stop (Err (Differs byte)) (inl is) = absurd (stop.never is.batches (only_follow is.index is.block is.batches is.first is.follow))
@@ -163,10 +163,10 @@ module _ (x : Prog) (r : Report) (s : SchedId) (none : index_of_block x s r.bloc
 
 -- ---- what the calls found
 
-pub stopped_ends : (x : Prog) (limits : Limits) (s : SchedId) (texts read : List (List ℕ)) (o : Outcome) (n : ℕ) → read ≡ texts → o ≡ Stopped n → Ends x limits s read o → StopsAt x limits s (empty x s) texts n
+pub stopped_ends : (x : Prog) (limits : Limits) (s : SchedId) (texts read : List (List ℕ)) (o : Outcome) (n : ℕ) → read ≡ texts → o ≡ Stopped n → Ends x limits s read o → FailsFirstAt x limits s (empty x s) texts n
 stopped_ends x limits s texts read o n same is ends =
     let e : Ends x limits s read (Stopped n) = subst (Ends x limits s read) is ends in
-    subst (λ (t : List (List ℕ)). StopsAt x limits s (empty x s) t n) same e
+    subst (λ (t : List (List ℕ)). FailsFirstAt x limits s (empty x s) t n) same e
 
 pub whole_ends : (x : Prog) (limits : Limits) (s : SchedId) (texts read : List (List ℕ)) (o : Outcome) (bytes : List ℕ) → read ≡ texts → o ≡ Whole bytes → Ends x limits s read o → IsWhole x limits s texts bytes
 whole_ends x limits s texts read o bytes same is ends =

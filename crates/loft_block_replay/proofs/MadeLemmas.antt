@@ -16,7 +16,7 @@ use Rattle.loft_value_text.specs.declared.line.LineBuffer.{LineBuffer}
 use Rattle.loft_value_text.specs.Buffer.{Adds}
 use Rattle.loft_block_replay.specs.Block.{IsNext, Follow, FailsAt, block_bytes}
 use Rattle.loft_block_replay.specs.Outcomes.{IsWhole}
-use Rattle.loft_block_replay.specs.Made.{Turned, Made, AllMade, StopsAt, machine_on, notes_on, text_on}
+use Rattle.loft_block_replay.specs.Made.{Turned, Made, AllMade, FailsFirstAt, machine_on, notes_on, text_on}
 use Rattle.loft_block_replay.specs.Batch.{order_lines, AreGiven}
 use Rattle.loft_history.specs.History.{has_turn}
 
@@ -166,7 +166,7 @@ fails_here x limits s now text texts never n (inl f) = f.0
 fails_here x limits s now text texts never n (inr (b, k, next, f, is)) = absurd (never b next)
 
 pub stops : (x : Prog) (limits : Limits) (s : SchedId) (m now : Mach) (texts : List (List ℕ)) (i : ℕ) (begun written : LineBuffer) (text : List ℕ)
-    → SoFar x limits s m now texts i begun written → i < length texts → text ≡ get_or texts i text → ((b : List Order) → IsNext x limits s now text b → ⊥) → StopsAt x limits s m texts (i + 1)
+    → SoFar x limits s m now texts i begun written → i < length texts → text ≡ get_or texts i text → ((b : List Order) → IsNext x limits s now text b → ⊥) → FailsFirstAt x limits s m texts (i + 1)
 stops x limits s m now texts i begun written text so below is never =
     let here : drop i texts ≡ text ∷ drop (i + 1) texts = drop-at texts i text below is in
     let first : FailsAt x limits s now (text ∷ drop (i + 1) texts) 1 = inl (refl, never) in

@@ -50,7 +50,7 @@ pub record AllMade (x : Prog) (limits : Limits) (s : SchedId) (m last : Mach) (t
   pub adds : Adds begun written (text_on x limits m batches)
 
 -- the instant with this number is the first that may not be made
-pub record StopsAt (x : Prog) (limits : Limits) (s : SchedId) (m : Mach) (texts : List (List ℕ)) (number : ℕ) : Type 0 where
+pub record FailsFirstAt (x : Prog) (limits : Limits) (s : SchedId) (m : Mach) (texts : List (List ℕ)) (number : ℕ) : Type 0 where
   pub fails : FailsAt x limits s m texts number
   pub only : (n : ℕ) → FailsAt x limits s m texts n → n ≡ number
   pub never : (bs : List (List Order)) → Follow x limits s m texts bs → ⊥

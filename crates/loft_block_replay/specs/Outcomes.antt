@@ -5,7 +5,7 @@ use Rattle.loft_base.specs.declared.options.Limits.{Limits}
 use Rattle.loft_orders.specs.declared.order.Order.{Order}
 use Rattle.loft_sense.specs.Machine.{Prog, empty}
 use Rattle.loft_block_replay.specs.Block.{Follow, FailsAt, block_bytes}
-use Rattle.loft_block_replay.specs.Made.{StopsAt}
+use Rattle.loft_block_replay.specs.Made.{FailsFirstAt}
 use Rattle.loft_block_replay.specs.declared.block.Outcome.{Outcome}
 use Rattle.loft_block_replay.specs.declared.block.Outcome.TheVariants.{Whole, Stopped}
 
@@ -19,4 +19,4 @@ pub record IsWhole (x : Prog) (limits : Limits) (s : SchedId) (texts : List (Lis
 
 abbrev pub Ends : Prog → Limits → SchedId → List (List ℕ) → Outcome → Type 0
 Ends x limits s texts (Whole bytes) = IsWhole x limits s texts bytes
-Ends x limits s texts (Stopped entry) = StopsAt x limits s (empty x s) texts entry
+Ends x limits s texts (Stopped entry) = FailsFirstAt x limits s (empty x s) texts entry

@@ -6,7 +6,7 @@ ghost use Rattle.loft_sense.specs.Fits.{Fits};
 ghost use Rattle.loft_history.specs.History.{has_turn as has_turn_on};
 ghost use Rattle.loft_standing.specs.Stops.{tree_of};
 ghost use Rattle.loft_block_replay.specs.Block.{IsNext};
-ghost use Rattle.loft_block_replay.specs.Made.{Turned, Made, AllMade, StopsAt, KeepsRules};
+ghost use Rattle.loft_block_replay.specs.Made.{Turned, Made, AllMade, FailsFirstAt, KeepsRules};
 
 use crate::batch::read_batch;
 use loft_base::{NoMemory, SchedId, Sequence};
@@ -94,7 +94,7 @@ pub fn replay_instants<E: Engine>(
     ensures made { IfOk result (λ stop. IfNone stop (AllMade (tree_of p.now) (E.limits engine.old) s
         (E.machine engine.old) (E.machine engine.new) instants.now text.old text.new)) }
     ensures stopped { IfOk result (λ stop. IfSome stop
-        (StopsAt (tree_of p.now) (E.limits engine.old) s (E.machine engine.old) instants.now)) }
+        (FailsFirstAt (tree_of p.now) (E.limits engine.old) s (E.machine engine.old) instants.now)) }
     ensures works { OnOk result (E.has_failed engine.new ≡ false) }
 {
     for index in 0..instants.len() {

@@ -21,12 +21,12 @@ use Rattle.loft_code.specs.Operations.{Operation, Do, Hold, Call, Branch, Enter,
 abbrev pub StartFits : Heads → Start → Type 0
 StartFits h t = HeadsFit h t.scheduler t.module t.arguments
 
-abbrev pub OrderFits : Heads → ClientOrder → Type 0
-OrderFits h (order.Create scheduler m arguments) = HeadsFit h scheduler m arguments
-OrderFits h o = Unit {0}
+abbrev pub ClientOrderFits : Heads → ClientOrder → Type 0
+ClientOrderFits h (order.Create scheduler m arguments) = HeadsFit h scheduler m arguments
+ClientOrderFits h o = Unit {0}
 
 abbrev pub ClientFits : Heads → Client → Type 0
-ClientFits h c = Each (OrderFits h) c.orders
+ClientFits h c = Each (ClientOrderFits h) c.orders
 
 -- A listing may have no scheduler.
 pub record HeadsKeep (h : Heads) : Type 0 where

@@ -18,7 +18,7 @@ use Rattle.loft_listing.specs.Listing.{listing_text}
 use Rattle.loft_bound.specs.BoundText.{IsBoundText}
 use Rattle.loft_arguments.specs.Command.{FileCommand, Run, Exec, Show, Check, Compile, Bound, Expand}
 use Rattle.loft_refusal.specs.Input.{Input, ASource, AListing, AnExpansion}
-use Rattle.loft_commands.specs.Written.{IsLine}
+use Rattle.loft_commands.specs.Written.{IsLineOf}
 use Rattle.loft_refusal.specs.Refusals.{IsTextOf}
 use Rattle.loft_commands.specs.Asks.{Takes}
 
@@ -43,7 +43,7 @@ abbrev pub IsSourceAnswer : FileCommand → Source → List ℕ → Type 0
 IsSourceAnswer (Run file o) p text = IsReport (Tree (resolved_of (numbered p))) o text
 IsSourceAnswer (Exec file o) p text = ⊥
 IsSourceAnswer (Show file) p text = text ≡ Canon p
-IsSourceAnswer (Check file) p text = IsLine (codes "ok") text
+IsSourceAnswer (Check file) p text = IsLineOf (codes "ok") text
 IsSourceAnswer (Compile file) p text = text ≡ listing_text (compiled (resolved_of (numbered p)))
 IsSourceAnswer (Bound file) p text = IsBoundText (numbered p) text
 IsSourceAnswer (Expand file) p text = ⊥

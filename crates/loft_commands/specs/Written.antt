@@ -6,8 +6,8 @@ abbrev pub Appends : Option (List ℕ) → Option (List ℕ) → (List ℕ → T
 Appends old new P = (written : List ℕ) → old ≡ Some written → (text : List ℕ) × (new ≡ Some (written ++ text)) × P text
 
 -- the text is this line
-abbrev pub IsLine : List ℕ → List ℕ → Type 0
-IsLine line text = text ≡ line ++ 10 ∷ []
+abbrev pub IsLineOf : List ℕ → List ℕ → Type 0
+IsLineOf line text = text ≡ line ++ 10 ∷ []
 
 -- the text is empty, or a prefix of one of which P holds
 abbrev pub IsPrefix : (List ℕ → Type 0) → List ℕ → Type 0

@@ -4,7 +4,7 @@ use Rattle.std.specs.Prelude.{option_and_then}
 use Rattle.std.specs.Option.{option_map}
 use Rattle.std.specs.List.{Contains}
 use Rattle.loft_arguments.specs.Command.{Command, OfFile, Replay, Gen, GenRun, file_of, files_of}
-use Rattle.loft_commands.specs.Written.{HasNoRoom, IsLine}
+use Rattle.loft_commands.specs.Written.{HasNoRoom, IsLineOf}
 use Rattle.loft_top.specs.declared.status.Status.{Status}
 use Rattle.loft_top.specs.declared.status.Status.TheVariants as status
 use Rattle.loft_top.specs.Status.{IsAccepted}
@@ -39,7 +39,7 @@ module _ (unplanned : Bool) (told : List ℕ → Option (List ℕ)) where
 fits_not : (P : List ℕ → Type 0) (room : ℕ) → ((text : List ℕ) → P text → length text ≤ room) → HasNoRoom room P → ⊥
 fits_not P room fits (text, holds, longer) = omega (arith, fits text holds, longer)
 
-line_fits_not : (line : List ℕ) (room : ℕ) → length (line ++ 10 ∷ []) ≤ room → HasNoRoom room (IsLine line) → ⊥
+line_fits_not : (line : List ℕ) (room : ℕ) → length (line ++ 10 ∷ []) ≤ room → HasNoRoom room (IsLineOf line) → ⊥
 line_fits_not line room fits (text, is, longer) = omega (arith, fits, longer, ap length is)
 
 -- ---- the end
@@ -72,7 +72,7 @@ module _ (end : Status) (unplanned : Bool) (told : List ℕ → Option (List ℕ
     (file_sure : (c : Command) → asked ≡ Some c → ((file : List ℕ) → Contains (files_of c) file → IsTrue (unplanned && is_some (told file))) → end ≢ status.FileFault)
     (no_room : (c : Command) (contents : List (List ℕ)) → asked ≡ Some c → contents_of told (files_of c) ≡ Some contents → end ≡ status.SinkFault → HasNoRoom room (IsText c contents before after))
     (no_command : asked ≡ None → end ≡ status.Usage ⊎ end ≡ status.SinkFault)
-    (usage_no_room : asked ≡ None → end ≡ status.SinkFault → HasNoRoom room (IsLine (codes "loft: usage"))) where
+    (usage_no_room : asked ≡ None → end ≡ status.SinkFault → HasNoRoom room (IsLineOf (codes "loft: usage"))) where
   by_asked : (k : Option Command) → asked ≡ k → MeetsNoFault asked (λ file. unplanned && is_some (told file)) told room → EndsWell end
   by_asked (Some c) is meets =
       let (contents, known) = all_told unplanned told c (λ file has. meets.parts c file is has) in

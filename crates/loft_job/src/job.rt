@@ -5,7 +5,7 @@ ghost use Rattle.loft_code.specs.Operations.{Automata};
 ghost use Rattle.loft_code.specs.View.{automata_of};
 ghost use Rattle.loft_sense.specs.Machine.{Code as ByCode};
 ghost use Rattle.loft_sense.specs.Async.{async};
-ghost use Rattle.loft_block.specs.Blocks.{Gives};
+ghost use Rattle.loft_block.specs.Blocks.{GivesNext};
 
 use loft_base::NoMemory;
 use loft_block::Block;
@@ -46,7 +46,7 @@ impl Job {
     /// The next order, or that there is none: `Over` comes exactly where nothing is left. In between the thread stands in
     /// the midst of its run. `NoMemory` comes where an allocation fails, and at each call after that.
     pub fn next(&mut self, alloc: Global, c: &Code) -> Result<JobStep, NoMemory>
-        ensures gives { IfOk result (λ step. Gives (order_in step)
+        ensures gives { IfOk result (λ step. GivesNext (order_in step)
             (left_of_job (automata_of c.now) self.old) (left_of_job (automata_of c.now) self.new)) }
         ensures works { OnOk result ((has_failed self.old ≡ false) × (has_failed self.new ≡ false)) }
         ensures no_memory { OnErr result (has_failed self.new ≡ true) }

@@ -18,7 +18,7 @@ use Rattle.loft_scopes.specs.Faults.{faults, is_scheduler}
 use Rattle.loft_numbers.specs.Numbers.{number_or_0, number_of, scheduler_of, module_of, place_of, arguments_of, client_orders, signature_of, signatures_in, starts_in, clients_in, heads_of}
 use Rattle.loft_names.proofs.HeadsMeaning.{none_left, none_right}
 use Rattle.loft_names.proofs.HeadsHolding.{heads_kept}
-use Rattle.loft_code.specs.Fits.{StartFits, OrderFits, ClientFits}
+use Rattle.loft_code.specs.Fits.{StartFits, ClientOrderFits, ClientFits}
 use Rattle.loft_listing_names.specs.Wrong.{if_scheduler, if_module, heads_in, same_number, scheduler_meant, module_meant, place_meant, begins_in, can_begin, order_misplaced, declaration_misplaced}
 
 -- ---- numbers of names
@@ -126,7 +126,7 @@ module _ (ds : List Declared) (p : Source) where
   starts_fit (d ∷ rest) hold none = starts_fit rest hold (none_right (declaration_misplaced ds (heads_in p) d) _ none)
 
   orders_fit : (xs : List Order) → Each (OrderHolds (heads_of ds p)) (client_orders ds Everywhere xs) → flat_map (order_misplaced ds (heads_in p)) xs ≡ []
-      → Each (OrderFits (heads_of ds p)) (client_orders ds Everywhere xs)
+      → Each (ClientOrderFits (heads_of ds p)) (client_orders ds Everywhere xs)
   orders_fit [] hold none = tt
   orders_fit (CreateThere scheduler called args ∷ xs) hold none = (
     call_fits scheduler called args hold.0 (none_left _ _ none),

@@ -20,7 +20,7 @@ use Rattle.loft_scopes.specs.Scopes.{Declared}
 use Rattle.loft_scopes.specs.declared.scope.Scope.{Scope}
 use Rattle.loft_scopes.specs.declared.scope.Scope.TheVariants.{Everywhere, Within}
 use Rattle.loft_scopes.specs.Faults.{is_scheduler}
-use Rattle.loft_code.specs.Fits.{OrderFits}
+use Rattle.loft_code.specs.Fits.{ClientOrderFits}
 use Rattle.loft_listing_draft.specs.Drafts.{source_of}
 use Rattle.loft_listing_draft.specs.Lined.{head_at, name_at, order_at, orders_from, place_at}
 use Rattle.loft_listing.specs.Called.{called_head, called_module, called_order, called_place, called_scheduler}
@@ -76,12 +76,12 @@ module _ (ds : List Declared) (h : Heads) (says : Says ds h) (heads : List Modul
       ∙ ap (same_number (Some s.0)) begins ∙ eq-eqb s.0 s.0 refl in
       ap (λ b. if b then [] else line ∷ []) can
 
-  order_placed : (line : ℕ) (x : ClientOrder) → OrderFits h x → order_misplaced ds heads (order_at line (called_order h x)) ≡ []
+  order_placed : (line : ℕ) (x : ClientOrder) → ClientOrderFits h x → order_misplaced ds heads (order_at line (called_order h x)) ≡ []
   order_placed line (order.Create s m args) fits = thread_placed line s m args fits
   order_placed line (order.Control control t s) fits = refl
   order_placed line (order.Broadcast event value) fits = refl
 
-  orders_placed : (line : ℕ) (xs : List ClientOrder) → Each (OrderFits h) xs → flat_map (order_misplaced ds heads) (orders_from line (map (called_order h) xs)) ≡ []
+  orders_placed : (line : ℕ) (xs : List ClientOrder) → Each (ClientOrderFits h) xs → flat_map (order_misplaced ds heads) (orders_from line (map (called_order h) xs)) ≡ []
   orders_placed line [] fit = refl
   orders_placed line (x ∷ xs) fit = (λ i. order_placed line x fit.0 i ++ orders_placed (line + 1) xs fit.1 i)
 

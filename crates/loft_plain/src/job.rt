@@ -5,7 +5,7 @@ ghost use Rattle.loft_tree.specs.ProgramView.{program_of};
 ghost use Rattle.loft_tree.specs.Resolved.{resolved_of};
 ghost use Rattle.loft_sense.specs.Machine.{Tree};
 ghost use Rattle.loft_sense.specs.Async.{async};
-ghost use Rattle.loft_block.specs.Blocks.{Gives};
+ghost use Rattle.loft_block.specs.Blocks.{GivesNext};
 
 use crate::walker::Walker;
 use loft_base::NoMemory;
@@ -39,7 +39,7 @@ impl<'a> PlainJob<'a> {
     /// The next order; none comes exactly where nothing is left. In between the thread stands in the midst of its run.
     /// `NoMemory` comes where an allocation fails, and at each call after that.
     pub fn next(&mut self, alloc: Global) -> Result<Option<Sent>, NoMemory>
-        ensures gives { IfOk result (λ sent. Gives sent (left_of_job self.old) (left_of_job self.new)) }
+        ensures gives { IfOk result (λ sent. GivesNext sent (left_of_job self.old) (left_of_job self.new)) }
         ensures works { OnOk result ((has_failed_job self.old ≡ false) × (has_failed_job self.new ≡ false)) }
         ensures no_memory { OnErr result (has_failed_job self.new ≡ true) }
     {

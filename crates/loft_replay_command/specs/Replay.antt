@@ -7,7 +7,7 @@ use Rattle.loft_numbers.specs.Numbers.{numbered}
 use Rattle.loft_sense.specs.Heads.{scheduler}
 use Rattle.loft_sense.specs.Machine.{Prog, Tree, heads}
 use Rattle.loft_refusal.specs.Refusals.{IsSourceOf, Well, IsCause}
-use Rattle.loft_commands.specs.Written.{IsLine}
+use Rattle.loft_commands.specs.Written.{IsLineOf}
 use Rattle.loft_commands.specs.Asks.{asks_well}
 use Rattle.loft_report_shape.specs.Report.{StopsAt, IsLine as StopsInLine, longest}
 use Rattle.loft_report_reader.specs.declared.error.LogError.{LogError}
@@ -33,7 +33,7 @@ IsNoReport text log.NoMemory = ⊥
 
 -- What the check of a whole report comes to: the line `ok` where the report is that of its own history, else why it isn't.
 abbrev pub WholeComesTo : Prog → List ℕ → Result (List ℕ) LogRefusal → Type 0
-WholeComesTo x report (Ok text) = IsReplayed x report × IsLine (codes "ok") text
+WholeComesTo x report (Ok text) = IsReplayed x report × IsLineOf (codes "ok") text
 WholeComesTo x report (Err (NoReport e)) = IsNoReport report e
 WholeComesTo x report (Err (Entry n)) = IsRefusalOf x report (error.NotAllowed n)
 WholeComesTo x report (Err (Instant n)) = ⊥

@@ -40,7 +40,7 @@ use Rattle.loft_sense.specs.Statements.{Now, Effect, GoesOn, Waits, Leaves, Dies
 use Rattle.loft_sense.specs.Stands.{begin_of, begin_or_unlinked, place_after, LeftAgrees, PauseAgrees}
 use Rattle.loft_sense.specs.Fits.{IsMaker, IsThread, IsValue, WaitNames, IsPoint, EndNames}
 use Rattle.loft_soundness.specs.WorkFits.{TargetHasKind, ActionFits, PauseFits}
-use Rattle.loft_soundness.specs.Points.{OrderFits, ActFits, ValueFits, ValuesFit, BesideFits}
+use Rattle.loft_soundness.specs.Points.{SentOrderFits, ActFits, ValueFits, ValuesFit, BesideFits}
 use Rattle.loft_soundness.proofs.ListLemmas.{each_append}
 use Rattle.loft_soundness.proofs.ValueLemmas.{values_agree, values_name, values_set, LimitFits, eval_fits, eval_all_fits, eval_if_fits}
 
@@ -108,7 +108,7 @@ thread_is : (h : Heads) (t : ThreadId) (v : Value) → IsThread h t → IsValue 
 thread_is h t (value.Int n) is fit = is
 thread_is h t (value.Thread u) is fit = fit
 
-control_fits : (h : Heads) (s : SchedId) (control : Control) (t : ThreadId) → IsThread h t → OrderFits h s (order_of control t)
+control_fits : (h : Heads) (s : SchedId) (control : Control) (t : ThreadId) → IsThread h t → SentOrderFits h s (order_of control t)
 control_fits h s control.Stop t is = is
 control_fits h s control.Suspend t is = is
 control_fits h s control.Resume t is = is
@@ -137,7 +137,7 @@ module _ (h : Heads) (slots : List Kind) (place : Place) (count : ℕ) (at : At)
   same d a f id p s n e = beside_fits h place count b d beside id p s n (subst (Each (ActFits h)) (sym e) (one_act a f))
 
   create_fits : (s : SchedId) (m : ModuleId) (head : Signature) (vs : List Value) → IsScheduler h s → begin_of h m ≡ Sched s → slice_get h.modules m.0 ≡ Some head → ValuesFit h (kinds_of head.parameters) vs
-      → OrderFits h s (order.Create (new_id b.around) m vs)
+      → SentOrderFits h s (order.Create (new_id b.around) m vs)
   create_fits s m head vs declared begins at is =
       let takes : TakesIn s (Some head) vs = (sym (ap begin_or_unlinked at) ∙ begins, values_agree h (kinds_of head.parameters) vs is) in
       (new_is, (declared, subst (λ o. TakesIn s o vs) (sym at) takes), values_name h (kinds_of head.parameters) vs is)

@@ -50,7 +50,7 @@ use Rattle.loft_sense.specs.Fits.{IsMaker, IsThread, IsValue, ThreadNames, EndNa
 use Rattle.loft_sense.specs.Apply.{Applied, new_thread, with_last, is_linked, without_first, suspend, tell_end, apply_order, apply_orders}
 use Rattle.loft_sense.specs.Instant.{sent_by}
 use Rattle.loft_history.proofs.HistoryLemmas.{is_same}
-use Rattle.loft_soundness.specs.Points.{OrderFits, OutFits, ActFits, StandsThere}
+use Rattle.loft_soundness.specs.Points.{SentOrderFits, OutFits, ActFits, StandsThere}
 use Rattle.loft_soundness.specs.Machines.{ThreadFits, FitsAt, SentFits}
 use Rattle.loft_soundness.specs.WellFormed.{IsWellFormed}
 use Rattle.loft_soundness.proofs.ListLemmas.{each_append, each_at, all_of}
@@ -68,7 +68,7 @@ tells_end x Unlinked t end is names = λ q declared there. (is, names)
 at_one : (x : Prog) (s : SchedId) (o : Order) → Fits x s o → FitsAt x (to.Sched s) o
 at_one x s o f q declared there = subst (λ (r : SchedId). Fits x r o) (sym (is_same q s there)) f
 
-order_fits : (x : Prog) (s : SchedId) (o : Order) → OrderFits (heads x) s o → Fits x s o
+order_fits : (x : Prog) (s : SchedId) (o : Order) → SentOrderFits (heads x) s o → Fits x s o
 order_fits x s (order.Create t m args) f = f
 order_fits x s (order.Arrive t) f = absurd f
 order_fits x s (order.Stop t) f = f

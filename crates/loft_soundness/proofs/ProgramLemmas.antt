@@ -15,7 +15,7 @@ use Rattle.loft_tree.specs.NamedFits.{EventHolds, ArgumentHolds, StartHolds, Ord
 use Rattle.loft_tree.specs.Resolved.{Pause, Resolved}
 use Rattle.loft_place.specs.Links.{IsPlaced}
 use Rattle.loft_place.proofs.Declared.{start_fits, create_fits}
-use Rattle.loft_code.specs.Fits.{StartFits, OrderFits, ClientFits}
+use Rattle.loft_code.specs.Fits.{StartFits, ClientOrderFits, ClientFits}
 use Rattle.loft_sense.specs.Machine.{Prog, Tree, Code, heads}
 use Rattle.loft_sense.specs.Stands.{StopKind, Pauses, StopAt, program_stop}
 use Rattle.loft_sense.specs.Fits.{IsMaker, IsValue}
@@ -72,14 +72,14 @@ starts_begin (Code c) is = code_starts c.heads c.heads.starts is.limits.heads.st
 
 -- a client's order: what it names is declared, and what a create makes can begin where it is made
 abbrev pub IsOrdered : Heads → ClientOrder → Type 0
-IsOrdered h o = OrderHolds h o × OrderFits h o
+IsOrdered h o = OrderHolds h o × ClientOrderFits h o
 
 abbrev pub Orders : Heads → Client → Type 0
 Orders h c = Each (IsOrdered h) c.orders
 
 -- the orders of the client with number c, of which the first here has number k
 module _ (n : NamedProgram) (fits : NamedFits n) (placed : IsPlaced n) (c : ℕ) (client : Client) (there : slice_get n.heads.clients c ≡ Some client) where
-  one_order : (k : ℕ) (o : ClientOrder) → slice_get client.orders k ≡ Some o → OrderFits n.heads o
+  one_order : (k : ℕ) (o : ClientOrder) → slice_get client.orders k ≡ Some o → ClientOrderFits n.heads o
   one_order k (order.Create s m arguments) at = create_fits n c client k s m arguments fits placed there at
   one_order k (order.Control control t s) at = tt
   one_order k (order.Broadcast event value) at = tt
@@ -99,7 +99,7 @@ tree_clients n fits placed k (c ∷ cs) at f = (
   tree_clients n fits placed (k + 1) cs (λ i d e. let next : k + suc i ≡ k + 1 + i = omega arith in subst (λ j. slice_get n.heads.clients j ≡ Some d) next (at (suc i) d e)) f.1,
 )
 
-code_orders : (h : Heads) (os : List ClientOrder) → Each (OrderFits h) os → Each (OrderHolds h) os → Each (IsOrdered h) os
+code_orders : (h : Heads) (os : List ClientOrder) → Each (ClientOrderFits h) os → Each (OrderHolds h) os → Each (IsOrdered h) os
 code_orders h [] f g = tt
 code_orders h (o ∷ os) f g = ((g.0, f.0), code_orders h os f.1 g.1)
 

@@ -52,18 +52,18 @@ HasValues h (Sched s) count = count ≡ length (shared_values h s)
 HasValues h Unlinked count = Unit {0}
 
 -- an order that a statement may send to a scheduler
-abbrev pub OrderFits : Heads → SchedId → Order → Type 0
-OrderFits h s (order.Create t m args) = IsThread h t × HeadsFit h s m args × Each (IsValue h) args
-OrderFits h s (order.Arrive t) = ⊥
-OrderFits h s (order.Stop t) = IsThread h t
-OrderFits h s (order.Suspend t) = IsThread h t
-OrderFits h s (order.Resume t) = IsThread h t
-OrderFits h s (order.Broadcast e v) = IsEventOf h s e
-OrderFits h s (order.Ended t end) = ⊥
+abbrev pub SentOrderFits : Heads → SchedId → Order → Type 0
+SentOrderFits h s (order.Create t m args) = IsThread h t × HeadsFit h s m args × Each (IsValue h) args
+SentOrderFits h s (order.Arrive t) = ⊥
+SentOrderFits h s (order.Stop t) = IsThread h t
+SentOrderFits h s (order.Suspend t) = IsThread h t
+SentOrderFits h s (order.Resume t) = IsThread h t
+SentOrderFits h s (order.Broadcast e v) = IsEventOf h s e
+SentOrderFits h s (order.Ended t end) = ⊥
 
 -- statements send to one scheduler each
 abbrev pub OutFits : Heads → To → Order → Type 0
-OutFits h (to.Sched s) o = OrderFits h s o
+OutFits h (to.Sched s) o = SentOrderFits h s o
 OutFits h there o = ⊥
 
 -- what was done: an order that is sent fits where it goes, and an end names what is declared

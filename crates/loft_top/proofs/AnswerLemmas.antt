@@ -7,10 +7,10 @@ use Rattle.loft_top.specs.declared.status.Status.TheVariants as status
 use Rattle.loft_refusal.specs.declared.refusal.Refusal.{Refusal}
 use Rattle.loft_refusal.specs.declared.refusal.Stopped.TheVariants as stopped
 use Rattle.loft_arguments.specs.Command.{FileCommand, Command, OfFile}
-use Rattle.loft_commands.specs.Written.{Appends, IsLine, IsPrefix, HasNoRoom}
+use Rattle.loft_commands.specs.Written.{Appends, IsLineOf, IsPrefix, HasNoRoom}
 use Rattle.loft_refusal.specs.Refusals.{line_of}
 use Rattle.loft_commands.specs.Promise.{IsFileAnswer}
-use Rattle.loft_top.specs.Status.{IsRefused, IsLogRefused, IsAccepted}
+use Rattle.loft_top.specs.Status.{IsRefusedStatus, IsLogRefused, IsAccepted}
 use Rattle.loft_commands.specs.Doing.{Attempts}
 use Rattle.loft_top.specs.Answer.{IsAnswer, Refuses, IsRefusal, AreTaken, IsText, Answers}
 use Rattle.loft_top.specs.Telling.{Tells}
@@ -36,7 +36,7 @@ done_answers {c = c} {known = known} {old = old} {new = new} before after d a = 
   done = λ contents k e. of_one (λ all. Appends old new (IsAnswer (OfFile c) all)) known (λ file t. a.written file t refl) contents k;
   source = λ contents k e. absurd cc;
   log = λ contents k e. absurd cc;
-  refused = λ contents line k r. of_one (λ all. Refuses (OfFile c) all line → IsRefused status.Done) known
+  refused = λ contents line k r. of_one (λ all. Refuses (OfFile c) all line → IsRefusedStatus status.Done) known
       (λ file t. λ (q, asks, cause, is). let (x, text, takes) = a.takes file t refl in absurd (taken_not_refused d c file x q text takes asks cause)) contents k r;
   log_refused = λ contents line k r. absurd r;
   accepted = λ contents k taken. tt;
@@ -57,7 +57,7 @@ cut_answers c known end old new before after room lines still is part no_room by
   done = λ contents k e. absurd (elim is [ inl f ↦ cc | inr f ↦ cc ]);
   source = λ contents k e. absurd (elim is [ inl f ↦ cc | inr f ↦ cc ]);
   log = λ contents k e. absurd (elim is [ inl f ↦ cc | inr f ↦ cc ]);
-  refused = λ contents line k r. elim is [ inl f ↦ subst IsRefused (sym f) tt | inr f ↦ subst IsRefused (sym f) tt ];
+  refused = λ contents line k r. elim is [ inl f ↦ subst IsRefusedStatus (sym f) tt | inr f ↦ subst IsRefusedStatus (sym f) tt ];
   log_refused = λ contents line k r. elim is [ inl f ↦ subst IsLogRefused (sym f) tt | inr f ↦ subst IsLogRefused (sym f) tt ];
   accepted = λ contents k taken. elim is [ inl f ↦ subst IsAccepted (sym f) tt | inr f ↦ subst IsAccepted (sym f) tt ];
   prefix = λ contents k e. part contents k;
@@ -95,11 +95,11 @@ file_answers c known end old mid new before after f g room left lines still last
   done = λ contents k f. absurd cc;
   source = λ contents k f. absurd cc;
   log = λ contents k f. absurd cc;
-  refused = λ contents line k r. subst IsRefused (sym e) tt;
+  refused = λ contents line k r. subst IsRefusedStatus (sym e) tt;
   log_refused = λ contents line k r. subst IsLogRefused (sym e) tt;
   accepted = λ contents k taken. subst IsAccepted (sym e) tt;
   prefix = λ contents k f. absurd (elim f [ inl g ↦ cc | inr g ↦ cc ]);
-  file_line = λ f. appends {P = IsLine (codes "files: fault")} (codes "files: fault" ++ 10 ∷ []) (subst (λ (o : Option (List ℕ)). new ≡ appended o (codes "files: fault" ++ 10 ∷ [])) same (told.written e)) refl;
+  file_line = λ f. appends {P = IsLineOf (codes "files: fault")} (codes "files: fault" ++ 10 ∷ []) (subst (λ (o : Option (List ℕ)). new ≡ appended o (codes "files: fault" ++ 10 ∷ [])) same (told.written e)) refl;
   never_usage = λ f. cc;
   log_reads = λ f. absurd cc;
   no_room = λ contents k f. absurd cc;
@@ -128,7 +128,7 @@ refused_answers {c = c} {known = known} {old = old} {mid = mid} {r = r} end new 
           (subst (λ (o : Option (List ℕ)). new ≡ appended o (line_of r ++ 10 ∷ [])) quiet (told.written e))
           (line_of r, (r, (a.refused file r t refl).0, (a.refused file r t refl).1, refl), refl)) contents k;
       log = λ contents k f. absurd cc;
-      refused = λ contents line k x. subst IsRefused (sym e) tt;
+      refused = λ contents line k x. subst IsRefusedStatus (sym e) tt;
       log_refused = λ contents line k x. absurd x;
       accepted = λ contents k taken. of_one (λ all. AreTaken (OfFile c) all → IsAccepted end) known
           (λ file t. λ (x, text, takes). let (asks, cause) = a.refused file r t refl in absurd (taken_not_refused d c file x r text takes asks cause)) contents k taken;

@@ -13,7 +13,7 @@ use Rattle.loft_replay_command.specs.declared.refusal.ReplayStop.{ReplayStop}
 use Rattle.loft_replay_command.specs.declared.refusal.ReplayStop.TheVariants as stop
 use Rattle.loft_top.specs.declared.status.Status.{Status}
 use Rattle.loft_top.specs.declared.status.Status.TheVariants as status
-use Rattle.loft_top.specs.Status.{IsRefused, IsLogRefused, IsAccepted}
+use Rattle.loft_top.specs.Status.{IsRefusedStatus, IsLogRefused, IsAccepted}
 use Rattle.loft_top.specs.Reports.{source_stop_line}
 use Rattle.loft_top.specs.Answer.{IsAnswer, Refuses, RefusesLog, IsRefusal, IsLogRefusal, AreTaken, IsText, Answers}
 use Rattle.loft_top.specs.Telling.{Tells}
@@ -74,7 +74,7 @@ module _ (a b : List ℕ) (only source report : Option (List ℕ)) (before after
     done = λ contents k e. of_two (λ all. Appends old new (IsAnswer c all)) source report (λ s r t u. w.done s r t u refl) contents k;
     source = λ contents k e. absurd cc;
     log = λ contents k e. absurd cc;
-    refused = λ contents line k x. of_two (λ all. Refuses c all line → IsRefused status.Done) source report (λ s r t u. λ (e, refused, is). w.source_ends s e t refused) contents k x;
+    refused = λ contents line k x. of_two (λ all. Refuses c all line → IsRefusedStatus status.Done) source report (λ s r t u. λ (e, refused, is). w.source_ends s e t refused) contents k x;
     log_refused = λ contents line k x. of_two (λ all. RefusesLog c all line → IsLogRefused status.Done) source report
         (λ s r t u. λ (l, comes, is). w.ends s r (Err (stop.Log l)) t u comes) contents k x;
     accepted = λ contents k taken. tt;
@@ -113,7 +113,7 @@ module _ (a b : List ℕ) (only source report : Option (List ℕ)) (before after
             (subst (λ (o : Option (List ℕ)). new ≡ appended o (source_stop_line e ++ 10 ∷ [])) quiet (told.written is))
             (source_stop_line e, (e, w.source_refused s e t refl of, refl), refl)) contents k;
         log = λ contents k f. absurd cc;
-        refused = λ contents line k x. subst IsRefused (sym is) tt;
+        refused = λ contents line k x. subst IsRefusedStatus (sym is) tt;
         log_refused = λ contents line k x. of_two (λ all. RefusesLog c all line → IsLogRefused end) source report
             (λ s r t u. λ (l, comes, named). absurd (no_report_refused old mid e l of (w.ends s r (Err (stop.Log l)) t u comes))) contents k x;
         accepted = λ contents k taken. of_two (λ all. AreTaken c all → IsAccepted end) source report
@@ -152,7 +152,7 @@ module _ (a b : List ℕ) (only source report : Option (List ℕ)) (before after
             (λ s r t u. appends {P = IsLogRefusal c (s ∷ r ∷ [])} (log_line l ++ 10 ∷ [])
             (subst (λ (o : Option (List ℕ)). new ≡ appended o (log_line l ++ 10 ∷ [])) quiet (told.written is))
             (log_line l, (l, w.report_refused s r l t u refl, refl), refl)) contents k;
-        refused = λ contents line k x. of_two (λ all. Refuses c all line → IsRefused end) source report
+        refused = λ contents line k x. of_two (λ all. Refuses c all line → IsRefusedStatus end) source report
             (λ s r t u. λ (e, refused, named). absurd (no_source_refused old mid only s e l refused (w.source_ends s e t refused))) contents k x;
         log_refused = λ contents line k x. subst IsLogRefused (sym is) tt;
         accepted = λ contents k taken. of_two (λ all. AreTaken c all → IsAccepted end) source report

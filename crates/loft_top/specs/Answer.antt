@@ -6,13 +6,13 @@ use Rattle.loft_generated_run.specs.Summary.{IsSummary}
 use Rattle.loft_refusal.specs.Input.{Input}
 use Rattle.loft_refusal.specs.Refusals.{IsTextOf}
 use Rattle.loft_arguments.specs.Command.{Command, OfFile, Replay, Gen, GenRun}
-use Rattle.loft_commands.specs.Written.{Appends, IsLine, IsPrefix, HasNoRoom}
+use Rattle.loft_commands.specs.Written.{Appends, IsLineOf, IsPrefix, HasNoRoom}
 use Rattle.loft_commands.specs.Asks.{RefusesFile, Takes}
 use Rattle.loft_commands.specs.Promise.{IsFileAnswer}
 use Rattle.loft_replay_command.specs.Replay.{ReplayComesTo}
 use Rattle.loft_top.specs.declared.status.Status.{Status}
 use Rattle.loft_top.specs.declared.status.Status.TheVariants as status
-use Rattle.loft_top.specs.Status.{IsRefused, IsLogRefused, IsAccepted}
+use Rattle.loft_top.specs.Status.{IsRefusedStatus, IsLogRefused, IsAccepted}
 use Rattle.loft_top.specs.Reads.{OfOne, OfTwo}
 use Rattle.loft_top.specs.Reports.{ReplayRefusesSource, ReplayRefusesReport}
 
@@ -40,10 +40,10 @@ RefusesLog (GenRun number) contents line = ⊥
 
 -- the text is the line with which a command refuses these contents, or the report among them
 abbrev pub IsRefusal : Command → List (List ℕ) → List ℕ → Type 0
-IsRefusal c contents text = (line : List ℕ) × Refuses c contents line × IsLine line text
+IsRefusal c contents text = (line : List ℕ) × Refuses c contents line × IsLineOf line text
 
 abbrev pub IsLogRefusal : Command → List (List ℕ) → List ℕ → Type 0
-IsLogRefusal c contents text = (line : List ℕ) × RefusesLog c contents line × IsLine line text
+IsLogRefusal c contents text = (line : List ℕ) × RefusesLog c contents line × IsLineOf line text
 
 -- the contents are what a command takes
 abbrev pub AreTaken : Command → List (List ℕ) → Type 0
@@ -62,7 +62,7 @@ ReadsReport (GenRun number) = ⊥
 -- what a command may write; the count of the files' faults was `before`, and is `after`
 abbrev pub IsText : Command → List (List ℕ) → ℕ → ℕ → List ℕ → Type 0
 IsText c contents before after text =
-    IsAnswer c contents text ⊎ (IsRefusal c contents text ⊎ (IsLogRefusal c contents text ⊎ (IsLine (codes "files: fault") text × Rose before after)))
+    IsAnswer c contents text ⊎ (IsRefusal c contents text ⊎ (IsLogRefusal c contents text ⊎ (IsLineOf (codes "files: fault") text × Rose before after)))
 
 -- A command ends so, where this is known of its files; the sink tells of `old` before it and of `new` after it, and the
 -- count of the files' faults was `before`, and is `after`. The sink was known to take `room` more bytes; whether each piece that it took was a
@@ -71,11 +71,11 @@ pub record Answers (c : Command) (known : Option (List (List ℕ))) (end : Statu
   pub done : (contents : List (List ℕ)) → known ≡ Some contents → end ≡ status.Done → Appends old new (IsAnswer c contents)
   pub source : (contents : List (List ℕ)) → known ≡ Some contents → end ≡ status.Source → Appends old new (IsRefusal c contents)
   pub log : (contents : List (List ℕ)) → known ≡ Some contents → end ≡ status.Log → Appends old new (IsLogRefusal c contents)
-  pub refused : (contents : List (List ℕ)) (line : List ℕ) → known ≡ Some contents → Refuses c contents line → IsRefused end
+  pub refused : (contents : List (List ℕ)) (line : List ℕ) → known ≡ Some contents → Refuses c contents line → IsRefusedStatus end
   pub log_refused : (contents : List (List ℕ)) (line : List ℕ) → known ≡ Some contents → RefusesLog c contents line → IsLogRefused end
   pub accepted : (contents : List (List ℕ)) → known ≡ Some contents → AreTaken c contents → IsAccepted end
   pub prefix : (contents : List (List ℕ)) → known ≡ Some contents → end ≡ status.SinkFault ⊎ end ≡ status.NoMemory → Appends old new (IsPrefix (IsText c contents before after))
-  pub file_line : end ≡ status.FileFault → Appends old new (IsLine (codes "files: fault"))
+  pub file_line : end ≡ status.FileFault → Appends old new (IsLineOf (codes "files: fault"))
   pub never_usage : end ≢ status.Usage
   pub log_reads : end ≡ status.Log → ReadsReport c
   pub no_room : (contents : List (List ℕ)) → known ≡ Some contents → end ≡ status.SinkFault → HasNoRoom room (IsText c contents before after)

@@ -16,14 +16,14 @@ code_of SinkFault = 6
 code_of NoMemory = 7
 
 -- a source, a listing or a text with locks is refused, unless a file or the sink fails or the program is out of memory
-abbrev pub IsRefused : Status → Type 0
-IsRefused Done = ⊥
-IsRefused Usage = ⊥
-IsRefused Source = Unit {0}
-IsRefused Log = ⊥
-IsRefused FileFault = Unit {0}
-IsRefused SinkFault = Unit {0}
-IsRefused NoMemory = Unit {0}
+abbrev pub IsRefusedStatus : Status → Type 0
+IsRefusedStatus Done = ⊥
+IsRefusedStatus Usage = ⊥
+IsRefusedStatus Source = Unit {0}
+IsRefusedStatus Log = ⊥
+IsRefusedStatus FileFault = Unit {0}
+IsRefusedStatus SinkFault = Unit {0}
+IsRefusedStatus NoMemory = Unit {0}
 
 -- a report is refused, unless a file or the sink fails or the program is out of memory
 abbrev pub IsLogRefused : Status → Type 0

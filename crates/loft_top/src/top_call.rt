@@ -7,8 +7,8 @@ ghost use Rattle.loft_arguments.specs.Command.{Command as PlainCommand, OfFile, 
 ghost use Rattle.loft_arguments.specs.Ranges.{KeepsRanges, IsInRanges};
 ghost use Rattle.loft_arguments.specs.Words.{words_of};
 ghost use Rattle.loft_arguments.specs.CommandView.{command_of, file_command_of};
-ghost use Rattle.loft_commands.specs.Written.{Appends, IsLine, IsPrefix, HasNoRoom};
-ghost use Rattle.loft_top.specs.Status.{IsRefused, IsLogRefused, IsAccepted};
+ghost use Rattle.loft_commands.specs.Written.{Appends, IsLineOf, IsPrefix, HasNoRoom};
+ghost use Rattle.loft_top.specs.Status.{IsRefusedStatus, IsLogRefused, IsAccepted};
 ghost use Rattle.loft_top.specs.Reads.{contents_of};
 ghost use Rattle.loft_top.specs.Answer.{IsAnswer, Refuses, RefusesLog, IsRefusal, IsLogRefusal, AreTaken, ReadsReport, IsText, Answers};
 
@@ -123,7 +123,7 @@ pub fn loft_main<R: Threads + Wait + Sync, F: Files, S: Sink, G: Gate>(
     // Usage comes exactly where the words are no command, unless the sink fails.
     ensures usage { result ≡ Status.Usage → command (words_of words.now) ≡ None }
     ensures usage_line { result ≡ Status.Usage
-        → Appends (S.written sink.old) (S.written sink.new) (IsLine (codes "loft: usage")) }
+        → Appends (S.written sink.old) (S.written sink.new) (IsLineOf (codes "loft: usage")) }
     ensures no_command { command (words_of words.now) ≡ None
         → result ≡ Status.Usage ⊎ result ≡ Status.SinkFault }
     // Source comes exactly where a source, a listing or a text with locks is refused, unless a file or the sink fails or the
@@ -135,7 +135,7 @@ pub fn loft_main<R: Threads + Wait + Sync, F: Files, S: Sink, G: Gate>(
     ensures refused { (c : PlainCommand) (contents : List (List ℕ)) (line : List ℕ)
         → command (words_of words.now) ≡ Some c
         → contents_of (F.contents files.old) (files_of c) ≡ Some contents → Refuses c contents line
-        → IsRefused result }
+        → IsRefusedStatus result }
     // Log comes exactly where a report is refused, with the same exceptions, and so only of a command that reads one.
     ensures log_runs { result ≡ Status.Log → IsSome (command (words_of words.now)) }
     ensures log_reads { (c : PlainCommand) → command (words_of words.now) ≡ Some c → result ≡ Status.Log → ReadsReport c }
@@ -159,12 +159,12 @@ pub fn loft_main<R: Threads + Wait + Sync, F: Files, S: Sink, G: Gate>(
         → Appends (S.written sink.old) (S.written sink.new)
         (IsPrefix (IsText c contents (F.faults files.old) (F.faults files.new))) }
     ensures usage_prefix { command (words_of words.now) ≡ None → result ≡ Status.SinkFault
-        → Appends (S.written sink.old) (S.written sink.new) (IsPrefix (IsLine (codes "loft: usage"))) }
+        → Appends (S.written sink.old) (S.written sink.new) (IsPrefix (IsLineOf (codes "loft: usage"))) }
 
     // A failure has its cause in this call.
     ensures file_fault { result ≡ Status.FileFault → Rose (F.faults files.old) (F.faults files.new) }
     ensures file_line { result ≡ Status.FileFault
-        → Appends (S.written sink.old) (S.written sink.new) (IsLine (codes "files: fault")) }
+        → Appends (S.written sink.old) (S.written sink.new) (IsLineOf (codes "files: fault")) }
     ensures sink_fault { result ≡ Status.SinkFault → Rose (S.faults sink.old) (S.faults sink.new) }
 
     // The counts of faults never fall, and files that never fail for the names of the command make no fault.
@@ -179,7 +179,7 @@ pub fn loft_main<R: Threads + Wait + Sync, F: Files, S: Sink, G: Gate>(
         → contents_of (F.contents files.old) (files_of c) ≡ Some contents → result ≡ Status.SinkFault
         → HasNoRoom (S.room sink.old) (IsText c contents (F.faults files.old) (F.faults files.new)) }
     ensures usage_no_room { command (words_of words.now) ≡ None → result ≡ Status.SinkFault
-        → HasNoRoom (S.room sink.old) (IsLine (codes "loft: usage")) }
+        → HasNoRoom (S.room sink.old) (IsLineOf (codes "loft: usage")) }
     // What is written goes out line by line, whatever the command and however it ends.
     ensures by_lines { IsTrue (S.by_lines sink.old) → IsTrue (S.by_lines sink.new) }
 {

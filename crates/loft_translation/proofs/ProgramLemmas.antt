@@ -21,7 +21,7 @@ use Rattle.loft_place.proofs.Declared.{module_goes, body_is_declared, start_fits
 use Rattle.loft_code.specs.declared.limits.TheConstants.{MAX_OPERATIONS}
 use Rattle.loft_code.specs.Operations.{End, Line}
 use Rattle.loft_code.specs.Names.{has_place}
-use Rattle.loft_code.specs.Fits.{StartFits, OrderFits, ClientFits, HeadsKeep, LineFits, LinesFit, RawFits}
+use Rattle.loft_code.specs.Fits.{StartFits, ClientOrderFits, ClientFits, HeadsKeep, LineFits, LinesFit, RawFits}
 use Rattle.loft_code.specs.Valid.{module_error, Valid}
 use Rattle.loft_sense.specs.Stands.{begin_of, begin_or_unlinked, leads}
 use Rattle.loft_translation.specs.Compiled.{line, body_lines, module_lines, modules_from, compiled}
@@ -44,7 +44,7 @@ each_map P Q (x ∷ xs) f all = (f x all.0, each_map P Q xs f all.1)
 -- ---- what a program declares
 
 order_fits : (n : NamedProgram) (client : ℕ) (c : Client) (number : ℕ) (o : ClientOrder) → NamedFits n → IsPlaced n → slice_get n.heads.clients client ≡ Some c → slice_get c.orders number ≡ Some o
-    → OrderFits n.heads o
+    → ClientOrderFits n.heads o
 order_fits n client c number (order.Create scheduler m arguments) fits placed at ordered = create_fits n client c number scheduler m arguments fits placed at ordered
 order_fits n client c number (order.Control control thread scheduler) fits placed at ordered = tt
 order_fits n client c number (order.Broadcast event value) fits placed at ordered = tt
@@ -55,7 +55,7 @@ heads_keep n fits placed = record {
   names = fits.names;
   starts_fit = each_from (StartFits n.heads) n.heads.starts (λ k t at. start_fits n k t fits placed at);
   clients_fit = each_from (ClientFits n.heads) n.heads.clients
-      (λ k c at. each_from (OrderFits n.heads) c.orders (λ j o ordered. order_fits n k c j o fits placed at ordered));
+      (λ k c at. each_from (ClientOrderFits n.heads) c.orders (λ j o ordered. order_fits n k c j o fits placed at ordered));
 }
 
 -- ---- modules

@@ -1,7 +1,7 @@
 use Rattle.std.proofs.Common.{subst}
 use Rattle.loft_sense.specs.Machine.{Mach}
 use Rattle.loft_standing.specs.Stops.{tree_of}
-use Rattle.loft_block_replay.specs.Made.{AllMade, StopsAt}
+use Rattle.loft_block_replay.specs.Made.{AllMade, FailsFirstAt}
 use Rattle.loft_block_replay.proofs.BatchLemmas.{some_of, none_of}
 use Rattle.loft_block_replay.proofs.MadeLemmas.{start_text, whole_block}
 use Rattle.loft_block_replay.proofs.block.replay_by.Goals as goal
@@ -10,8 +10,8 @@ pub returns-in-Some : goal.returns-in-Some
 returns-in-Some g c =
     let x = tree_of c.args.p.now in
     let limits = g.E.Engine.limits c.args.engine.now in
-    subst (λ (m : Mach). StopsAt x limits c.args.s m c.args.instants.now c.in-Some.entry) c.requires.machine
-    (some_of (StopsAt x limits c.args.s (g.E.Engine.machine c.args.engine.now) c.args.instants.now) c.in_ok-stop.stop c.in-Some.entry c.in-Some.is c.in_ok-stop.ensures.stopped)
+    subst (λ (m : Mach). FailsFirstAt x limits c.args.s m c.args.instants.now c.in-Some.entry) c.requires.machine
+    (some_of (FailsFirstAt x limits c.args.s (g.E.Engine.machine c.args.engine.now) c.args.instants.now) c.in_ok-stop.stop c.in-Some.entry c.in-Some.is c.in_ok-stop.ensures.stopped)
 
 pub returns-in_ok-bytes-in-None : goal.returns-in_ok-bytes-in-None
 returns-in_ok-bytes-in-None g c =

@@ -2,9 +2,9 @@ use Rattle.std.proofs.Common.{◌≡◌, ◌++◌, ◌∷◌, [], inl, refl, sym
 use Rattle.std.specs.Prelude.{codes}
 use Rattle.loft_arguments.specs.Command.{files_of}
 use Rattle.loft_arguments.specs.CommandView.{command_of}
-use Rattle.loft_commands.specs.Written.{Appends, IsLine, IsPrefix, HasNoRoom}
+use Rattle.loft_commands.specs.Written.{Appends, IsLineOf, IsPrefix, HasNoRoom}
 use Rattle.loft_top.specs.declared.status.Status.TheVariants as status
-use Rattle.loft_top.specs.Status.{IsRefused, IsLogRefused}
+use Rattle.loft_top.specs.Status.{IsRefusedStatus, IsLogRefused}
 use Rattle.loft_top.specs.Reads.{contents_of}
 use Rattle.loft_top.specs.Answer.{IsAnswer, Refuses, RefusesLog, IsRefusal, IsLogRefusal, ReadsReport, IsText}
 use Rattle.loft_commands.proofs.Written.{appends, begun, of_found}
@@ -45,7 +45,7 @@ returns-in-Some-clause-log_reads g c = λ k is log.
 
 pub returns-in-Some-clause-refused : goal.returns-in-Some-clause-refused
 returns-in-Some-clause-refused g c = λ k contents line is known refuses.
-    of_found (λ k. contents_of (g.F.Files.contents c.args.files.now) (files_of k) ≡ Some contents → Refuses k contents line → IsRefused c.answer.result)
+    of_found (λ k. contents_of (g.F.Files.contents c.args.files.now) (files_of k) ≡ Some contents → Refuses k contents line → IsRefusedStatus c.answer.result)
     c.in-Some.ensures.meant is (λ t r. c.answer.ensures.answers.refused contents line t r) known refuses
 
 pub returns-in-Some-clause-prefix : goal.returns-in-Some-clause-prefix
@@ -58,12 +58,12 @@ returns-in-Some-clause-prefix g c = λ k contents is known cut.
 pub returns-in-None-clause-usage_line : goal.returns-in-None-clause-usage_line
 returns-in-None-clause-usage_line g c = λ is_usage.
     let line : List ℕ = codes "loft: usage" in
-    appends {P = IsLine line} (line ++ 10 ∷ []) (c.tell.ensures.tells.written is_usage) refl
+    appends {P = IsLineOf line} (line ++ 10 ∷ []) (c.tell.ensures.tells.written is_usage) refl
 
 pub returns-in-None-clause-usage_prefix : goal.returns-in-None-clause-usage_prefix
 returns-in-None-clause-usage_prefix g c = λ none cut.
     let line : List ℕ = codes "loft: usage" in
-    begun (IsLine line) (line ++ 10 ∷ []) (c.tell.ensures.tells.cut (inl cut)) refl
+    begun (IsLineOf line) (line ++ 10 ∷ []) (c.tell.ensures.tells.cut (inl cut)) refl
 
 pub returns-in-Some-clause-no_room : goal.returns-in-Some-clause-no_room
 returns-in-Some-clause-no_room g c = λ k contents is known fault.

@@ -1,7 +1,7 @@
 use Rattle.std.proofs.Common.{◌≡◌, ◌∷◌, List, subst}
 use Rattle.loft_code.specs.View.{automata_of}
 use Rattle.loft_orders.specs.declared.order.Sent.{Sent}
-use Rattle.loft_block.specs.Blocks.{Gives}
+use Rattle.loft_block.specs.Blocks.{GivesNext}
 use Rattle.loft_job.specs.declared.job.JobStep.{JobStep}
 use Rattle.loft_job.specs.Job.{left_of_job, order_in}
 use Rattle.loft_station.proofs.WorkerLemmas.{next_posted}
@@ -12,7 +12,7 @@ returns-in_ok-post-in-Sent-clause-kept g c =
     let x = c.args.c.now in
     let old : List Sent = left_of_job (automata_of x) c.args.job.now in
     let new : List Sent = left_of_job (automata_of x) c.next.new.self in
-    let is : old ≡ c.in-Sent.sent ∷ new = subst (λ (step : JobStep). Gives (order_in step) old new) c.in-Sent.is c.in_ok-sent.ensures.gives in
+    let is : old ≡ c.in-Sent.sent ∷ new = subst (λ (step : JobStep). GivesNext (order_in step) old new) c.in-Sent.is c.in_ok-sent.ensures.gives in
     (next_posted c.args.b.now x c.args.job.now c.next.new.self c.in-Sent.sent c.args.self.now c.post.new.seat c.requires.left is c.in_ok-post-in-Sent.ensures.ok).0.kept
 
 pub returns-in_ok-post-in-Sent-clause-posted : goal.returns-in_ok-post-in-Sent-clause-posted
@@ -20,5 +20,5 @@ returns-in_ok-post-in-Sent-clause-posted g c =
     let x = c.args.c.now in
     let old : List Sent = left_of_job (automata_of x) c.args.job.now in
     let new : List Sent = left_of_job (automata_of x) c.next.new.self in
-    let is : old ≡ c.in-Sent.sent ∷ new = subst (λ (step : JobStep). Gives (order_in step) old new) c.in-Sent.is c.in_ok-sent.ensures.gives in
+    let is : old ≡ c.in-Sent.sent ∷ new = subst (λ (step : JobStep). GivesNext (order_in step) old new) c.in-Sent.is c.in_ok-sent.ensures.gives in
     next_posted c.args.b.now x c.args.job.now c.next.new.self c.in-Sent.sent c.args.self.now c.post.new.seat c.requires.left is c.in_ok-post-in-Sent.ensures.ok
