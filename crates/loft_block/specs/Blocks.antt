@@ -1,5 +1,5 @@
 -- What a block of an unlinked thread has still to send (docs/SEMANTICS.md, "Unlinked blocks").
-use Rattle.std.specs.Prelude.{◌≡◌, Bool, true, false, List, [], ◌∷◌, ◌++◌, Option, Some, None}
+use Rattle.std.specs.Prelude.{Bool, true, false, List, [], ◌++◌, Option, Some, None}
 use Rattle.loft_orders.specs.declared.order.Sent.{Sent}
 use Rattle.loft_sense.specs.Machine.{Prog}
 use Rattle.loft_sense.specs.Run.{Outcome}
@@ -22,8 +22,3 @@ abbrev pub has_failed : {R : Type 0} → Block R → Bool
 has_failed (Begins t block) = false
 has_failed (Goes orders run) = false
 has_failed Failed = true
-
--- the first of what was left is given, or nothing was left
-abbrev pub GivesNext : Option Sent → List Sent → List Sent → Type 0
-GivesNext None before after = (before ≡ []) × (after ≡ [])
-GivesNext (Some m) before after = before ≡ m ∷ after

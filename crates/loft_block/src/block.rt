@@ -2,7 +2,8 @@
 
 ghost use Rattle.std.specs.Prelude.{◌≡◌, ◌++◌, [], None, true, false, IfOk, IsNone, OnOk, OnErr};
 ghost use Rattle.std.specs.Option.{option_to_list};
-ghost use Rattle.loft_block.specs.Blocks.{sent_if, left_of, has_failed, GivesNext};
+ghost use Rattle.loft_sense.specs.Async.{GivesNext};
+ghost use Rattle.loft_block.specs.Blocks.{sent_if, left_of, has_failed};
 
 use crate::piece::{begin, go_on};
 use loft_base::{NoMemory, Sequence};

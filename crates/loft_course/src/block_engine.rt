@@ -2,9 +2,8 @@
 
 ghost use Rattle.std.specs.Prelude.{◌≡◌, ℕ, List, IfOk};
 ghost use Rattle.loft_orders.specs.declared.order.Sent.{Sent as SentOrder};
-ghost use Rattle.loft_sense.specs.Async.{async};
+ghost use Rattle.loft_sense.specs.Async.{async, GivesNext};
 ghost use Rattle.loft_sense.specs.Machine.{Prog};
-ghost use Rattle.loft_course.specs.Blocks.{IsNext};
 
 use loft_base::NoMemory;
 use loft_orders::{Sent, Thread};
@@ -30,7 +29,7 @@ pub trait BlockEngine: Drop {
 
     /// The next order of the block. None exactly where nothing is left of it.
     fn next(&mut self, alloc: Global) -> Result<Option<Sent>, NoMemory>
-        ensures next { IfOk result (λ sent. IsNext sent (left self.old) (left self.new)) }
+        ensures next { IfOk result (λ sent. GivesNext sent (left self.old) (left self.new)) }
         ensures same_program { program self.new ≡ program self.old }
         ensures same_bound { bound self.new ≡ bound self.old };
 }

@@ -4,8 +4,7 @@ ghost use Rattle.std.specs.Prelude.{◌≡◌, true, false, IfOk, OnOk, OnErr};
 ghost use Rattle.loft_code.specs.Operations.{Automata};
 ghost use Rattle.loft_code.specs.View.{automata_of};
 ghost use Rattle.loft_sense.specs.Machine.{Code as ByCode};
-ghost use Rattle.loft_sense.specs.Async.{async};
-ghost use Rattle.loft_block.specs.Blocks.{GivesNext};
+ghost use Rattle.loft_sense.specs.Async.{async, GivesNext};
 
 use loft_base::NoMemory;
 use loft_block::Block;

@@ -4,8 +4,7 @@ ghost use Rattle.std.specs.Prelude.{◌≡◌, true, false, IfOk, OnOk, OnErr};
 ghost use Rattle.loft_tree.specs.ProgramView.{program_of};
 ghost use Rattle.loft_tree.specs.Resolved.{resolved_of};
 ghost use Rattle.loft_sense.specs.Machine.{Tree};
-ghost use Rattle.loft_sense.specs.Async.{async};
-ghost use Rattle.loft_block.specs.Blocks.{GivesNext};
+ghost use Rattle.loft_sense.specs.Async.{async, GivesNext};
 
 use crate::walker::Walker;
 use loft_base::NoMemory;

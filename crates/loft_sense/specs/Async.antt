@@ -1,5 +1,5 @@
 -- The orders of a thread that isn't linked (docs/SEMANTICS.md, "Unlinked blocks").
-use Rattle.std.specs.Prelude.{ℕ, List, [], ◌∷◌, ◌++◌, length}
+use Rattle.std.specs.Prelude.{◌≡◌, ℕ, List, [], ◌∷◌, ◌++◌, length, Option, Some, None}
 use Rattle.loft_tree.specs.declared.heads.Place.TheVariants.{Unlinked}
 use Rattle.loft_board.specs.Board.{no_events}
 use Rattle.loft_orders.specs.declared.thread.Thread.{Thread}
@@ -24,3 +24,8 @@ block_sent (Ended end around left) = sent_by Unlinked around.acts
 -- all that a thread sends until it is linked again or ends, in at most so many steps
 abbrev pub async : Prog → Thread → ℕ → List Sent
 async x t block = block_sent (run_of x t (alone x) block)
+
+-- the first of the orders that were left is given, or none was left
+abbrev pub GivesNext : Option Sent → List Sent → List Sent → Type 0
+GivesNext None before after = (before ≡ []) × (after ≡ [])
+GivesNext (Some m) before after = before ≡ m ∷ after

@@ -1,7 +1,7 @@
 use Rattle.std.proofs.Common.{◌≡◌, ◌∷◌, List, subst}
 use Rattle.loft_code.specs.View.{automata_of}
 use Rattle.loft_orders.specs.declared.order.Sent.{Sent}
-use Rattle.loft_block.specs.Blocks.{GivesNext}
+use Rattle.loft_sense.specs.Async.{GivesNext}
 use Rattle.loft_job.specs.declared.job.JobStep.{JobStep}
 use Rattle.loft_job.specs.Job.{left_of_job, order_in}
 use Rattle.loft_station.proofs.WorkerLemmas.{next_posted}
