@@ -16,6 +16,7 @@ use loft_log::{reports_of_worlds_are_of_histories, write_report};
 use loft_refusal::Stopped;
 use loft_run::run_whole;
 use std::alloc::Global;
+use std::mem::forget;
 use std::sync::Wait;
 use std::thread::Threads;
 
@@ -103,5 +104,8 @@ pub fn run_code<R: Threads + Wait + Sync, S: Sink, G: Gate>(
         &run.finals,
         sink,
     )?;
+    // The program ends after it. To give back what was kept of the run, piece by piece, takes a third as long as to write a
+    // long report.
+    forget(run);
     Ok(())
 }

@@ -20,6 +20,7 @@ use loft_report_file::read_log;
 use loft_report_reader::RawReport;
 use loft_report_shape::{reports_have_one_text, texts_are_one_report_or_stop};
 use std::alloc::Global;
+use std::mem::forget;
 
 /// Checks that a report is that of its own history.
 fn check_whole(alloc: Global, p: &Placed, r: &RawReport) -> Result<Answer, ReplayStop>
@@ -32,7 +33,8 @@ fn check_whole(alloc: Global, p: &Placed, r: &RawReport) -> Result<Answer, Repla
     texts_are_one_report_or_stop();
     match replay_raw(alloc, p, r) {
         Ok(run) => {
-            drop(run);
+            // The program ends after it: nothing needs this memory any more.
+            forget(run);
             Ok(Answer::Whole)
         }
         Err(error) => Err(stop_of_whole(error)),
