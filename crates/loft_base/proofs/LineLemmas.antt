@@ -1,11 +1,12 @@
 -- Where the first line of a text ends.
-use Rattle.std.proofs.Common.{◌≡◌, ℕ, zero, suc, ◌+◌, ◌-◌, ◌<◌, ◌≤◌, ◌==◌, List, [], ◌∷◌, length, take, drop, Bool, true, false, if◌then◌else◌, Option, Some, None, refl, ap, subst, ◌∙◌, arith}
+use Rattle.std.proofs.Common.{◌≡◌, ℕ, zero, suc, ◌+◌, ◌-◌, ◌<◌, ◌≤◌, ◌==◌, List, [], ◌∷◌, length, take, drop, Bool, true, false, if◌then◌else◌, Option, Some, None, refl, sym, ap, subst, ◌∙◌, arith}
 use Rattle.std.proofs.lemmas.List.{take_all}
 use Rattle.std.proofs.lemmas.Grind.{common_steps}
 use Rattle.std.proofs.lemmas.Bool.Decides.{nat_tests}
 use Rattle.std.proofs.lemmas.Bool.{false≢true}
 use Rattle.std.specs.List.{position_from}
 use Rattle.std.specs.Io.BufRead.{take_through}
+use Rattle.memchr.specs.Find.{is_byte, IsFirstByte, Passes, Nowhere}
 use Rattle.loft_base.specs.Outside.{is_line}
 use Rattle.loft_base.specs.Writing.{are_lines}
 
@@ -16,6 +17,32 @@ line_feed k xs = position_from (λ byte. byte == 10) k xs
 -- the line ends at the index i
 abbrev IsLineTo : ℕ → ℕ → List ℕ → List ℕ → Type 0
 IsLineTo k i xs line = (k ≤ i) × (take (i - k + 1) xs ≡ line)
+
+-- the first byte that is a line feed has the first one's index
+none-step : (b : Bool) (k x : ℕ) (xs : List ℕ) → (b ≡ true → ⊥) → line_feed (k + 1) xs ≡ None → (if b then Some k else line_feed (k + 1) xs) ≡ None
+none-step true k x xs not later = absurd (not refl)
+none-step false k x xs not later = later
+
+none-from : (k : ℕ) (xs : List ℕ) → Nowhere (Passes (is_byte 10) xs) 0 (length xs) → line_feed k xs ≡ None
+none-from k [] none = refl
+none-from k (x ∷ xs) none = none-step (x == 10) k x xs (none 0 (omega arith) (omega arith)) (none-from (k + 1) xs (λ i le lt. none (suc i) (omega arith) (omega (arith, lt))))
+
+some-step : (b : Bool) (k i x : ℕ) (xs : List ℕ) → (b ≡ true → ⊥) → line_feed (k + 1) xs ≡ Some (k + 1 + i) → (if b then Some k else line_feed (k + 1) xs) ≡ Some (k + suc i)
+some-step true k i x xs not later = absurd (not refl)
+some-step false k i x xs not later = let n : k + 1 + i ≡ k + suc i = omega arith in later ∙ ap (λ n. Some n) n
+
+some-here : (b : Bool) (k : ℕ) (xs : List ℕ) → b ≡ true → (if b then Some k else line_feed (k + 1) xs) ≡ Some (k + 0)
+some-here true k xs is = let n : k ≡ k + 0 = omega arith in ap (λ n. Some n) n
+some-here false k xs is = absurd (false≢true is)
+
+some-from : (k i : ℕ) (xs : List ℕ) → i < length xs → Nowhere (Passes (is_byte 10) xs) 0 i → Passes (is_byte 10) xs i → line_feed k xs ≡ Some (k + i)
+some-from k i [] lt none is = absurd (omega (arith, lt))
+some-from k zero (x ∷ xs) lt none is = some-here (x == 10) k xs is
+some-from k (suc i) (x ∷ xs) lt none is = some-step (x == 10) k i x xs (none 0 (omega arith) (omega arith)) (some-from (k + 1) i xs (omega (arith, lt)) (λ j le l. none (suc j) (omega arith) (omega (arith, l))) is)
+
+pub found_first : (xs : List ℕ) (r : Option ℕ) → IsFirstByte (is_byte 10) xs r → r ≡ line_feed 0 xs
+found_first xs None h = sym (none-from 0 xs h)
+found_first xs (Some i) h = let n : 0 + i ≡ i = omega arith in sym (some-from 0 i xs h.0.high h.0.before h.1 ∙ ap (λ n. Some n) n)
 
 found-step : (b : Bool) (k i x : ℕ) (xs : List ℕ) → (line_feed (k + 1) xs ≡ Some i → IsLineTo (k + 1) i xs (take_through 10 xs)) → (if b then Some k else line_feed (k + 1) xs) ≡ Some i → IsLineTo k i (x ∷ xs) (if b then x ∷ [] else x ∷ take_through 10 xs)
 found-step true k i x xs later e = grind (arith, common_steps)

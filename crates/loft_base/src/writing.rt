@@ -7,6 +7,7 @@ ghost use Rattle.loft_base.specs.Writing.{WritesTo, leading_line, are_lines};
 
 use crate::errors::{Failed, NoMemory};
 use crate::outside::Sink;
+use memchr::memchr;
 
 /// Why a text wasn't written whole.
 #[derive(Clone, Copy, Debug, PartialEq, Eq)]
@@ -97,5 +98,5 @@ fn first_line_feed(text: &[u8]) -> Option<usize>
     ensures within { IfSome result (λ index. index < length text.now) }
     ensures first { result ≡ position_from (λ byte. byte == 10) 0 text.now }
 {
-    text.iter().position(|byte| *byte == b'\n')
+    memchr(b'\n', text)
 }
