@@ -1,6 +1,7 @@
 -- One step of a thread whose frames are in memory.
-use Rattle.std.proofs.Common.{◌≡◌, ◌≢◌, ℕ, ℤ, zero, suc, ◌-◌, ◌<◌, ◌≤◌, List, [], ◌∷◌, ◌++◌, refl, sym, ap, ◌∙◌, Option, Some, None, length, arith}
-use Rattle.std.proofs.lemmas.Bool.{le-ltb, lt-ltb}
+use Rattle.std.proofs.Common.{◌≡◌, ◌≢◌, ℕ, ℤ, zero, suc, ◌-◌, ◌<◌, List, [], ◌∷◌, ◌++◌, refl, sym, ap, ◌∙◌, Option, Some, None, length, take, get_or, arith}
+use Rattle.std.proofs.Math.ListN.{set, length-set}
+use Rattle.std.proofs.lemmas.Bool.{lt-ltb}
 use Rattle.std.proofs.lemmas.List.{length-map, length-reverse}
 use Rattle.std.specs.Prelude.{reverse, map, nat_lt}
 use Rattle.loft_base.specs.declared.ids.ModuleId.{ModuleId}
@@ -11,7 +12,7 @@ use Rattle.loft_tree.specs.declared.named.Target.{Target as TargetInMemory}
 use Rattle.loft_tree.specs.Resolved.{Pause, Body, Resolved, target_of as target_from}
 use Rattle.loft_sense.specs.declared.limits.TheConstants.{MAX_FRAMES}
 use Rattle.loft_orders.specs.declared.order.End.{End}
-use Rattle.loft_orders.specs.declared.order.End.TheVariants.{Done, Deep, Over}
+use Rattle.loft_orders.specs.declared.order.End.TheVariants.{Done}
 use Rattle.loft_orders.specs.declared.order.To.{To}
 use Rattle.loft_orders.specs.declared.thread.Frame.{Frame}
 use Rattle.loft_orders.specs.declared.thread.Thread.{Thread}
@@ -33,7 +34,8 @@ use Rattle.loft_walk.specs.declared.work.Task.{Task}
 use Rattle.loft_effect.specs.View.{around_of, beside_of}
 use Rattle.loft_walk.specs.Pieces.{work_of, work_of_task}
 use Rattle.loft_walk.specs.Frames.{active, actives, live_of, advance, goes_or_stops, program_with, Steps, top_target, Answers}
-use Rattle.loft_effect.proofs.Runs.{run_enters, run_deep}
+use Rattle.loft_effect.proofs.Runs.{run_enters}
+use Rattle.loft_walk.proofs.Lasts.{last_is, last_set}
 use Rattle.loft_walk.proofs.Frames.{actives-push, actives_woken}
 
 length_actives : (rs : List Running) → length (actives rs) ≡ length rs
@@ -43,71 +45,78 @@ module _ (h : Heads) (bodies : List Body) where
   abbrev code : Control (List Work)
   code = tree (program_with h bodies)
 
+  -- a task changes no frame's place
+  over_same : (t : Task) (b : Beside) (rs : List (Active (List Work))) → no_step b (live_of (Some t) rs) ≡ no_step b rs
+  over_same t b [] = refl
+  over_same t b (r ∷ rs) = refl
+
   -- no step is left
-  pub no_left : (running rest : List Running) (top : Running) (task : Task) (o : Option (Running × Task)) (left : ℕ) (b : BesideInMemory) → left ≡ 0 → o ≡ Some (top, task) → live code (actives running) ≡ live_of o rest
-      → ends (Over top.scope.at) (beside_of b) left ≡ going code left (beside_of b) (actives running)
-  no_left running rest top task o zero b none some l = sym (ap (no_step (beside_of b)) (l ∙ ap (λ (x : Option (Running × Task)). live_of x rest) some))
-  no_left running rest top task o (suc n) b none some l = absurd cc
+  pub no_left : (running after : List Running) (task : Task) (o : Option Task) (end : End) (left : ℕ) (b : BesideInMemory) → left ≡ 0 → o ≡ Some task → live code (actives running) ≡ live_of o (actives after)
+      → ((x : Beside) → ends end x 0 ≡ no_step x (actives after)) → ends end (beside_of b) left ≡ going code left (beside_of b) (actives running)
+  no_left running after task o end zero b none some l over =
+      over (beside_of b)
+      ∙ sym (ap (no_step (beside_of b)) (l ∙ ap (λ (x : Option Task). live_of x (actives after)) some) ∙ over_same task (beside_of b) (actives after))
+  no_left running after task o end (suc n) b none some l over = absurd cc
 
   -- no frame has anything to do
-  pub nothing_left : (running rest : List Running) (o : Option (Running × Task)) (left : ℕ) (b : BesideInMemory) → o ≡ None → live code (actives running) ≡ live_of o rest
+  pub nothing_left : (running after : List Running) (o : Option Task) (left : ℕ) (b : BesideInMemory) → o ≡ None → live code (actives running) ≡ live_of o (actives after)
       → ends Done (beside_of b) left ≡ going code left (beside_of b) (actives running)
-  nothing_left running rest o zero b none l = sym (ap (no_step (beside_of b)) (l ∙ ap (λ (x : Option (Running × Task)). live_of x rest) none))
-  nothing_left running rest o (suc n) b none l = sym (ap (step_on code n (going code n) (beside_of b)) (l ∙ ap (λ (x : Option (Running × Task)). live_of x rest) none))
+  nothing_left running after o zero b none l = sym (ap (no_step (beside_of b)) (l ∙ ap (λ (x : Option Task). live_of x (actives after)) none))
+  nothing_left running after o (suc n) b none l = sym (ap (step_on code n (going code n) (beside_of b)) (l ∙ ap (λ (x : Option Task). live_of x (actives after)) none))
 
-  -- the innermost frame makes a step, after which these frames go on, or the thread stops
-  abbrev pub MakesStep : Running → Task → List Running → BesideInMemory → Option Stopped → List Running → BesideInMemory → Type 0
-  MakesStep top task rest b stopped new b' = (n : ℕ) → goes_or_stops stopped code n (beside_of b') (actives new) ≡ step_on code n (going code n) (beside_of b) (live_of (Some (top, task)) rest)
+  -- the innermost of the old frames makes a step, after which the new ones go on, or the thread stops
+  abbrev pub MakesStep : Task → List Running → BesideInMemory → Option Stopped → List Running → BesideInMemory → Type 0
+  MakesStep task old b stopped new b' = (n : ℕ) → goes_or_stops stopped code n (beside_of b') (actives new) ≡ step_on code n (going code n) (beside_of b) (live_of (Some task) (actives old))
 
   -- a step is left, and is made
-  pub step_made : (running rest new : List Running) (top : Running) (task : Task) (o : Option (Running × Task)) (s t : Option Stopped) (left : ℕ) (b b' : BesideInMemory) → left ≢ 0 → o ≡ Some (top, task) → live code (actives running) ≡ live_of o rest
-      → MakesStep top task rest b s new b' → s ≡ t → goes_or_stops t code (left - 1) (beside_of b') (actives new) ≡ going code left (beside_of b) (actives running)
-  step_made running rest new top task o s t zero b b' some is_some l makes e = absurd (some refl)
-  step_made running rest new top task o s t (suc n) b b' some is_some l makes e =
+  pub step_made : (running old new : List Running) (task : Task) (o : Option Task) (s t : Option Stopped) (left : ℕ) (b b' : BesideInMemory) → left ≢ 0 → o ≡ Some task → live code (actives running) ≡ live_of o (actives old)
+      → MakesStep task old b s new b' → s ≡ t → goes_or_stops t code (left - 1) (beside_of b') (actives new) ≡ going code left (beside_of b) (actives running)
+  step_made running old new task o s t zero b b' some is_some l makes e = absurd (some refl)
+  step_made running old new task o s t (suc n) b b' some is_some l makes e =
       let same : suc n - 1 ≡ n = omega arith in
       ap (λ (k : ℕ). goes_or_stops t code k (beside_of b') (actives new)) same
       ∙ (ap (λ (x : Option Stopped). goes_or_stops x code n (beside_of b') (actives new)) (sym e)
       ∙ (makes n
-      ∙ sym (ap (step_on code n (going code n) (beside_of b)) (l ∙ ap (λ (x : Option (Running × Task)). live_of x rest) is_some))))
+      ∙ sym (ap (step_on code n (going code n) (beside_of b)) (l ∙ ap (λ (x : Option Task). live_of x (actives old)) is_some))))
 
-  module _ (rest pushed : List Running) (top new : Running) (task : Task) (m : Move) (b b' : BesideInMemory)
-      (steps : Steps h (next_work (work_of_task task ∷ work_of top.work.items)) top b m new b') (is_pushed : pushed ≡ rest ++ new ∷ []) where
-    steps_as : (left : ℕ) (n : Move) → m ≡ n → step_on code left (going code left) (beside_of b) (live_of (Some (top, task)) rest) ≡ advance n code left (going code left) (active new) (actives rest) (beside_of b')
-    steps_as left n e =
-        steps bodies left (going code left) (work_of_task task ∷ work_of top.work.items) (actives rest)
-        ∙ ap (λ (v : Move). advance v code left (going code left) (active new) (actives rest) (beside_of b')) e
+  -- the last of the old frames becomes `new`
+  module _ (old : List Running) (n : ℕ) (counted : n ≡ length old) (some : 0 < n) (top new : Running) (is_top : top ≡ get_or old (n - 1) top) (task : Task) (m : Move) (b b' : BesideInMemory)
+      (steps : Steps h (next_work (work_of_task task ∷ work_of top.work.items)) top b m new b') where
+    abbrev rest : List Running
+    rest = take (n - 1) old
 
-    all_frames : active new ∷ actives rest ≡ actives pushed
-    all_frames = sym (ap actives is_pushed ∙ actives-push rest new)
+    abbrev changed : List Running
+    changed = set old (n - 1) new
 
-    how_many : length (active new ∷ actives rest) ≡ length pushed
-    how_many = ap length all_frames ∙ length_actives pushed
+    steps_as : (left : ℕ) (v : Move) → m ≡ v → step_on code left (going code left) (beside_of b) (live_of (Some task) (actives old)) ≡ advance v code left (going code left) (active new) (actives rest) (beside_of b')
+    steps_as left v e =
+        ap (λ (l : List (Active (List Work))). step_on code left (going code left) (beside_of b) (live_of (Some task) l)) (ap actives (last_is old n counted some top is_top) ∙ actives-push rest top)
+        ∙ (steps bodies left (going code left) (work_of_task task ∷ work_of top.work.items) (actives rest)
+        ∙ ap (λ (u : Move). advance u code left (going code left) (active new) (actives rest) (beside_of b')) e)
 
-    pub step_goes : m ≡ move.GoOn → MakesStep top task rest b None pushed b'
+    all_frames : active new ∷ actives rest ≡ actives changed
+    all_frames = sym (ap actives (last_set old n counted some new) ∙ actives-push rest new)
+
+    how_many : length (active new ∷ actives rest) ≡ n
+    how_many = ap length all_frames ∙ (length_actives changed ∙ (length-set old (n - 1) new ∙ sym counted))
+
+    pub step_goes : m ≡ move.GoOn → MakesStep task old b None changed b'
     step_goes e left = sym (steps_as left move.GoOn e ∙ ap (going code left (beside_of b')) all_frames)
 
-    pub step_enters : (called : ModuleId) (arguments : List Value) (r : Running) (entered : List Running) → m ≡ move.Enter called arguments → length pushed < MAX_FRAMES → active r ≡ begun_frame code called arguments (beside_of b') → entered ≡ pushed ++ r ∷ []
-        → MakesStep top task rest b None entered b'
+    pub step_enters : (called : ModuleId) (arguments : List Value) (r : Running) (entered : List Running) → m ≡ move.Enter called arguments → n < MAX_FRAMES → active r ≡ begun_frame code called arguments (beside_of b') → entered ≡ changed ++ r ∷ []
+        → MakesStep task old b None entered b'
     step_enters called arguments r entered e few begins is_entered left =
         sym (steps_as left (move.Enter called arguments) e
-        ∙ (run_enters code left (going code left) arguments called (active new) (actives rest) (beside_of b') (ap (λ (n : ℕ). nat_lt n MAX_FRAMES) how_many ∙ lt-ltb _ _ few)
+        ∙ (run_enters code left (going code left) arguments called (active new) (actives rest) (beside_of b') (ap (λ (k : ℕ). nat_lt k MAX_FRAMES) how_many ∙ lt-ltb _ _ few)
         ∙ (ap (λ (l : List (Active (List Work))). going code left (beside_of b') (begun_frame code called arguments (beside_of b') ∷ l)) all_frames
-        ∙ (ap (λ (a : Active (List Work)). going code left (beside_of b') (a ∷ actives pushed)) (sym begins)
-        ∙ ap (going code left (beside_of b')) (sym (ap actives is_entered ∙ actives-push pushed r))))))
+        ∙ (ap (λ (a : Active (List Work)). going code left (beside_of b') (a ∷ actives changed)) (sym begins)
+        ∙ ap (going code left (beside_of b')) (sym (ap actives is_entered ∙ actives-push changed r))))))
 
-    pub step_too_deep : (called : ModuleId) (arguments : List Value) → m ≡ move.Enter called arguments → MAX_FRAMES ≤ length pushed → MakesStep top task rest b (Some (stopped.Ends (Deep new.scope.at))) pushed b'
-    step_too_deep called arguments e many left =
-        sym (steps_as left (move.Enter called arguments) e
-        ∙ run_deep code left (going code left) arguments called (active new) (actives rest) (beside_of b') (ap (λ (n : ℕ). nat_lt n MAX_FRAMES) how_many ∙ le-ltb _ _ many))
-
-    pub step_holds : (wait : Wait) → m ≡ move.Hold wait → MakesStep top task rest b (Some (stopped.Waits wait)) pushed b'
+    pub step_holds : (wait : Wait) → m ≡ move.Hold wait → MakesStep task old b (Some (stopped.Waits wait)) changed b'
     step_holds wait e left = sym (steps_as left (move.Hold wait) e ∙ ap (λ (l : List (Active (List Work))). Held (thread_of code wait l (beside_of b')) (around_of b'.around) left) all_frames)
 
-    pub step_leaves : (to : To) → m ≡ move.Leave to → MakesStep top task rest b (Some (stopped.Leaves to)) pushed b'
+    pub step_leaves : (to : To) → m ≡ move.Leave to → MakesStep task old b (Some (stopped.Leaves to)) changed b'
     step_leaves to e left = sym (steps_as left (move.Leave to) e ∙ ap (λ (l : List (Active (List Work))). Left (thread_of code New l (beside_of b')) to (around_of b'.around) left) all_frames)
-
-    pub step_ends : (end : End) → m ≡ move.End end → MakesStep top task rest b (Some (stopped.Ends end)) pushed b'
-    step_ends end e left = sym (steps_as left (move.End end) e)
 
 -- the values of the innermost frame are answered
 pub answers : (h : Heads) (wait : Wait) (target : Option TargetInMemory) (old rest new : List Running) (top : Running) (scope : Scope) (b b' : BesideInMemory)

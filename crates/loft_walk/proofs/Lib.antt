@@ -1,3 +1,4 @@
+pub mod Lasts
 pub mod Onto
 pub mod Find
 pub mod Bodies

@@ -8,7 +8,7 @@ use Rattle.loft_walk.specs.declared.work.Piece.{Piece}
 use Rattle.loft_walk.specs.declared.work.Task.{Task}
 use Rattle.loft_walk.specs.declared.work.Task.TheVariants as task
 use Rattle.loft_walk.specs.Pieces.{body_from, step_from, work_of, work_of_task, IsTaken}
-use Rattle.loft_walk.specs.Frames.{active, actives, active_with}
+use Rattle.loft_walk.specs.Frames.{active, actives, with_task, live_of}
 use Rattle.loft_walk.proofs.Frames.{actives-push}
 
 -- no module ends at a task
@@ -43,10 +43,12 @@ module _ (p : Resolved) (rs rest : List Running) (top : Running) (is_last : rs �
   top_drops (Some x) new e t = absurd cc
 
   -- it has something to do
-  pub top_stays : (o : Option Task) (x : Task) (new : Vec Piece Global) → o ≡ Some x → IsTaken o top.work.items new.items → live (tree p) (actives rs) ≡ active_with (record top { work = new }) x ∷ actives rest
-  top_stays None x new e t = absurd cc
-  top_stays (Some y) x new e t =
+  pub top_stays : (o : Option Task) (x : Task) (new : Vec Piece Global) (after : List Running) → o ≡ Some x → IsTaken o top.work.items new.items → after ≡ rest ++ record top { work = new } ∷ []
+      → live (tree p) (actives rs) ≡ live_of (Some x) (actives after)
+  top_stays None x new after e t is_after = absurd cc
+  top_stays (Some y) x new after e t is_after =
       let same : y ≡ x = cc in
       live_with (work_of_task y ∷ work_of new.items) t
-      ∙ (stays (work_of new.items) (live (tree p) (actives rest)) (active_with (record top { work = new }) y ∷ actives rest) y
-      ∙ ap (λ (z : Task). active_with (record top { work = new }) z ∷ actives rest) same)
+      ∙ (stays (work_of new.items) (live (tree p) (actives rest)) (with_task y (active (record top { work = new })) ∷ actives rest) y
+      ∙ (ap (λ (z : Task). live_of (Some z) (active (record top { work = new }) ∷ actives rest)) same
+      ∙ ap (live_of (Some x)) (sym (ap actives is_after ∙ actives-push rest (record top { work = new })))))

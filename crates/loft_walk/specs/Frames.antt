@@ -35,13 +35,14 @@ top_target p [] = None
 top_target p (r ∷ rs) = target_of (pause_at p r.module r.stop)
 
 -- with a piece of work that was taken from its list
-abbrev pub active_with : Running → Task → Active (List Work)
-active_with r t = record (active r) { at = work_of_task t ∷ work_of r.work.items }
+abbrev pub with_task : Task → Active (List Work) → Active (List Work)
+with_task t r = record r { at = work_of_task t ∷ r.at }
 
 -- the frames that go on, where this piece of work was taken from the innermost of them
-abbrev pub live_of : Option (Running × Task) → List Running → List (Active (List Work))
+abbrev pub live_of : Option Task → List (Active (List Work)) → List (Active (List Work))
 live_of None rs = []
-live_of (Some rt) rs = active_with rt.0 rt.1 ∷ actives rs
+live_of (Some t) [] = []
+live_of (Some t) (r ∷ rs) = with_task t r ∷ rs
 
 -- what a step makes of the thread whose innermost frame it leaves as r, over the frames rs
 abbrev pub advance : Move → Control (List Work) → ℕ → (Beside → List (Active (List Work)) → Outcome) → Active (List Work) → List (Active (List Work)) → Beside → Outcome

@@ -1,6 +1,6 @@
 //! A thread walks its statements (docs/SEMANTICS.md, "Run").
 
-ghost use Rattle.std.specs.Prelude.{◌≡◌, ◌≤◌, ◌<◌, ◌-◌, ℕ, true, Some, None, IfOk, OnOk, map, reverse};
+ghost use Rattle.std.specs.Prelude.{◌≡◌, ◌≤◌, ◌<◌, ◌-◌, ℕ, true, Some, None, IfOk, OnOk, OnSome, map, reverse, vec_len};
 ghost use Rattle.std.specs.Option.{option_map};
 ghost use Rattle.loft_tree.specs.ProgramView.{program_of};
 ghost use Rattle.loft_tree.specs.Resolved.{Resolved, resolved_of, target_of as variable_of};
@@ -55,19 +55,19 @@ fn wake_all<'a>(
     Ok(Woken { running, target })
 }
 
-/// The innermost frame that has something to do, with its next task; those whose module has ended are dropped.
-fn next_task<'a>(
-    running: &mut Vec<Running<'a>>,
-) -> Result<Option<(Running<'a>, Task<'a>)>, NoMemory>
-    ensures { IfOk result (λ task. (p : Resolved)
-        → live (tree p) (actives running.old.items) ≡ live_of task running.new.items) }
+/// The next task of the innermost frame that has something to do; those whose module has ended are dropped.
+fn next_task<'a>(running: &mut Vec<Running<'a>>) -> Option<Task<'a>>
+    ensures live { (p : Resolved)
+        → live (tree p) (actives running.old.items) ≡ live_of result (actives running.new.items) }
+    ensures some { OnSome result (0 < vec_len running.new) }
 {
-    'seeking: while let Some(mut top) = running.pop() {
-        if let Some(task) = take(&mut top.work)? {
-            return Ok(Some((top, task)));
+    'seeking: while let Some(top) = running.last_mut() {
+        if let Some(task) = take(&mut top.work) {
+            return Some(task);
         }
+        running.pop();
     }
-    Ok(None)
+    None
 }
 
 /// The end of a thread that may make no step.
@@ -80,23 +80,24 @@ fn over(running: &[Running<'_>]) -> End
     }
 }
 
-/// The innermost frame makes a step, over the others, outermost first; how the thread stops, if it does.
+/// The innermost frame makes a step; how the thread stops, if it does.
 fn make_step<'a>(
     alloc: Global,
     program: &'a NamedProgram,
     running: &mut Vec<Running<'a>>,
     beside: &mut Beside,
-    mut top: Running<'a>,
     task: Task<'a>,
 ) -> Result<Option<Stopped>, NoMemory>
+    requires { 0 < vec_len running.old }
     ensures steps { IfOk result (λ stopped. let code = tree (resolved_of (program_of program.now)) in
         (left : ℕ) → goes_or_stops stopped code left (beside_of beside.new) (actives running.new.items)
-        ≡ step_on code left (going code left) (beside_of beside.old) (live_of (Some (top.entry, task.entry)) running.old.items)) }
+        ≡ step_on code left (going code left) (beside_of beside.old) (live_of (Some task.entry) (actives running.old.items))) }
     ensures bound { IfOk result (λ stopped. beside.new.around.bound ≡ beside.old.around.bound) }
 {
+    let innermost = running.len() - 1;
+    let top = &mut running[innermost];
     let step = top.step(alloc, &program.heads, beside, task)?;
     let at = top.scope.at;
-    running.push(top)?;
     match step {
         Move::GoOn => Ok(None),
         Move::Enter(module, arguments) => {
@@ -131,12 +132,12 @@ fn make_steps<'a>(
     ensures left { IfOk result (λ stopped. left.new ≤ left.old) }
     ensures bound { IfOk result (λ stopped. beside.new.around.bound ≡ beside.old.around.bound) }
 {
-    'going: while let Some((top, task)) = next_task(running)? {
+    'going: while let Some(task) = next_task(running) {
         if *left == 0 {
-            return Ok(Some(Stopped::Ends(End::Over(top.scope.at))));
+            return Ok(Some(Stopped::Ends(over(running.as_slice()))));
         }
         *left -= 1;
-        if let Some(stopped) = make_step(alloc, program, running, beside, top, task)? {
+        if let Some(stopped) = make_step(alloc, program, running, beside, task)? {
             return Ok(Some(stopped));
         }
         if pauses && !beside.around.acts.is_empty() {

@@ -1,9 +1,7 @@
 //! The work that is left in a module (docs/SEMANTICS.md, "Tree").
 
-ghost use Rattle.std.specs.Prelude.{IfOk};
 ghost use Rattle.loft_walk.specs.Pieces.{IsTaken};
 
-use loft_base::NoMemory;
 use loft_tree::{NamedExpr, NamedStmt};
 
 /// A piece of the work that is left.
@@ -28,22 +26,30 @@ pub enum Task<'a> {
     Turns(i64, &'a [NamedStmt]),
 }
 
-/// Takes the next task.
+/// Takes the next task: the last piece is made shorter where it stands, or dropped.
 #[tactic(auto, using(crate::proofs::Onto::onto))]
-pub fn take<'a>(work: &mut Vec<Piece<'a>>) -> Result<Option<Task<'a>>, NoMemory>
-    ensures { IfOk result (λ task. IsTaken task work.old.items work.new.items) }
+pub fn take<'a>(work: &mut Vec<Piece<'a>>) -> Option<Task<'a>>
+    ensures { IsTaken result work.old.items work.new.items }
 {
-    'taking: while let Some(piece) = work.pop() {
-        match piece {
+    'taking: while !work.is_empty() {
+        let innermost = work.len() - 1;
+        match work[innermost] {
             Piece::Rest(body) => {
                 if let Some((statement, rest)) = body.split_first() {
-                    work.push(Piece::Rest(rest))?;
-                    return Ok(Some(Task::Begin(statement)));
+                    work[innermost] = Piece::Rest(rest);
+                    return Some(Task::Begin(statement));
                 }
+                work.pop();
             }
-            Piece::Again(test, body) => return Ok(Some(Task::Again(test, body))),
-            Piece::Turns(count, body) => return Ok(Some(Task::Turns(count, body))),
+            Piece::Again(test, body) => {
+                work.pop();
+                return Some(Task::Again(test, body));
+            }
+            Piece::Turns(count, body) => {
+                work.pop();
+                return Some(Task::Turns(count, body));
+            }
         }
     }
-    Ok(None)
+    None
 }

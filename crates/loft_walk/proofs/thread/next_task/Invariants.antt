@@ -1,4 +1,4 @@
-use Rattle.std.proofs.Common.{◌≡◌}
+use Rattle.std.proofs.Common.{◌≡◌, vec_len}
 use Rattle.loft_tree.specs.Resolved.{Resolved}
 use Rattle.loft_sense.specs.Tree.{tree}
 use Rattle.loft_sense.specs.Run.{live}
@@ -10,4 +10,4 @@ abbrev pub invariant-seeking : goal.invariant-seeking
 invariant-seeking l = (p : Resolved) → live (tree p) (actives l.running.items) ≡ live (tree p) (actives l.initial.running.items)
 
 abbrev pub decreases-seeking : goal.decreases-seeking
-decreases-seeking l = goal.left-seeking l
+decreases-seeking l = vec_len l.running
