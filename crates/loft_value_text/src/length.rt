@@ -31,7 +31,7 @@ impl TextLength {
 }
 
 /// How many digits a number has.
-#[tactic(auto, using(crate::proofs::DigitLemmas::one_digit, crate::proofs::DigitLemmas::two_digits, crate::proofs::DigitLemmas::more_digits))]
+#[tactic(auto, using(crate::proofs::DigitLemmas::one_digit, crate::proofs::DigitLemmas::two_digits, crate::proofs::DigitLemmas::three_digits, crate::proofs::DigitLemmas::four_digits, crate::proofs::DigitLemmas::more_digits))]
 fn digits(number: u64) -> u64
     ensures count { result ≡ length (decimal number) }
     ensures few { result ≤ number + 1 }
@@ -40,8 +40,12 @@ fn digits(number: u64) -> u64
         1
     } else if number < 100 {
         2
+    } else if number < 1_000 {
+        3
+    } else if number < 10_000 {
+        4
     } else {
-        digits(number / 100) + 2
+        digits(number / 10_000) + 4
     }
 }
 

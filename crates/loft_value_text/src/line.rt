@@ -1,6 +1,6 @@
 //! A line in the making.
 
-ghost use Rattle.std.specs.Prelude.{◌≡◌, ◌<◌, ◌+◌, ◌/◌, ◌%◌, [], ◌∷◌, true, IfOk};
+ghost use Rattle.std.specs.Prelude.{◌≡◌, ◌<◌, ◌≤◌, ◌+◌, ◌/◌, ◌%◌, [], ◌∷◌, ◌++◌, length, vec_len, vec_capacity, true, IfOk};
 ghost use Rattle.std.specs.Fmt.{decimal, signed_decimal};
 ghost use Rattle.loft_value_text.specs.Buffer.{Adds};
 
@@ -9,8 +9,8 @@ use loft_base::NoMemory;
 use loft_orders::Line;
 use std::alloc::Global;
 
-/// Up to so many bytes are appended one by one.
-const FEW: usize = 8;
+/// How many digits the largest number has.
+const MOST_DIGITS: usize = 20;
 
 /// A line in the making, and whether memory was enough for it so far. Who makes a line asks once,
 /// when all of it was appended (`whole`, `into_line`). One buffer serves for many lines: a cleared
@@ -80,19 +80,9 @@ impl LineBuffer {
     pub fn bytes(&mut self, bytes: &[u8])
         ensures { Adds self.old self.new bytes.now }
     {
-        if bytes.len() <= FEW {
-            self.few_bytes(bytes);
-        } else {
-            self.many_bytes(bytes);
-        }
-    }
-
-    /// Appends bytes one by one: a few are there sooner so.
-    fn few_bytes(&mut self, bytes: &[u8])
-        ensures { Adds self.old self.new bytes.now }
-    {
-        for byte in bytes {
-            self.byte(*byte);
+        match bytes {
+            [byte] => self.byte(*byte),
+            _ => self.many_bytes(bytes),
         }
     }
 
@@ -134,26 +124,25 @@ impl LineBuffer {
         self.bytes(text.as_bytes());
     }
 
-    /// Appends two digits, of which the first may be 0.
-    fn two_digits(&mut self, number: u64)
-        requires { number < 100 }
-        ensures { Adds self.old self.new ((48 + number / 10) ∷ (48 + number % 10) ∷ []) }
-    {
-        self.byte(b'0' + (number / 10) as u8);
-        self.byte(b'0' + (number % 10) as u8);
-    }
-
     /// Appends the digits of a number.
     pub fn number(&mut self, number: u64)
         ensures { Adds self.old self.new (decimal number) }
     {
         if number < 10 {
-            self.byte(b'0' + number as u8);
-        } else if number < 100 {
-            self.two_digits(number);
+            self.byte(digit(number));
         } else {
-            self.number(number / 100);
-            self.two_digits(number % 100);
+            self.long_number(number);
+        }
+    }
+
+    /// Appends the digits of a number; room for them is asked for once.
+    #[tactic(auto, using(crate::proofs::DigitLemmas::most_digits))]
+    fn long_number(&mut self, number: u64)
+        ensures { Adds self.old self.new (decimal number) }
+    {
+        match self.text.reserve(MOST_DIGITS) {
+            Ok(()) => push_digits(&mut self.text, number),
+            Err(_) => self.is_whole = false,
         }
     }
 
@@ -165,6 +154,44 @@ impl LineBuffer {
             self.byte(b'-');
         }
         self.number(number.unsigned_abs());
+    }
+}
+
+/// The digit of a number below 10.
+fn digit(number: u64) -> u8
+    requires { number < 10 }
+    ensures { result ≡ 48 + number }
+{
+    b'0' + number as u8
+}
+
+/// Appends two digits, of which the first may be 0, where there is room for them.
+fn push_two_digits(text: &mut Vec<u8>, number: u64)
+    requires number { number < 100 }
+    requires room { vec_len text.old + 2 ≤ vec_capacity text.old }
+    ensures items { text.new.items ≡ text.old.items ++ (48 + number / 10) ∷ (48 + number % 10) ∷ [] }
+    ensures len { vec_len text.new ≡ vec_len text.old + 2 }
+    ensures capacity { vec_capacity text.new ≡ vec_capacity text.old }
+{
+    text.push_reserved(digit(number / 10));
+    text.push_reserved(digit(number % 10));
+}
+
+/// Appends the digits of a number, where there is room for them.
+#[tactic(auto, using(crate::proofs::DigitLemmas::one_digit, crate::proofs::DigitLemmas::two_digits, crate::proofs::DigitLemmas::more_by_two))]
+fn push_digits(text: &mut Vec<u8>, number: u64)
+    requires room { vec_len text.old + length (decimal number) ≤ vec_capacity text.old }
+    ensures items { text.new.items ≡ text.old.items ++ decimal number }
+    ensures len { vec_len text.new ≡ vec_len text.old + length (decimal number) }
+    ensures capacity { vec_capacity text.new ≡ vec_capacity text.old }
+{
+    if number < 10 {
+        text.push_reserved(digit(number));
+    } else if number < 100 {
+        push_two_digits(text, number);
+    } else {
+        push_digits(text, number / 100);
+        push_two_digits(text, number % 100);
     }
 }
 
