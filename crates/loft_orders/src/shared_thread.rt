@@ -40,29 +40,35 @@ impl ThreadGroup {
         ensures { IfOk result (λ shared. shared ≡ member self.now index) }
     {
         let group = self.threads.clone()?;
-        Ok(SharedThread { group, index })
+        Ok(SharedThread {
+            memory: Memory::OfGroup(group, index),
+        })
     }
 }
 
-/// A thread on its way from one place to another, one of a group. The entries that tell of it and the
-/// orders that wait share it. Contracts see the thread.
+/// The memory in which a shared thread is: its own, or that of a group in which it has this index.
+#[derive(Drop)]
+enum Memory {
+    Own(Arc<Thread>),
+    OfGroup(Arc<Vec<Thread>>, usize),
+}
+
+/// A thread on its way from one place to another. The entries that tell of it and the orders that
+/// wait share it. Contracts see the thread.
 #[derive(Drop)]
 pub struct SharedThread {
-    group: Arc<Vec<Thread>>,
-    index: usize,
+    memory: Memory,
 }
 
 impl Model for SharedThread {
-    ghost use Rattle.std.specs.Prelude.{◌<◌, length};
-    ghost use Rattle.std.specs.Arc.{arc_value};
     ghost use Rattle.loft_orders.specs.declared.thread.Thread.{Thread};
-    ghost use Rattle.loft_orders.specs.Group.{member};
+    ghost use Rattle.loft_orders.specs.Group.{thread_in, IsThere};
 
     ghost Value = { Thread };
 
-    ghost view = { λ shared. member (arc_value shared.group).items shared.index };
+    ghost view = { λ shared. thread_in shared.memory };
 
-    ghost invariant = { λ shared. shared.index < length (arc_value shared.group).items };
+    ghost invariant = { λ shared. IsThere shared.memory };
 }
 
 impl SharedThread {
@@ -70,26 +76,30 @@ impl SharedThread {
     pub fn new(alloc: Global, thread: Thread) -> Result<SharedThread, NoMemory>
         ensures { IfOk result (λ shared. shared ≡ thread) }
     {
-        let mut threads = Vec::with_capacity(alloc, 1)?;
-        threads.push(thread)?;
-        ThreadGroup::new(alloc, threads)?.share(0)
+        let thread = Arc::new(alloc, thread)?;
+        Ok(SharedThread {
+            memory: Memory::Own(thread),
+        })
     }
 
-    /// The same thread, shared. `NoMemory` comes where too many share its group.
+    /// The same thread, shared. `NoMemory` comes where too many share it or its group.
     pub fn share(&self) -> Result<SharedThread, NoMemory>
         ensures { IfOk result (λ shared. shared ≡ self.now) }
     {
-        let group = self.group.clone()?;
-        Ok(SharedThread {
-            group,
-            index: self.index,
-        })
+        let memory = match &self.memory {
+            Memory::Own(thread) => Memory::Own(thread.clone()?),
+            Memory::OfGroup(group, index) => Memory::OfGroup(group.clone()?, *index),
+        };
+        Ok(SharedThread { memory })
     }
 
     /// The thread.
     pub fn as_thread(&self) -> &Thread
         ensures { result.now ≡ self.now }
     {
-        &self.group[self.index]
+        match &self.memory {
+            Memory::Own(thread) => thread,
+            Memory::OfGroup(group, index) => &group[*index],
+        }
     }
 }
