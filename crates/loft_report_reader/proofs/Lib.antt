@@ -10,3 +10,6 @@ pub mod Saying
 pub mod DigitsThere
 pub mod AheadLemmas
 pub mod ValuesThere
+pub mod WordsThere
+pub mod FewDigits
+pub mod TextThere

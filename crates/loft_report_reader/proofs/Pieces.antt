@@ -1,9 +1,9 @@
 -- What is read in pieces.
-use Rattle.std.proofs.Common.{Option, ◌≡◌, ℕ, suc, ◌+◌, ◌<◌, ◌≤◌, Bool, true, false, ◌==◌, List, [], ◌∷◌, ◌++◌, length, length-append, length-take, get_or, take, OnOk, Some, None, Result, Ok, Err, ◌⊎◌, inl, inr, refl, sym, ap, subst, ◌∙◌, arith, if◌then◌else◌}
+use Rattle.std.proofs.Common.{Option, ◌≡◌, ℕ, suc, ◌+◌, ◌<◌, ◌≤◌, Bool, true, false, ◌==◌, List, [], ◌∷◌, ◌++◌, length, length-append, take, OnOk, Some, None, Result, Ok, Err, ◌⊎◌, inl, inr, refl, sym, ap, subst, ◌∙◌, arith, if◌then◌else◌}
 use Rattle.std.proofs.lemmas.List.{take-append-le}
-use Rattle.std.proofs.Math.Seq.{take-append-add, take-suc}
+use Rattle.std.proofs.Math.Seq.{take-append-add}
 use Rattle.std.proofs.Math.Dec.{leb}
-use Rattle.std.proofs.lemmas.Bool.Decides.{leb_tells, nat_tests}
+use Rattle.std.proofs.lemmas.Bool.Decides.{leb_tells}
 use Rattle.loft_spelling.specs.Reading.{State, opening, run}
 use Rattle.loft_spelling.specs.Parts.{script, takes}
 use Rattle.loft_spelling.proofs.Bytewise.{run_pieces, run_stopped, then_more}
@@ -37,18 +37,6 @@ cause_more TooLong text more h = omega (arith, h, length-append text more)
 cause_more NoMemory text more h = h
 
 -- ---- one piece more
-
-pub feeds_more : (text : List ℕ) (b : ℕ) → feeds (text ++ b ∷ []) ≡ (if b == 10 then feeds text + 1 else feeds text)
-unfolding feeds
-feeds_more [] b = refl
-feeds_more (c ∷ text) b = go (c == 10) (b == 10) (feeds_more text b)
-  where
-    go : (x y : Bool) → feeds (text ++ b ∷ []) ≡ (if y then feeds text + 1 else feeds text)
-        → (if x then feeds (text ++ b ∷ []) + 1 else feeds (text ++ b ∷ [])) ≡ (if y then (if x then feeds text + 1 else feeds text) + 1 else (if x then feeds text + 1 else feeds text))
-    go true true ih = omega (arith, ih)
-    go true false ih = omega (arith, ih)
-    go false true ih = ih
-    go false false ih = ih
 
 pub feeds_both : (text more : List ℕ) → feeds (text ++ more) ≡ feeds text + feeds more
 unfolding feeds
@@ -148,19 +136,6 @@ pub feed_goes_on : (r : LogReader) (text : List ℕ) → r.error ≡ None → Ha
 feed_goes_on r text none read =
     let h : Reading r.machine r.length r.feeds text = subst (λ o. ReadUpTo o r.machine r.length r.feeds text) none read in
     (h.within, never_stops text (machine_of r.machine) h.state)
-
--- one byte more is counted
-pub feeds_next : (bytes : List ℕ) (i : ℕ) → i < length bytes → feeds (take (i + 1) bytes) ≡ (if get_or bytes i 0 == 10 then feeds (take i bytes) + 1 else feeds (take i bytes))
-feeds_next bytes i h = let e : i + 1 ≡ suc i = omega arith in ap (λ k. feeds (take k bytes)) e ∙ ap feeds (take-suc bytes i 0 h) ∙ feeds_more (take i bytes) (get_or bytes i 0)
-
-pub feeds_few : (bytes : List ℕ) (i n : ℕ) → n ≡ feeds (take i bytes) → n ≤ i
-feeds_few bytes i n e = omega (arith, e, feeds_least (take i bytes), length-take i bytes)
-
-pub feed_counted : (bytes : List ℕ) (i n m : ℕ) → i < length bytes → n ≡ feeds (take i bytes) → get_or bytes i 0 ≡ 10 → m ≡ n + 1 → m ≡ feeds (take (i + 1) bytes)
-feed_counted bytes i n m h e is more = let t : (get_or bytes i 0 == 10) ≡ true = grind (arith, nat_tests, is) in more ∙ ap (λ k. k + 1) e ∙ sym (feeds_next bytes i h ∙ (rw t refl))
-
-pub other_counted : (bytes : List ℕ) (i n m : ℕ) → i < length bytes → n ≡ feeds (take i bytes) → (get_or bytes i 0 ≡ 10 → ⊥) → m ≡ n → m ≡ feeds (take (i + 1) bytes)
-other_counted bytes i n m h e other same = let t : (get_or bytes i 0 == 10) ≡ false = grind (arith, nat_tests, other) in same ∙ e ∙ sym (feeds_next bytes i h ∙ (rw t refl))
 
 -- what a reader answers to a piece
 pub fed_ok : (result : Result (Unit {0}) LogError) (old new : LogReader) (piece : List ℕ) → Keeps result new → ((text : List ℕ) → HasRead old text → HasRead new (text ++ piece))

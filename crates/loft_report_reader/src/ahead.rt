@@ -7,8 +7,9 @@ ghost use Rattle.loft_report_shape.specs.declared.part.Part.TheVariants as part;
 ghost use Rattle.loft_report_shape.specs.declared.part.NumberKind.TheVariants as number;
 ghost use Rattle.loft_report_reader.specs.Ahead.{Goes, IsKept, IsPlain};
 
-use crate::there::{sign_there, soon_there};
-use loft_report_sets::word_of;
+use crate::soon::soon_there;
+use crate::there::sign_there;
+use crate::word_there::word_soon;
 use loft_report_shape::{NameRole, NumberKind, Part, Stage, Word};
 
 /// A name in a line that is kept as it stands.
@@ -229,7 +230,7 @@ impl<'a> Ahead<'a> {
             → Goes (part.Wait ∷ ps) self.old.rest.now ps self.new.rest.now }
     {
         let word = self.part(Part::Wait);
-        match word_of(word) {
+        match word_soon(word) {
             Some(Word::New) => self.sign(b' '),
             Some(Word::Next) => self.sign(b' '),
             Some(Word::Halt) => self.sign(b' '),
@@ -286,7 +287,7 @@ impl<'a> Ahead<'a> {
             → Goes (part.Lines stage ∷ ps) self.old.rest.now (part.Lines result ∷ ps) self.new.rest.now }
     {
         let word = self.part(Part::Lines(stage));
-        match word_of(word) {
+        match word_soon(word) {
             Some(Word::At) => {
                 self.sign(b' ');
                 self.thread();

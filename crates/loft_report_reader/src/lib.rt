@@ -6,8 +6,11 @@ mod error;
 mod log;
 mod machine;
 mod raw;
+mod soon;
+mod text_there;
 mod there;
 mod whole;
+mod word_there;
 
 pub use error::LogError;
 pub use log::{LogReader, MAX_REPORT_LEN};

@@ -1,6 +1,6 @@
 //! Reading a report in pieces.
 
-ghost use Rattle.std.specs.Prelude.{◌≡◌, ℕ, List};
+ghost use Rattle.std.specs.Prelude.{◌≡◌, ◌+◌, ◌<◌, ℕ, List, drop, length};
 ghost use Rattle.loft_report_shape.specs.Report.{feeds};
 ghost use Rattle.loft_report_reader.specs.Log.{ReadUpTo};
 
@@ -8,20 +8,29 @@ use crate::error::LogError;
 use crate::machine::Machine;
 use crate::raw::RawReport;
 use loft_base::NoMemory;
+use memchr::memchr;
 use std::alloc::Global;
 
 /// The longest report, 1 GiB.
 pub const MAX_REPORT_LEN: u64 = 1073741824;
+
+/// What comes after this byte.
+fn past(bytes: &[u8], at: usize) -> &[u8]
+    requires { at < length bytes.now }
+    ensures { result.now ≡ drop (at + 1) bytes.now }
+{
+    &bytes[at + 1..]
+}
 
 /// How many line feeds there are.
 fn feeds(bytes: &[u8]) -> u64
     ensures { result ≡ feeds bytes.now }
 {
     let mut n = 0_u64;
-    for b in bytes {
-        if *b == b'\n' {
-            n += 1;
-        }
+    let mut rest = bytes;
+    while let Some(at) = memchr(b'\n', rest) {
+        n += 1;
+        rest = past(rest, at);
     }
     n
 }

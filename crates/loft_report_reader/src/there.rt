@@ -1,11 +1,12 @@
 //! Whole spellings with which a text goes on.
 
-ghost use Rattle.std.specs.Prelude.{◌≡◌, ◌<◌, ◌≤◌, get_or, length, true};
+ghost use Rattle.std.specs.Prelude.{◌≡◌, ◌<◌, ◌≤◌, get_or, length, true, IsTrue};
 ghost use Rattle.loft_spelling.specs.Sets.{is_digit};
+ghost use Rattle.std.specs.List.{list_all};
 ghost use Rattle.loft_report_shape.specs.Sets.{number_set, set_of, sign, signs};
 ghost use Rattle.loft_report_shape.specs.declared.part.Part.TheVariants.{FirstCount, FirstValue, Limit, Value};
 ghost use Rattle.loft_report_sets.specs.Taken.{Run};
-ghost use Rattle.loft_report_reader.specs.Ahead.{IsThere};
+ghost use Rattle.loft_report_reader.specs.Ahead.{few_digits, IsPlainNumber, IsThere};
 
 use loft_report_sets::{is_spelling, is_whole, taken};
 use loft_report_shape::{NumberKind, Part};
@@ -14,7 +15,7 @@ use loft_report_shape::{NumberKind, Part};
 const MAX_DIGITS: usize = 20;
 
 /// After how many bytes a whole spelling of a part ends with which a text goes on, if a further byte comes then; else 0.
-fn part_there(p: Part, bytes: &[u8]) -> usize
+pub fn part_there(p: Part, bytes: &[u8]) -> usize
     ensures there { IsThere (set_of p) bytes.now result }
     ensures within { result ≤ length bytes.now }
 {
@@ -55,6 +56,46 @@ fn digit_bytes(bytes: &[u8]) -> usize
     n
 }
 
+/// How many digits a number of the kind may have in each case.
+fn few_digits(kind: NumberKind) -> usize
+    ensures { result ≡ few_digits kind }
+{
+    match kind {
+        NumberKind::History
+        | NumberKind::States
+        | NumberKind::Left
+        | NumberKind::Count
+        | NumberKind::Any => 18,
+        NumberKind::Stop => 9,
+        NumberKind::Instants
+        | NumberKind::Budget
+        | NumberKind::Block
+        | NumberKind::Workers
+        | NumberKind::Pick
+        | NumberKind::Post => 0,
+    }
+}
+
+/// Whether there are digits, without leading zeros.
+fn is_plain(digits: &[u8]) -> bool
+    ensures { IsTrue result → IsPlainNumber digits.now }
+{
+    match digits {
+        [] => false,
+        [_] => true,
+        [b, ..] => *b != b'0',
+    }
+}
+
+/// Whether digits are a number of the kind, without leading zeros.
+fn are_number(kind: NumberKind, digits: &[u8]) -> bool
+    requires { list_all is_digit digits.now ≡ true }
+    ensures { IsTrue result → (number_set kind).whole digits.now ≡ true }
+{
+    is_plain(digits)
+        && (digits.len() <= few_digits(kind) || is_spelling(Part::Number(kind), digits))
+}
+
 /// The same of a number without a sign, of few digits.
 fn digits_there(kind: NumberKind, bytes: &[u8]) -> usize
     ensures there { IsThere (number_set kind) bytes.now result }
@@ -62,7 +103,7 @@ fn digits_there(kind: NumberKind, bytes: &[u8]) -> usize
     ensures within { result ≤ length bytes.now }
 {
     let n = digit_bytes(bytes);
-    if n < bytes.len() && n < MAX_DIGITS && is_spelling(Part::Number(kind), &bytes[..n]) {
+    if n < bytes.len() && n < MAX_DIGITS && are_number(kind, &bytes[..n]) {
         n
     } else {
         0
@@ -70,7 +111,7 @@ fn digits_there(kind: NumberKind, bytes: &[u8]) -> usize
 }
 
 /// The same of a number.
-fn number_there(kind: NumberKind, bytes: &[u8]) -> usize
+pub fn number_there(kind: NumberKind, bytes: &[u8]) -> usize
     ensures there { IsThere (number_set kind) bytes.now result }
     ensures within { result ≤ length bytes.now }
 {
@@ -83,7 +124,7 @@ fn number_there(kind: NumberKind, bytes: &[u8]) -> usize
 }
 
 /// The same of one of these two bytes.
-fn either_there(a: u8, b: u8, bytes: &[u8]) -> usize
+pub fn either_there(a: u8, b: u8, bytes: &[u8]) -> usize
     ensures there { IsThere (signs a b) bytes.now result }
     ensures within { result ≤ length bytes.now }
 {
@@ -102,7 +143,7 @@ fn either_there(a: u8, b: u8, bytes: &[u8]) -> usize
 }
 
 /// The same of a value.
-fn value_there(bytes: &[u8]) -> usize
+pub fn value_there(bytes: &[u8]) -> usize
     ensures there { IsThere (set_of Value) bytes.now result }
     ensures within { result ≤ length bytes.now }
 {
@@ -115,7 +156,7 @@ fn value_there(bytes: &[u8]) -> usize
 }
 
 /// The same of the first of several values, or the bracket in its place.
-fn first_value_there(bytes: &[u8]) -> usize
+pub fn first_value_there(bytes: &[u8]) -> usize
     ensures there { IsThere (set_of FirstValue) bytes.now result }
     ensures within { result ≤ length bytes.now }
 {
@@ -128,7 +169,7 @@ fn first_value_there(bytes: &[u8]) -> usize
 }
 
 /// The same of a limit.
-fn limit_there(bytes: &[u8]) -> usize
+pub fn limit_there(bytes: &[u8]) -> usize
     ensures there { IsThere (set_of Limit) bytes.now result }
     ensures within { result ≤ length bytes.now }
 {
@@ -141,7 +182,7 @@ fn limit_there(bytes: &[u8]) -> usize
 }
 
 /// The same of the first of several counts, or the bracket in its place.
-fn first_count_there(bytes: &[u8]) -> usize
+pub fn first_count_there(bytes: &[u8]) -> usize
     ensures there { IsThere (set_of FirstCount) bytes.now result }
     ensures within { result ≤ length bytes.now }
 {
@@ -149,23 +190,5 @@ fn first_count_there(bytes: &[u8]) -> usize
         1
     } else {
         part_there(Part::FirstCount, bytes)
-    }
-}
-
-/// The same of a part, sooner where it is one that lines of threads have.
-pub fn soon_there(p: Part, bytes: &[u8]) -> usize
-    ensures there { IsThere (set_of p) bytes.now result }
-    ensures within { result ≤ length bytes.now }
-{
-    match p {
-        Part::Number(kind) => number_there(kind, bytes),
-        Part::Value => value_there(bytes),
-        Part::FirstValue => first_value_there(bytes),
-        Part::MoreValues => either_there(b',', b')', bytes),
-        Part::FirstCount => first_count_there(bytes),
-        Part::MoreCounts => either_there(b',', b']', bytes),
-        Part::MoreFrames => either_there(b' ', b'\n', bytes),
-        Part::Limit => limit_there(bytes),
-        _ => part_there(p, bytes),
     }
 }

@@ -1,18 +1,18 @@
-use Rattle.std.proofs.Common.{arith, refl}
+use Rattle.std.proofs.Common.{ap, arith}
 use Rattle.loft_report_shape.specs.Report.{feeds}
-use Rattle.loft_report_reader.proofs.Pieces.{feeds_few, feed_counted, other_counted}
+use Rattle.loft_report_reader.proofs.Pieces.{feeds_least}
+use Rattle.loft_report_reader.proofs.TextThere.{first_feed, no_feeds}
 use Rattle.loft_report_reader.proofs.log.feeds.Goals as goal
-use Rattle.loft_report_reader.proofs.log.feeds.Goals.{then-b-eq10, else-b-eq10}
-
-pub loop-b-init : goal.loop-b-init
-unfolding feeds
-loop-b-init c = refl
 
 pub overflow_add-n : goal.overflow_add-n
-overflow_add-n c = omega (arith, feeds_few c.args.bytes.now c.loop-b.b-index c.loop-b.n c.loop-b.invariant, c.loop-b-test.true)
+overflow_add-n c =
+    let next = first_feed c.loop-at.rest.now c.in-Some.at c.in-Some.ensures.0.high (λ k h. c.in-Some.ensures.0.before k (omega arith) h) c.in-Some.ensures.1 in
+    omega (arith, c.loop-at.invariant, next, feeds_least c.args.bytes.now)
 
-pub loop-b-preserved : goal.loop-b-preserved
-loop-b-preserved c = elim c.if-b-eq10.branch [
-  | then-b-eq10 w ↦ feed_counted c.args.bytes.now c.loop-b.b-index c.loop-b.n c.if-b-eq10.n c.loop-b-test.true c.loop-b.invariant (omega (arith, w.if-b-eq10.true)) w.n-is
-  | else-b-eq10 w ↦ other_counted c.args.bytes.now c.loop-b.b-index c.loop-b.n c.if-b-eq10.n c.loop-b-test.true c.loop-b.invariant (λ e. omega (arith, w.if-b-eq10.false, e)) w.n-is
-]
+pub loop-at-preserved : goal.loop-at-preserved
+loop-at-preserved c =
+    let next = first_feed c.loop-at.rest.now c.in-Some.at c.in-Some.ensures.0.high (λ k h. c.in-Some.ensures.0.before k (omega arith) h) c.in-Some.ensures.1 in
+    omega (arith, c.loop-at.invariant, next, ap feeds c.past-rest.ensures)
+
+pub returns : goal.returns
+returns c = omega (arith, c.loop-at.invariant, no_feeds c.loop-at.rest.now (λ k h. c.in_default.ensures k (omega arith) h))

@@ -7,7 +7,7 @@ use Rattle.loft_report_reader.proofs.ahead.Ahead.line.Goals as goal
 pub returns-in-Some-At-clause-goes : goal.returns-in-Some-At-clause-goes
 returns-in-Some-At-clause-goes c = λ fits ps.
     let w = c.part-word.result.now in
-    let a = c.word_of.ensures in
+    let a = c.word_soon.ensures in
     let b = c.in-Some-At.is in
     let d = c.in-Some-At.field-0-is in
     let e : word_of c.part-word.result.now ≡ Some word.At = cc in
@@ -19,7 +19,7 @@ returns-in-Some-At-clause-goes c = λ fits ps.
 pub returns-in-Some-Print-clause-goes : goal.returns-in-Some-Print-clause-goes
 returns-in-Some-Print-clause-goes c = λ fits ps.
     let w = c.part-word.result.now in
-    let a = c.word_of.ensures in
+    let a = c.word_soon.ensures in
     let b = c.in-Some-Print.is in
     let d = c.in-Some-Print.field-0-is in
     let e : word_of c.part-word.result.now ≡ Some word.Print = cc in

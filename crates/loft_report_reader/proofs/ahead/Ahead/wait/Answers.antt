@@ -6,7 +6,7 @@ use Rattle.loft_report_reader.proofs.ahead.Ahead.wait.Goals as goal
 
 pub returns-in-Some-New-clause-goes : goal.returns-in-Some-New-clause-goes
 returns-in-Some-New-clause-goes c = λ fits ps.
-    let a = c.word_of.ensures in
+    let a = c.word_soon.ensures in
     let b = c.in-Some-New.is in
     let d = c.in-Some-New.field-0-is in
     let e : word_of c.part-word.result.now ≡ Some word.New = cc in
@@ -14,7 +14,7 @@ returns-in-Some-New-clause-goes c = λ fits ps.
 
 pub returns-in-Some-Next-clause-goes : goal.returns-in-Some-Next-clause-goes
 returns-in-Some-Next-clause-goes c = λ fits ps.
-    let a = c.word_of.ensures in
+    let a = c.word_soon.ensures in
     let b = c.in-Some-Next.is in
     let d = c.in-Some-Next.field-0-is in
     let e : word_of c.part-word.result.now ≡ Some word.Next = cc in
@@ -22,7 +22,7 @@ returns-in-Some-Next-clause-goes c = λ fits ps.
 
 pub returns-in-Some-Halt-clause-goes : goal.returns-in-Some-Halt-clause-goes
 returns-in-Some-Halt-clause-goes c = λ fits ps.
-    let a = c.word_of.ensures in
+    let a = c.word_soon.ensures in
     let b = c.in-Some-Halt.is in
     let d = c.in-Some-Halt.field-0-is in
     let e : word_of c.part-word.result.now ≡ Some word.Halt = cc in
@@ -30,7 +30,7 @@ returns-in-Some-Halt-clause-goes c = λ fits ps.
 
 pub returns-in-Some-Coop-clause-goes : goal.returns-in-Some-Coop-clause-goes
 returns-in-Some-Coop-clause-goes c = λ fits ps.
-    let a = c.word_of.ensures in
+    let a = c.word_soon.ensures in
     let b = c.in-Some-Coop.is in
     let d = c.in-Some-Coop.field-0-is in
     let e : word_of c.part-word.result.now ≡ Some word.Coop = cc in
@@ -44,7 +44,7 @@ returns-in-Some-Coop-clause-goes c = λ fits ps.
 
 pub returns-in-Some-Await-clause-goes : goal.returns-in-Some-Await-clause-goes
 returns-in-Some-Await-clause-goes c = λ fits ps.
-    let a = c.word_of.ensures in
+    let a = c.word_soon.ensures in
     let b = c.in-Some-Await.is in
     let d = c.in-Some-Await.field-0-is in
     let e : word_of c.part-word.result.now ≡ Some word.Await = cc in
