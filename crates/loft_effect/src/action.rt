@@ -93,6 +93,7 @@ impl Scope {
     }
 
     /// `x = E;`
+    #[inline(always)]
     fn assign(
         &mut self,
         heads: &Heads,
@@ -276,8 +277,9 @@ impl Scope {
         Ok(Effect::GoesOn)
     }
 
-    /// An action.
-    pub fn act(
+    /// An action of any form.
+    #[inline(never)]
+    fn act_further(
         &mut self,
         alloc: Global,
         heads: &Heads,
@@ -305,6 +307,24 @@ impl Scope {
             Action::Broadcast { event, value } => {
                 self.broadcast(alloc, heads, beside, event.event, value)
             }
+        }
+    }
+
+    /// An action. An assignment is made without a further call.
+    #[inline(always)]
+    pub fn act(
+        &mut self,
+        alloc: Global,
+        heads: &Heads,
+        beside: &mut Beside,
+        action: &Action,
+    ) -> Result<Effect, NoMemory>
+        ensures { IfOk result (λ effect. Does effect self.old beside.old self.new beside.new
+            (did heads.now (action_of action.now) self.old.at self.old.values (beside_of beside.old))) }
+    {
+        match action {
+            Action::Assign { target, value } => Ok(self.assign(heads, beside, *target, value)),
+            _ => self.act_further(alloc, heads, beside, action),
         }
     }
 }
