@@ -3,10 +3,9 @@
 ghost use Rattle.std.specs.Prelude.{◌≡◌, ◌++◌, ◌∷◌, [], length, OnOk, OnErr};
 ghost use Rattle.loft_sense.specs.CanGo.{is_known};
 
+use crate::keys::Keys;
 use loft_base::{NoMemory, ThreadId};
-use loft_finder::IdKey;
 use std::alloc::Global;
-use std::collections::BTreeSet;
 use std::marker::Model;
 
 /// The threads that are known as ended, in the order in which they were told, with a set beside
@@ -14,7 +13,7 @@ use std::marker::Model;
 #[derive(Drop)]
 pub struct Ended {
     threads: Vec<ThreadId>,
-    keys: BTreeSet<IdKey>,
+    keys: Keys,
 }
 
 impl Model for Ended {
@@ -36,7 +35,7 @@ impl Ended {
     {
         Ended {
             threads: Vec::new(alloc),
-            keys: BTreeSet::new(alloc),
+            keys: Keys::new(alloc),
         }
     }
 
@@ -46,7 +45,7 @@ impl Ended {
         ensures err { OnErr result (self.new ≡ self.old) }
     {
         self.threads.reserve(1)?;
-        self.keys.insert(IdKey::of(thread))?;
+        self.keys.insert(thread)?;
         self.threads.push_reserved(thread);
         Ok(())
     }
@@ -55,7 +54,7 @@ impl Ended {
     pub fn contains(&self, thread: ThreadId) -> bool
         ensures { result ≡ is_known thread self.now }
     {
-        self.keys.contains(&IdKey::of(thread))
+        self.keys.contains(thread)
     }
 
     /// How often a thread was told as ended.

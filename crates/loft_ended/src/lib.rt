@@ -2,5 +2,6 @@
 #![tactic(auto)]
 
 mod ended;
+mod keys;
 
 pub use ended::Ended;

@@ -11,4 +11,4 @@ invariant_of-self-2 c =
     let pushed : c.push_reserved.new.self.items ≡ s.threads.items ++ x ∷ [] =
     c.push_reserved.ensures.items ∙ ap (λ (l : List ThreadId). l ++ x ∷ []) c.reserve.ensures.items in
     subst (λ (l : List ThreadId). HasKeys c.insert.new.self l) (sym pushed)
-    (has_keys_more s.keys c.insert.new.self c.of.result s.threads.items x c.self.invariant c.of.ensures c.in_ok-insert.ensures.updates.0)
+    (has_keys_more s.keys c.insert.new.self s.threads.items x c.self.invariant c.in_ok-insert.ensures.ok)
