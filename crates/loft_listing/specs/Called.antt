@@ -24,7 +24,6 @@ use Rattle.loft_tree.specs.declared.heads.Signature.{Signature}
 use Rattle.loft_tree.specs.declared.heads.Start.{Start}
 use Rattle.loft_tree.specs.declared.heads.ClientOrder.{ClientOrder}
 use Rattle.loft_tree.specs.declared.heads.ClientOrder.TheVariants as order
-use Rattle.loft_tree.specs.declared.heads.Client.{Client}
 use Rattle.loft_tree.specs.declared.heads.Heads.{Heads}
 use Rattle.loft_code.specs.Places.{same_place}
 
@@ -163,6 +162,3 @@ module _ (h : Heads) where
   called_order (order.Create s m arguments) = src.CreateThere (called_scheduler h s) (called_module h m) (map called_argument arguments)
   called_order (order.Control control t s) = src.ControlThere control (called_thread h t) (called_scheduler h s)
   called_order (order.Broadcast event value) = src.BroadcastThere (called_event h event) value
-
-  abbrev pub client_declaration : Client → Declaration
-  client_declaration c = src.Outside (called c.name) (map called_order c.orders)

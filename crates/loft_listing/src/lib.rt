@@ -3,7 +3,6 @@
 
 mod declaration;
 mod expression;
-mod law;
 mod listing;
 mod name;
 mod operation;
@@ -11,5 +10,4 @@ mod outer;
 mod statement;
 mod text;
 
-pub use law::listings_are_lines;
 pub use listing::write;

@@ -119,7 +119,7 @@ pub fn start_name(room: &mut Room, name: &Option<Name>) -> Option<Ident>
 }
 
 /// An order of a client.
-fn order(room: &mut Room, heads: &Heads, order: &ClientOrder) -> OutsideOrder
+pub fn order(room: &mut Room, heads: &Heads, order: &ClientOrder) -> OutsideOrder
     ensures { Makes room.old room.new (order_of result ≡ called_order heads.now order.now) }
 {
     match order {
@@ -146,17 +146,4 @@ fn order(room: &mut Room, heads: &Heads, order: &ClientOrder) -> OutsideOrder
             value: *value,
         },
     }
-}
-
-/// Orders of a client.
-pub fn orders(room: &mut Room, heads: &Heads, orders: &[ClientOrder]) -> Vec<OutsideOrder>
-    ensures { Makes room.old room.new
-        (map order_of result.items ≡ map (called_order heads.now) orders.now) }
-{
-    let mut named = Vec::new(room.alloc);
-    for one in orders {
-        let next = order(room, heads, one);
-        room.push_to(&mut named, next);
-    }
-    named
 }

@@ -1,10 +1,12 @@
-//! A listing in the making, and bytes and numbers at its end.
+//! A listing in the making.
 
-ghost use Rattle.std.specs.Prelude.{◌≡◌, ◌++◌, [], IfOk};
-ghost use Rattle.std.specs.Fmt.{decimal};
+ghost use Rattle.std.specs.Prelude.{◌≡◌, ◌∷◌, [], IfOk};
+ghost use Rattle.loft_listing_line.specs.RowsFit.{IsOneLineRow};
+ghost use Rattle.loft_listing_line.specs.RowView.{row_of};
 ghost use Rattle.loft_listing.specs.Making.{Adds, IsWhole};
 
 use loft_base::{NoMemory, Out, Room};
+use loft_listing_line::{Row, write_row};
 use std::alloc::Global;
 
 /// A listing in the making: its text, and memory for the names and expressions in it. Who writes
@@ -29,24 +31,12 @@ impl Listing {
         }
     }
 
-    /// Appends bytes.
-    pub fn put(&mut self, bytes: &[u8])
-        ensures { Adds self.old self.new bytes.now }
+    /// Appends the line that says this.
+    pub fn put(&mut self, row: Row)
+        requires { IsOneLineRow (row_of row) }
+        ensures { Adds self.old self.new (row_of row ∷ []) }
     {
-        self.out.put(bytes);
-    }
-
-    /// Appends bytes and the digits of a number.
-    pub fn put_number(&mut self, before: &[u8], number: u64)
-        ensures { Adds self.old self.new (before.now ++ decimal number) }
-    {
-        match number.to_string(self.room.alloc) {
-            Ok(digits) => {
-                self.out.put(before);
-                self.out.put(digits.as_bytes());
-            }
-            Err(_) => self.room.is_whole = false,
-        }
+        write_row(&mut self.out, row);
     }
 
     /// The text, if memory was enough for it.

@@ -1,4 +1,5 @@
 pub mod Bare
+pub mod OneRow
 pub mod Cutting
 pub mod Without
 pub mod Finding

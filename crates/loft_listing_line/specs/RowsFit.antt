@@ -5,6 +5,7 @@ use Rattle.loft_tree.specs.Source.{Declaration, Scheduler, Event, Shared, Module
 use Rattle.loft_tree.specs.Fits.{NameFits, PlaceFits, ExpressionFits, OrderFits, DeclarationFits}
 use Rattle.loft_grammar.specs.Limits.{nesting}
 use Rattle.loft_grammar.specs.PartsFit.{NamedFits, HeadFits, LineFits}
+use Rattle.loft_show.specs.PartReads.{IsOneLine}
 use Rattle.loft_listing_line.specs.declared.sort.LineSort.{LineSort}
 use Rattle.loft_listing_line.specs.declared.sort.DeedSort.{DeedSort}
 use Rattle.loft_listing_line.specs.declared.sort.StatementSort.{StatementSort}
@@ -21,6 +22,18 @@ IsOneLineItem (Shared n scheduler value) = Unit {0}
 IsOneLineItem (Module head locals body) = ⊥
 IsOneLineItem (Start scheduler called arguments n) = Unit {0}
 IsOneLineItem (Outside n orders) = ⊥
+
+-- its statement has no bodies, if it has one
+abbrev pub IsOneLineInstruction : Instruction → Type 0
+IsOneLineInstruction (Do s) = IsOneLine s
+IsOneLineInstruction (Stop k s) = IsOneLine s
+IsOneLineInstruction i = Unit {0}
+
+-- what it says stands in one line
+abbrev pub IsOneLineRow : ListingLine → Type 0
+IsOneLineRow (Item d) = IsOneLineItem d
+IsOneLineRow (Operation number p depth i) = IsOneLineInstruction i
+IsOneLineRow l = Unit {0}
 
 -- it keeps the limits of a source
 abbrev pub ItemFits : Declaration → Type 0

@@ -7,7 +7,7 @@ ghost use Rattle.loft_show.specs.Canon.{space};
 ghost use Rattle.loft_show.specs.PartReads.{IsOneLine};
 ghost use Rattle.loft_listing_line.specs.Instructions.{feed, instruction_text, statement_text, value_text};
 ghost use Rattle.loft_listing_line.specs.Rows.{line_text};
-ghost use Rattle.loft_listing_line.specs.RowsFit.{InstructionFits, ListingLineFits};
+ghost use Rattle.loft_listing_line.specs.RowsFit.{IsOneLineInstruction, IsOneLineRow};
 ghost use Rattle.loft_listing_line.specs.RowView.{deed_of, operation_of, row_of};
 
 use crate::row::{Deed, OperationRow, Row};
@@ -67,7 +67,7 @@ fn put_stop(out: &mut Out, number: u64, statement: &Stmt)
 
 /// Appends what an operation does, up to the end of its line.
 fn put_deed(out: &mut Out, deed: &Deed)
-    requires { InstructionFits (deed_of deed.now) }
+    requires { IsOneLineInstruction (deed_of deed.now) }
     ensures before { out.new.is_whole ≡ true → out.old.is_whole ≡ true }
     ensures text { out.new.is_whole ≡ true → out.new.text.items ≡ out.old.text.items
         ++ instruction_text (deed_of deed.now) }
@@ -92,7 +92,7 @@ fn put_deed(out: &mut Out, deed: &Deed)
 
 /// Appends the line of an operation.
 fn put_operation(out: &mut Out, row: &OperationRow)
-    requires { ListingLineFits (operation_of row.now) }
+    requires { IsOneLineRow (operation_of row.now) }
     ensures before { out.new.is_whole ≡ true → out.old.is_whole ≡ true }
     ensures text { out.new.is_whole ≡ true → out.new.text.items ≡ out.old.text.items
         ++ line_text (operation_of row.now) }
@@ -105,8 +105,9 @@ fn put_operation(out: &mut Out, row: &OperationRow)
 }
 
 /// Appends the line that says this.
+#[tactic(auto, using(crate::proofs::OneRow::no_body))]
 pub fn put_row(out: &mut Out, row: &Row)
-    requires { ListingLineFits (row_of row.now) }
+    requires { IsOneLineRow (row_of row.now) }
     ensures before { out.new.is_whole ≡ true → out.old.is_whole ≡ true }
     ensures text { out.new.is_whole ≡ true → out.new.text.items ≡ out.old.text.items
         ++ line_text (row_of row.now) }
@@ -122,4 +123,15 @@ pub fn put_row(out: &mut Out, row: &Row)
         Row::Order(order) => put_order(out, order),
         Row::Close => put_brace_line(out),
     }
+}
+
+/// Appends the line that says this, and lets go what it says (docs/CODE.md, "Lines of a listing").
+pub fn write_row(out: &mut Out, row: Row)
+    requires { IsOneLineRow (row_of row) }
+    ensures before { out.new.is_whole ≡ true → out.old.is_whole ≡ true }
+    ensures text { out.new.is_whole ≡ true → out.new.text.items ≡ out.old.text.items
+        ++ line_text (row_of row) }
+{
+    put_row(out, &row);
+    drop(row);
 }

@@ -26,12 +26,10 @@ use Rattle.loft_listing_reader.specs.Numbered.{modules_from, numbered}
 use Rattle.loft_listing_reader.proofs.KeepsCode.{numbered_keeps}
 use Rattle.loft_listing.specs.Lines.{listing_lines}
 use Rattle.loft_listing.specs.Listing.{listing_text}
-use Rattle.loft_listing.proofs.Texts.{listing_is}
 use Rattle.loft_listing_roundtrip.specs.ThreadsNamed.{ArgumentNamed, ClientNamed, OrderNamed, StartNamed, ThreadsNamed}
 use Rattle.loft_listing_roundtrip.proofs.LinesSame.{texts_back}
 use Rattle.loft_listing_roundtrip.proofs.ListingBack.{lines_read}
 use Rattle.loft_listing_roundtrip.proofs.NamesBack.{start_named}
-use Rattle.loft_listing_roundtrip.proofs.Roundtrip.{same_flat}
 
 none_mapped : {A B : Type 0} (f : A → B) (xs : List A) → map f xs ≡ [] → xs ≡ []
 none_mapped f [] none = refl
@@ -63,14 +61,11 @@ lines_same d fits right =
       lines = follows_all (modules_from ds 0 d);
     }) uses.0 fits.source.each fits.lines.1 uses.1)
 
-same_texts : (d : Draft) → DraftFits d → wrong_lines d ≡ [] → map line_text (listing_lines (numbered d)) ≡ map line_text (draft_lines d)
-same_texts d fits right = ap (map line_text) (lines_same d fits right) ∙ texts_back (draft_lines d) fits.lines
+same_texts : (d : Draft) → DraftFits d → wrong_lines d ≡ [] → listing_text (numbered d) ≡ flat_map line_text (draft_lines d)
+same_texts d fits right = ap (flat_map line_text) (lines_same d fits right) ∙ texts_back (draft_lines d) fits.lines
 
 pub text_is_written : (text : List ℕ) (c : Automata) → Lists text c → text ≡ listing_text c
-text_is_written text c (d, lists) =
-    let same : flat_map line_text (draft_lines d) ≡ flat_map line_text (listing_lines (numbered d)) =
-    same_flat (draft_lines d) (listing_lines (numbered d)) (sym (same_texts d lists.said.fits lists.right)) in
-    lists.said.written ∙ same ∙ sym (listing_is (numbered d)) ∙ ap listing_text (sym lists.numbers)
+text_is_written text c (d, lists) = lists.said.written ∙ sym (same_texts d lists.said.fits lists.right) ∙ ap listing_text (sym lists.numbers)
 
 -- ---- what the code of a listing keeps
 

@@ -13,7 +13,7 @@ use Rattle.loft_tree.specs.NamedFits.{Tally, AreCounted, no_items, tally_of}
 use Rattle.loft_scopes.specs.declared.counts.DeclarationCounts.{DeclarationCounts}
 use Rattle.loft_code.specs.Fits.{RawFits}
 use Rattle.loft_code.specs.Operations.{Line, Automata}
-use Rattle.loft_listing.specs.Listing.{operations_of}
+use Rattle.loft_listing.specs.Lines.{operations_of}
 use Rattle.loft_listing_roundtrip.proofs.Parts.{Part, SchedulerPart, EventPart, SharedPart, ModulePart, StartPart, ClientPart, schedulers_in, events_in, shared_in, modules_in, lines_in, starts_in, clients_in, items_from, part_if, parts_at, parts_of, together}
 
 -- ---- lists

@@ -28,21 +28,20 @@ use Rattle.loft_listing_line.specs.RowsFit.{ListingLineFits}
 use Rattle.loft_listing_line.proofs.Bare.{same_line}
 use Rattle.loft_listing_draft.specs.Drafts as drafts
 use Rattle.loft_listing_draft.specs.Lined.{argument_at, lined_declaration, locals_from, name_at, order_at, orders_from, place_at, variable_at}
-use Rattle.loft_listing.specs.Called.{called, called_argument, called_made, called_module, called_order, called_scheduler, called_place, called_variable, client_declaration, event_declaration, scheduler_declaration, shared_declaration, start_declaration}
-use Rattle.loft_listing.specs.Listing.{operations_of}
-use Rattle.loft_listing.specs.Lines.{declaration_lines, item_lines, lines_if, module_lines, operation_lines}
+use Rattle.loft_listing.specs.Called.{called, called_argument, called_made, called_module, called_order, called_scheduler, called_place, called_variable, event_declaration, scheduler_declaration, shared_declaration, start_declaration}
+use Rattle.loft_listing.specs.Lines.{client_lines, item_lines, lines_if, module_lines, operation_lines, operations_of}
 use Rattle.loft_listing_roundtrip.proofs.Parts.{Part, SchedulerPart, EventPart, SharedPart, ModulePart, StartPart, ClientPart, part_at, part_if, parts_at}
 use Rattle.loft_listing_roundtrip.proofs.Saying.{called_line, next_line, part_item, said}
 use Rattle.loft_listing_roundtrip.proofs.OperationsBare.{instruction_bare, place_bare}
 
 -- the lines of a part in the listing
 abbrev pub part_lines : Heads → Part → List ListingLine
-part_lines h (SchedulerPart name) = declaration_lines (scheduler_declaration name)
-part_lines h (EventPart x) = declaration_lines (event_declaration h x)
-part_lines h (SharedPart x) = declaration_lines (shared_declaration h x)
+part_lines h (SchedulerPart name) = rows.Item (scheduler_declaration name) ∷ []
+part_lines h (EventPart x) = rows.Item (event_declaration h x) ∷ []
+part_lines h (SharedPart x) = rows.Item (shared_declaration h x) ∷ []
 part_lines h (ModulePart m lines) = module_lines h m lines
-part_lines h (StartPart t) = declaration_lines (start_declaration h t)
-part_lines h (ClientPart c) = declaration_lines (client_declaration h c)
+part_lines h (StartPart t) = rows.Item (start_declaration h t) ∷ []
+part_lines h (ClientPart c) = client_lines h c
 
 -- ---- the lines of code are those of its parts
 
@@ -138,11 +137,11 @@ module _ (h : Heads) where
 
 -- ---- texts
 
-pub texts_back : (ls : List ListingLine) → Each ListingLineFits ls → map line_text (map bare_line ls) ≡ map line_text ls
+pub texts_back : (ls : List ListingLine) → Each ListingLineFits ls → flat_map line_text (map bare_line ls) ≡ flat_map line_text ls
 texts_back [] fit = refl
-texts_back (l ∷ ls) fit = (λ i. same_line l fit.0 i ∷ texts_back ls fit.1 i)
+texts_back (l ∷ ls) fit = (λ i. same_line l fit.0 i ++ texts_back ls fit.1 i)
 
 -- the texts of the lines are the same
 pub same_texts : (h : Heads) (line : ℕ) (ps : List Part) → Each ListingLineFits (flat_map drafts.item_lines (said h line ps))
-    → map line_text (flat_map drafts.item_lines (said h line ps)) ≡ map line_text (flat_map (part_lines h) ps)
-same_texts h line ps fit = sym (texts_back (flat_map drafts.item_lines (said h line ps)) fit) ∙ ap (map line_text) (said_back h line ps)
+    → flat_map line_text (flat_map drafts.item_lines (said h line ps)) ≡ flat_map line_text (flat_map (part_lines h) ps)
+same_texts h line ps fit = sym (texts_back (flat_map drafts.item_lines (said h line ps)) fit) ∙ ap (flat_map line_text) (said_back h line ps)

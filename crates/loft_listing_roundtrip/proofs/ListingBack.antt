@@ -24,9 +24,8 @@ use Rattle.loft_listing_line.specs.Rows.{ListingLine, bare_line}
 use Rattle.loft_listing_draft.specs.Drafts as drafts
 use Rattle.loft_listing_draft.specs.Drafts.{Draft, DraftItem, DraftOperation, source_of}
 use Rattle.loft_listing_line.specs.RowsFit.{ListingLineFits}
-use Rattle.loft_listing.specs.Called.{called, called_variable, client_declaration, event_declaration, scheduler_declaration, shared_declaration, start_declaration}
-use Rattle.loft_listing.specs.Listing.{operations_of}
-use Rattle.loft_listing.specs.Lines.{declaration_lines, item_lines, lines_if, module_lines, operation_lines}
+use Rattle.loft_listing.specs.Called.{called, called_variable, event_declaration, scheduler_declaration, shared_declaration, start_declaration}
+use Rattle.loft_listing.specs.Lines.{client_lines, item_lines, lines_if, module_lines, operation_lines, operations_of}
 use Rattle.loft_listing_names.specs.Wrong.{first_operation, modules_wrong, operations_wrong}
 use Rattle.loft_listing_reader.specs.Numbered.{modules_from, numbered_line}
 use Rattle.loft_listing_roundtrip.proofs.NamesBack.{module_back, scheduler_back}
@@ -101,19 +100,19 @@ module _ (h : Heads) (modules : List (List Line)) (ds : List Declared) where
     item_read : (k : DeclarationCounts) (x : Declaration) (os : List DraftOperation) (is : Draft) → AreLeft h modules ds k (item x os ∷ is) → DeclarationAgrees ds k.modules x → DeclarationFits x
         → Each ListingLineFits (drafts.declaration_lines x os) → operations_wrong ds (Within k.modules) (first_operation x) os ≡ []
         → item_lines h modules (item_of k x) ≡ map bare_line (drafts.declaration_lines x os)
-    item_read k (Scheduler name) os is l agrees fits fit none = ap (lines_if (λ x. declaration_lines (scheduler_declaration x))) (follows_head _ _ _ _ l.schedulers)
+    item_read k (Scheduler name) os is l agrees fits fit none = ap (lines_if (λ x. rows.Item (scheduler_declaration x) ∷ [])) (follows_head _ _ _ _ l.schedulers)
     item_read k (Event name scheduler) os is l agrees fits fit none =
-        ap (lines_if (λ x. declaration_lines (event_declaration h x))) (follows_head _ _ _ _ l.events)
+        ap (lines_if (λ x. rows.Item (event_declaration h x) ∷ [])) (follows_head _ _ _ _ l.events)
         ∙ (λ i. rows.Item (Event (bare_name name) (scheduler_back ds h each Everywhere scheduler agrees i)) ∷ [])
     item_read k (Shared name scheduler value) os is l agrees fits fit none =
-        ap (lines_if (λ x. declaration_lines (shared_declaration h x))) (follows_head _ _ _ _ l.shared)
+        ap (lines_if (λ x. rows.Item (shared_declaration h x) ∷ [])) (follows_head _ _ _ _ l.shared)
         ∙ (λ i. rows.Item (Shared (bare_name name) (scheduler_back ds h each Everywhere scheduler agrees i) value) ∷ [])
     item_read k (Module head locals body) os is l agrees fits fit none = module_read k head locals body os is l agrees fits fit none
     item_read k (Start scheduler called arguments name) os is l agrees fits fit none =
-        ap (lines_if (λ x. declaration_lines (start_declaration h x))) (follows_head _ _ _ _ l.starts)
+        ap (lines_if (λ x. rows.Item (start_declaration h x) ∷ [])) (follows_head _ _ _ _ l.starts)
         ∙ (λ i. rows.Item (Start (scheduler_back ds h each Everywhere scheduler agrees.0 i) (module_back ds h each Everywhere agrees.1 called agrees.2 i) (arguments_back ds h each agrees.1 arguments agrees.3 i) (name_back name i)) ∷ [])
     item_read k (Outside name orders) os is l agrees fits fit none =
-        ap (lines_if (λ x. declaration_lines (client_declaration h x))) (follows_head _ _ _ _ l.clients)
+        ap (lines_if (client_lines h)) (follows_head _ _ _ _ l.clients)
         ∙ (λ i. rows.Client (bare_name name) ∷ (map rows.Order (orders_back ds h each orders agrees i) ++ rows.Close ∷ []))
         ∙ ap (λ ls. rows.Client (bare_name name) ∷ ls) (orders_lines orders)
 

@@ -12,7 +12,7 @@ use Rattle.loft_tree.specs.declared.heads.Heads.{Heads}
 use Rattle.loft_scopes.specs.declared.counts.DeclarationCounts.{DeclarationCounts}
 use Rattle.loft_scopes.specs.Scopes.{none_yet}
 use Rattle.loft_code.specs.Operations.{Line, Automata}
-use Rattle.loft_listing.specs.Listing.{operations_of}
+use Rattle.loft_listing.specs.Lines.{operations_of}
 
 pub data Part : Type 0 where
   SchedulerPart : (name : List ℕ) → Part

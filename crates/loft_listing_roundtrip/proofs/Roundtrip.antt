@@ -1,5 +1,5 @@
 -- What is written of code is a listing of the code.
-use Rattle.std.proofs.Common.{◌≡◌, List, [], ◌∷◌, ◌++◌, map, refl, sym, subst, ap, ◌∙◌}
+use Rattle.std.proofs.Common.{◌≡◌, List, ◌∷◌, ◌++◌, sym, subst, ap, ◌∙◌}
 use Rattle.std.specs.List.{flat_map}
 use Rattle.loft_tree.specs.declared.heads.Heads.{Heads}
 use Rattle.loft_tree.specs.Fits.{Each}
@@ -8,13 +8,12 @@ use Rattle.loft_names.proofs.HeadsLists.{follows_all}
 use Rattle.loft_code.specs.Fits.{RawFits}
 use Rattle.loft_code.specs.Operations.{Automata}
 use Rattle.loft_code.specs.Valid.{Valid}
-use Rattle.loft_listing_line.specs.Rows.{ListingLine, Title, line_text}
+use Rattle.loft_listing_line.specs.Rows.{Title, line_text}
 use Rattle.loft_listing_line.specs.RowsFit.{ListingLineFits}
 use Rattle.loft_listing_draft.specs.Drafts.{Draft, DraftFits, draft_lines, item_lines, source_of}
 use Rattle.loft_listing_reader.specs.Lists.{Lists}
 use Rattle.loft_listing.specs.Lines.{listing_lines}
 use Rattle.loft_listing.specs.Listing.{listing_text}
-use Rattle.loft_listing.proofs.Texts.{listing_is}
 use Rattle.loft_listing_roundtrip.specs.ThreadsNamed.{ThreadsNamed}
 use Rattle.loft_listing_roundtrip.proofs.Parts.{Part, heads_in, lines_in, parts_of, together}
 use Rattle.loft_listing_roundtrip.proofs.Collecting.{put_together}
@@ -27,18 +26,6 @@ use Rattle.loft_listing_roundtrip.proofs.LinesSame.{items_lines, part_lines, sam
 use Rattle.loft_listing_roundtrip.proofs.Lining.{lined_again}
 use Rattle.loft_listing_roundtrip.proofs.SourceSaid.{all_bare, items_hold, none_wrong, says, source_fits}
 
--- ---- texts of lines
-
--- lines are the texts of each, one after the other
-flat_of_texts : (ls : List ListingLine) → flat_map line_text ls ≡ flat_map (λ t. t) (map line_text ls)
-flat_of_texts [] = refl
-flat_of_texts (l ∷ ls) = ap (λ ts. line_text l ++ ts) (flat_of_texts ls)
-
-pub same_flat : (ls ks : List ListingLine) → map line_text ls ≡ map line_text ks → flat_map line_text ls ≡ flat_map line_text ks
-same_flat ls ks same = flat_of_texts ls ∙ ap (flat_map (λ t. t)) same ∙ sym (flat_of_texts ks)
-
--- ---- the law
-
 of_parts : (ps : List Part) → listing_lines (together ps) ≡ Title ∷ flat_map (part_lines (heads_in ps)) ps → RawFits (together ps) → Valid (together ps) → ThreadsNamed (heads_in ps)
     → Lists (listing_text (together ps)) (together ps)
 of_parts ps lines fits valid named =
@@ -49,8 +36,8 @@ of_parts ps lines fits valid named =
     let pass = modules_pass ps fits valid in
     let say = says 2 ps fits.heads in
     let lines_fit : Each ListingLineFits (flat_map item_lines d) = said_lines_fit h fits.heads 2 ps keep in
-    let texts : map line_text (draft_lines d) ≡ map line_text (listing_lines (together ps)) =
-    ap (λ ts. line_text Title ∷ ts) (same_texts h 2 ps lines_fit) ∙ ap (map line_text) (sym lines) in
+    let texts : flat_map line_text (draft_lines d) ≡ listing_text (together ps) =
+    ap (λ ts. line_text Title ++ ts) (same_texts h 2 ps lines_fit) ∙ ap (flat_map line_text) (sym lines) in
     let draft_fits : DraftFits d = record {
       source = source_fits 2 ps fits.heads keep;
       items = items_hold h 2 ps keep;
@@ -60,7 +47,7 @@ of_parts ps lines fits valid named =
     } in (
       d,
       record {
-        said = record { fits = draft_fits; written = listing_is (together ps) ∙ same_flat (listing_lines (together ps)) (draft_lines d) (sym texts) };
+        said = record { fits = draft_fits; written = sym texts };
         right = none_wrong 2 ps fits.heads keep pass;
         numbers = (λ i. record {
           heads = sym (heads_again ds ps say fits.heads named 2) i;

@@ -5,7 +5,7 @@ use Rattle.loft_tree.specs.declared.heads.Signature.{Signature}
 use Rattle.loft_tree.specs.declared.heads.Heads.{Heads}
 use Rattle.loft_code.specs.Operations.{Line, Automata}
 use Rattle.loft_listing_draft.specs.Drafts.{Draft, DraftItem, DraftOperation, item_lines, lined_from}
-use Rattle.loft_listing.specs.Called.{called_place, called_head, called_variable, scheduler_declaration, event_declaration, shared_declaration, start_declaration, client_declaration}
+use Rattle.loft_listing.specs.Called.{called_place, called_head, called_variable, called, called_order, scheduler_declaration, event_declaration, shared_declaration, start_declaration}
 use Rattle.loft_listing.specs.Lines.{called_operation}
 use Rattle.loft_listing_roundtrip.proofs.Parts.{Part, SchedulerPart, EventPart, SharedPart, ModulePart, StartPart, ClientPart, parts_of}
 
@@ -20,7 +20,7 @@ module _ (h : Heads) where
   part_item (SharedPart x) = record { declaration = shared_declaration h x; operations = [] }
   part_item (ModulePart x lines) = record { declaration = src.Module (called_head h x) (map called_variable x.locals) src.Done; operations = map (called_line x) lines }
   part_item (StartPart x) = record { declaration = start_declaration h x; operations = [] }
-  part_item (ClientPart x) = record { declaration = client_declaration h x; operations = [] }
+  part_item (ClientPart x) = record { declaration = src.Outside (called x.name) (map (called_order h) x.orders); operations = [] }
 
   -- the line after a part that begins on this line
   abbrev pub next_line : ℕ → Part → ℕ

@@ -5,8 +5,9 @@ ghost use Rattle.std.specs.Option.{option_map};
 ghost use Rattle.loft_lex.specs.declared.word.Word.TheVariants as w;
 ghost use Rattle.loft_tree.specs.Source.{Event, Shared, Module, Start, Outside};
 ghost use Rattle.loft_tree.specs.View.{named_of, place_name_of, head_of, statements_of, argument_of, order_of, declaration_of};
-ghost use Rattle.loft_tree.specs.Fits.{StatementsFit, DeclarationFits};
+ghost use Rattle.loft_tree.specs.Fits.{StatementsFit};
 ghost use Rattle.loft_show.specs.Canon.{led_by, brace_line, declaration_lines, head_line, kind_word, lines_text, local_line, local_lines, name_pieces, named_pieces, outside_line, pieces_text, place_pieces, space, spaced, word};
+ghost use Rattle.loft_show.specs.PartReads.{BodyFits};
 
 use crate::line::{begin_line, end_line, end_statement, put_bare_line, put_name_line};
 use crate::list::{Listed, put_list};
@@ -221,7 +222,7 @@ pub fn put_outside(out: &mut Out, name: &Ident, orders: &[OutsideOrder])
 /// Appends the lines of a declaration.
 #[tactic(auto, using(crate::proofs::Items::items))]
 pub fn put_item(out: &mut Out, item: &Item)
-    requires { DeclarationFits (declaration_of item.now) }
+    requires { BodyFits (declaration_of item.now) }
     ensures before { out.new.is_whole ≡ true → out.old.is_whole ≡ true }
     ensures text { out.new.is_whole ≡ true → out.new.text.items ≡ out.old.text.items ++ lines_text
         (declaration_lines (declaration_of item.now)) }

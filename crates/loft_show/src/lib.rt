@@ -18,14 +18,7 @@ pub use program::show;
 
 // The writers of single lines as they stand in the canonical text, for other texts that have such lines.
 pub use expression::put_expression;
-pub use item::{
-    put_brace_line, put_event_head, put_head, put_item, put_local, put_outside, put_outside_line,
-    put_place, put_shared, put_start,
-};
-pub use line::{put_bare_line, put_name_line, put_word_line};
+pub use item::{put_brace_line, put_head, put_item, put_local, put_outside_line, put_place};
+pub use line::put_bare_line;
 pub use order::put_order;
-pub use simple::{
-    put_assign, put_assign_create, put_await, put_control, put_cooperate, put_create, put_event,
-    put_get, put_join, put_print_text, put_print_value, put_run, put_select,
-};
 pub use statement::put_statement_line;
