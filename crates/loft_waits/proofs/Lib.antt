@@ -6,3 +6,4 @@ pub mod RangeLemmas
 pub mod WaitsLemmas
 pub mod LawLemmas
 pub mod AloneLemmas
+pub mod FlagLemmas

@@ -1,9 +1,8 @@
 -- What each call of the waits keeps.
-use Rattle.std.proofs.Common.{take, ◌≡◌, ℕ, suc, ◌+◌, ◌-◌, ◌<◌, ◌≤◌, ◌==◌, Bool, true, false, List, [], ◌∷◌, ◌++◌, map, set, drop, refl, sym, ◌∙◌, ap, subst, arith, Option, Some, None, option_map, length, get_or, get_or-set_same, ◌⊎◌, inl, inr}
-use Rattle.std.specs.Prelude.{◌≢◌, nat_lt, unwrap_or, slice_index}
+use Rattle.std.proofs.Common.{take, ◌≡◌, ℕ, suc, ◌+◌, ◌<◌, ◌≤◌, ◌==◌, Bool, true, false, List, [], ◌∷◌, ◌++◌, map, set, refl, sym, ◌∙◌, ap, subst, arith, Option, Some, None, option_map, length, get_or, get_or-set_same, ◌⊎◌, inl, inr}
+use Rattle.std.specs.Prelude.{◌≢◌, nat_lt, unwrap_or, MatchOption}
 use Rattle.std.proofs.lemmas.Bool.{ltb-true, ltb-false}
-use Rattle.std.proofs.lemmas.List.{length-map, length-drop, get_or-drop, length-take, get_or-take}
-use Rattle.memchr.specs.Find.{is_byte, Nowhere, NoneBefore, Passes}
+use Rattle.std.proofs.lemmas.List.{length-map, length-take, get_or-take}
 use Rattle.loft_waits.specs.declared.places.Places.{Places}
 use Rattle.loft_base.specs.declared.ids.ThreadId.{ThreadId}
 use Rattle.loft_orders.specs.declared.thread.Wait.{Wait}
@@ -12,6 +11,8 @@ use Rattle.loft_waits.specs.declared.key.Key.TheVariants.{Event, Value, End, Clo
 use Rattle.loft_waits.specs.Told.{Told, wait_at, is_ready, ready_at, closed, no_counts, NobodyIn, NobodyFrom}
 use Rattle.loft_finder.specs.Keys.{id_key}
 use Rattle.loft_waits.specs.Places.{IsListed, IsKept, KeepsOthers, SetsSome, SetsPlaced, SetsListed, KeepsBut, flag, names_thread, ends_in}
+use Rattle.loft_waits.specs.Flags.{is_set}
+use Rattle.loft_waits.proofs.FlagLemmas.{refuse}
 use Rattle.loft_waits.proofs.KeptLemmas.{beyond, ready_beyond, listed_none, kept_set, kept_woken}
 use Rattle.loft_waits.proofs.ChangeLemmas.{NewValue, EventChange, event_changes, end_changes, close_changes, closed_at, closed_listed}
 
@@ -151,42 +152,16 @@ byte_is t ready places k i = ap (λ (n : ℕ). n == 1) (k.flags i) ∙ one (read
     one true = refl
     one false = refl
 
-at_rest : (ready rest : List ℕ) (from k : ℕ) → rest ≡ drop from ready → get_or rest k 0 ≡ get_or ready (from + k) 0
-at_rest ready rest from k is = ap (λ (l : List ℕ). get_or l k 0) is ∙ get_or-drop from ready k 0
-
-unset : (b : Bool) → (b ≡ true → ⊥) → b ≡ false
-unset true h = absurd (h refl)
-unset false h = refl
-
-nobody_at : (t : Told) (ready rest : List ℕ) (places : Places) → IsKept t ready places → (from i : ℕ) → rest ≡ drop from ready → from ≤ i → ((slice_index rest (i - from) == 1) ≡ true → ⊥) → ready_at t i ≡ false
-nobody_at t ready rest places k from i is le none =
-    let e : from + (i - from) ≡ i = omega (arith, le) in
-    unset (ready_at t i)
-    (λ h. none (ap (λ (n : ℕ). n == 1) (at_rest ready rest from (i - from) is ∙ ap (λ (n : ℕ). get_or ready n 0) e) ∙ byte_is t ready places k i ∙ h))
-
--- no flag is set from there on
-pub first_none : (t : Told) (ready rest : List ℕ) (places : Places) → IsKept t ready places → (from : ℕ) → rest ≡ drop from ready → Nowhere (Passes (is_byte 1) rest) 0 (length rest) → NobodyFrom t from
-first_none t ready rest places k from is none i le = one (nat_lt i (length ready)) refl
+-- the first flag that is set from there on is that of the first thread that can go
+pub first_at : (t : Told) (ready : List ℕ) (places : Places) → IsKept t ready places → (from : ℕ) (r : Option ℕ)
+    → MatchOption r ((i : ℕ) → from ≤ i → is_set ready i ≡ false) (λ q. (from ≤ q) × (q < length ready) × (is_set ready q ≡ true) × ((i : ℕ) → from ≤ i → i < q → is_set ready i ≡ false))
+    → MatchOption r (NobodyFrom t from) (λ q. (from ≤ q) × (q < length t.waits) × (ready_at t q ≡ true) × NobodyIn t from q)
+first_at t ready places k from None none = λ i le. sym (byte_is t ready places k i) ∙ none i le
+first_at t ready places k from (Some q) first = (first.0, within (nat_lt q (length t.waits)) refl, can_go, λ i le lt. sym (byte_is t ready places k i) ∙ first.3 i le lt)
   where
-    many : length rest ≡ length ready - from
-    many = ap (λ (l : List ℕ). length l) is ∙ length-drop from ready
+    can_go : ready_at t q ≡ true
+    can_go = sym (byte_is t ready places k q) ∙ first.2
 
-    one : (b : Bool) → nat_lt i (length ready) ≡ b → ready_at t i ≡ false
-    one true lt = nobody_at t ready rest places k from i is le (none (i - from) (omega arith) (let e = many in let l = ltb-true i (length ready) lt in omega (arith, e, l, le)))
-    one false ge = ready_beyond t i (let g = ltb-false i (length ready) ge in let m = k.many in omega (arith, g, m))
-
--- the first flag that is set from there on
-pub first_some : (t : Told) (ready rest : List ℕ) (places : Places) → IsKept t ready places → (from n : ℕ) → rest ≡ drop from ready → NoneBefore (Passes (is_byte 1) rest) 0 (length rest) n → Passes (is_byte 1) rest n
-    → (from ≤ from + n) × (from + n < length t.waits) × (ready_at t (from + n) ≡ true) × NobodyIn t from (from + n)
-first_some t ready rest places k from n is b h = (omega arith, within (nat_lt (from + n) (length t.waits)) refl, set, λ i le lt. nobody_at t ready rest places k from i is le (b.before (i - from) (omega arith) (omega (arith, le, lt))))
-  where
-    set : ready_at t (from + n) ≡ true
-    set = sym (byte_is t ready places k (from + n)) ∙ sym (ap (λ (m : ℕ). m == 1) (at_rest ready rest from n is)) ∙ h
-
-    within : (b : Bool) → nat_lt (from + n) (length t.waits) ≡ b → from + n < length t.waits
-    within true lt = ltb-true (from + n) (length t.waits) lt
-    within false ge = absurd (refuse (ready_at t (from + n)) set (ready_beyond t (from + n) (ltb-false (from + n) (length t.waits) ge)))
-      where
-        refuse : (b : Bool) → b ≡ true → b ≡ false → ⊥
-        refuse true t f = cc
-        refuse false t f = cc
+    within : (b : Bool) → nat_lt q (length t.waits) ≡ b → q < length t.waits
+    within true lt = ltb-true q (length t.waits) lt
+    within false ge = absurd (refuse (ready_at t q) can_go (ready_beyond t q (ltb-false q (length t.waits) ge)))

@@ -1,3 +1,4 @@
 pub mod Told
 pub mod Aged
 pub mod Places
+pub mod Flags

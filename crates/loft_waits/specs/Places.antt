@@ -73,7 +73,7 @@ pub record IsListed (places : Places) (clock i : ℕ) (w : Option Wait) : Type 0
   pub ends : (t : ThreadId) → names_thread t w ≡ true → is_listed places (End (id_key t)) i ≡ true
   pub later : (n : ℕ) → ends_in w ≡ Some (suc n) → is_listed places (Close (clock + suc n)) i ≡ true
 
--- the byte that says whether a thread can go
+-- the byte of a flag
 abbrev pub flag : Bool → ℕ
 flag false = 0
 flag true = 1

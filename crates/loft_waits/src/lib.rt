@@ -3,6 +3,7 @@
 #![tactic(auto)]
 
 mod entry;
+mod flags;
 mod key;
 mod laws;
 mod places;
@@ -10,5 +11,6 @@ mod plain;
 mod waits;
 mod wake;
 
+pub use flags::Flags;
 pub use laws::{counts_follow_the_board, ready_is_can_go};
 pub use waits::Waits;

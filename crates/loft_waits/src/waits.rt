@@ -1,18 +1,18 @@
 //! The waits of one scheduler's linked threads, by position.
 
-ghost use Rattle.std.specs.Prelude.{◌≡◌, ◌+◌, ◌<◌, ◌≤◌, ◌^◌, ◌++◌, ◌∷◌, [], IfOk, OnOk, OnErr, Some, None, drop, take, length, slice_set as set, option_and_then, MatchOption, true};
+ghost use Rattle.std.specs.Prelude.{◌≡◌, ◌+◌, ◌<◌, ◌≤◌, ◌^◌, ◌++◌, ◌∷◌, [], IfOk, OnOk, OnErr, Some, None, take, length, slice_set as set, option_and_then, MatchOption, true};
 ghost use Rattle.std.specs.List.{list_any};
 ghost use Rattle.loft_sense.specs.WaitCodes.{number_left};
 ghost use Rattle.loft_waits.specs.Told.{wait_at, nobody, closed, no_counts, is_late, ready_at, is_alone, IsNext, IsFreeFrom, NobodyIn, NobodyFrom};
 
+use crate::flags::Flags;
 use crate::key::Key;
 use crate::places::{Places, enter, forget, leave_entry, no_places};
 use crate::plain::Plain;
-use crate::wake::{byte, wake_close, wake_event, wake_one};
+use crate::wake::{wake_close, wake_event, wake_one};
 use loft_base::{EventId, NoMemory, ThreadId, TryClone};
 use loft_finder::IdKey;
 use loft_orders::Wait;
-use memchr::memchr;
 use std::alloc::Global;
 use std::marker::Model;
 
@@ -23,7 +23,7 @@ use std::marker::Model;
 pub struct Waits {
     plain: Plain,
     /// For each position 1 where its thread can go, else 0.
-    ready: Vec<u8>,
+    ready: Flags,
     places: Places,
 }
 
@@ -36,15 +36,7 @@ impl Model for Waits {
 
     ghost view = { λ w. w.plain };
 
-    ghost invariant = { λ w. IsKept w.plain w.ready.items w.places };
-}
-
-/// The flags from a position on.
-fn rest(ready: &[u8], from: usize) -> &[u8]
-    requires { from ≤ length ready.now }
-    ensures { result.now ≡ drop from ready.now }
-{
-    ready.split_at(from).1
+    ghost invariant = { λ w. IsKept w.plain w.ready w.places };
 }
 
 impl Waits {
@@ -59,7 +51,7 @@ impl Waits {
     {
         Ok(Waits {
             plain: Plain::new(alloc, events)?,
-            ready: Vec::new(alloc),
+            ready: Flags::new(alloc),
             places: no_places(alloc),
         })
     }
@@ -74,7 +66,7 @@ impl Waits {
             ≡ record self.old { waits = self.old.waits ++ nobody ∷ [] }) }
         ensures err { OnErr result (self.new ≡ self.old) }
     {
-        self.ready.push(0)?;
+        self.ready.grow()?;
         self.plain.grow()
     }
 
@@ -117,7 +109,7 @@ impl Waits {
     {
         enter(&mut self.places, &wait, self.plain.closes(), pos)?;
         self.plain.put(pos, wait);
-        self.ready[pos] = byte(self.plain.can_go(pos));
+        self.ready.put(pos, self.plain.can_go(pos));
         Ok(())
     }
 
@@ -130,7 +122,7 @@ impl Waits {
     {
         let entry = self.plain.take(pos);
         leave_entry(&mut self.places, &entry, pos);
-        self.ready[pos] = 0;
+        self.ready.clear(pos);
         match entry {
             Some(entry) => Some(entry.into_wait(self.plain.closes())),
             None => None,
@@ -206,6 +198,7 @@ impl Waits {
         requires idle { NobodyFrom self.old 0 }
         ensures { self.new ≡ closed self.old }
     {
+        self.ready.rest();
         self.plain.close();
         let closes = self.plain.closes();
         wake_close(&self.places, closes, &self.plain, &mut self.ready);
@@ -235,14 +228,7 @@ impl Waits {
             (λ q. (from ≤ q) × (q < length self.now.waits) × (ready_at self.now q ≡ true)
             × NobodyIn self.now from q) }
     {
-        if from < self.ready.len() {
-            match memchr(1, rest(self.ready.as_slice(), from)) {
-                Some(count) => Some(from + count),
-                None => None,
-            }
-        } else {
-            None
-        }
+        self.ready.next(from)
     }
 
     /// The first position after this one whose thread can go, else the first one at all; None

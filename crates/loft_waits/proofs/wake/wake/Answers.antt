@@ -11,9 +11,9 @@ use Rattle.loft_waits.proofs.wake.wake.Goals as goal
 pub loop-place-preserved : goal.loop-place-preserved
 loop-place-preserved c =
     let t = c.args.plain.now in
-    let start = c.args.ready.now.items in
-    let now = c.loop-place.ready.items in
-    let new = c.set_flag.new.ready.items in
+    let start = c.args.ready.now in
+    let now = c.loop-place.ready in
+    let new = c.set_flag.new.ready in
     let i = c.loop-place.invariant in
     let q : Place = c.in-Some.place.now in
     let many : length now ≡ length start = i.2 in

@@ -7,6 +7,6 @@ abbrev pub invariant-loop-place : goal.invariant-loop-place
 invariant-loop-place l =
     (goal.iterator-loop-place).can_next l.place-iterator ×
     (goal.iterator-loop-place).is_finite l.place-iterator ×
-    (length l.ready.items ≡ length l.fn.ready.items) ×
-    SetsSome l.plain l.fn.ready.items l.ready.items ×
-    SetsDone l.plain (map (λ y. y.now) l.yielded) l.ready.items
+    (length l.ready ≡ length l.fn.ready) ×
+    SetsSome l.plain l.fn.ready l.ready ×
+    SetsDone l.plain (map (λ y. y.now) l.yielded) l.ready

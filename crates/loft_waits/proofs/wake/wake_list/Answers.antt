@@ -7,9 +7,9 @@ use Rattle.loft_waits.proofs.wake.wake_list.Goals as goal
 pub loop-pos-preserved : goal.loop-pos-preserved
 loop-pos-preserved c =
     let t = c.args.plain.now in
-    let start = c.args.ready.now.items in
-    let now = c.loop-pos.ready.items in
-    let new = c.set_flag.new.ready.items in
+    let start = c.args.ready.now in
+    let now = c.loop-pos.ready in
+    let new = c.set_flag.new.ready in
     let list = c.args.list.now in
     let i = c.loop-pos.pos-index in
     let p = get_or list i 0 in

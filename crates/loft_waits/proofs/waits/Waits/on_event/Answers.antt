@@ -8,4 +8,4 @@ invariant_of-self c =
     let w = c.self.inside in
     let e = c.wake_event.ensures in
     let lt : c.args.event.0 < length w.plain.counts = subst (λ (t : Told). c.args.event.0 < length t.counts) (sym c.self.view_is) c.requires.declared in
-    kept_event w.plain c.on_event.new.self w.ready.items c.wake_event.new.ready.items w.places c.args.event.0 c.args.count c.count-was.result c.self.invariant lt c.count-was.ensures c.on_event.ensures e.many e.some e.event e.more e.fewer
+    kept_event w.plain c.on_event.new.self w.ready c.wake_event.new.ready w.places c.args.event.0 c.args.count c.count-was.result c.self.invariant lt c.count-was.ensures c.on_event.ensures e.many e.some e.event e.more e.fewer
