@@ -104,8 +104,8 @@ pub still_line : (l : Line) → IsLine l → IsLine (record l { waits = closed l
 still_line l line = record {
   waits = ap (map (option_map closed_wait)) line.waits ∙ waits_close (runners_in l) ∙ ap (map wait_of) (sym (closed_runners l line));
   many = line.many;
-  marked = subst (λ (q : List Runner). AreMarked l.budget q l.ran.items) (sym (closed_runners l line)) (marked_close l.budget (runners_in l) l.ran.items line.marked);
-  held = line.held ∙ sym (present_close (runners_in l) l.ran.items) ∙ ap (λ (q : List Runner). count_present q l.ran.items) (sym (closed_runners l line));
+  marked = subst (λ (q : List Runner). AreMarked l.budget q l.ran) (sym (closed_runners l line)) (marked_close l.budget (runners_in l) l.ran line.marked);
+  held = line.held ∙ sym (present_close (runners_in l) l.ran) ∙ ap (λ (q : List Runner). count_present q l.ran) (sym (closed_runners l line));
   named = subst (AreNamed l.finder) (sym (closed_runners l line)) (named_close l.finder (runners_in l) line.named);
 }
 

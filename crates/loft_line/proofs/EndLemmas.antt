@@ -191,23 +191,23 @@ set_same ws zero (x ∷ rs) was h = let is : x ≡ was = cc h in ap (λ (r : Run
 set_same ws (suc p) (x ∷ rs) was h = ap (λ (l : List (Option Wait)). wait_of x ∷ l) (set_same ws p rs was h)
 
 -- the line stays one
-pub closed_line : (p : ℕ) (old new : Line) → IsLine old → is_marked old.ran.items p ≡ true → HasClosedAt p old new → IsLine new
+pub closed_line : (p : ℕ) (old new : Line) → IsLine old → is_marked old.ran p ≡ true → HasClosedAt p old new → IsLine new
 closed_line p old new line marked d = record {
   waits =
       ap (λ (t : Told). t.waits) d.told ∙ line.waits
       ∙ sym (ap (map wait_of) d.runners ∙ map-set wait_of (runners_in old) p d.now ∙ ap (set (map wait_of (runners_in old)) p) d.waits ∙ set_same [] p (runners_in old) d.was d.there);
-  many = ap (λ (l : List ℕ). length l) d.ran ∙ length-set old.ran.items p 0 ∙ line.many ∙ sym d.long;
+  many = ap (λ (l : List ℕ). length l) d.ran ∙ length-set old.ran p 0 ∙ line.many ∙ sym d.long;
   marked =
-      subst (λ (b : ℕ). AreMarked b (runners_in new) new.ran.items) (sym d.budget)
+      subst (λ (b : ℕ). AreMarked b (runners_in new) new.ran) (sym d.budget)
       (subst (λ (l : List ℕ). AreMarked old.budget (runners_in new) l) (sym d.ran)
-      (subst (λ (l : List Runner). AreMarked old.budget l (set old.ran.items p 0)) (sym d.runners) (marked_closed old.budget (runners_in old) old.ran.items p d.now d.rests line.marked)));
+      (subst (λ (l : List Runner). AreMarked old.budget l (set old.ran p 0)) (sym d.runners) (marked_closed old.budget (runners_in old) old.ran p d.now d.rests line.marked)));
   held =
       let same = line.many ∙ sym (length_with old.slots.items old.waits.waits) in
-      let count = present_closed (runners_in old) old.ran.items p d.was d.now same d.there d.stop marked in
+      let count = present_closed (runners_in old) old.ran p d.was d.now same d.there d.stop marked in
       let is = line.held in
       let held = d.held in
-      let now : count_present (runners_in new) new.ran.items ≡ count_present (set (runners_in old) p d.now) (set old.ran.items p 0) =
-      ap (λ (l : List Runner). count_present l new.ran.items) d.runners ∙ ap (count_present (set (runners_in old) p d.now)) d.ran in
+      let now : count_present (runners_in new) new.ran ≡ count_present (set (runners_in old) p d.now) (set old.ran p 0) =
+      ap (λ (l : List Runner). count_present l new.ran) d.runners ∙ ap (count_present (set (runners_in old) p d.now)) d.ran in
       omega (arith, count, is, held, now);
   named =
       subst (AreNamed new.finder) (sym d.runners)
@@ -228,10 +228,10 @@ IfMark ran None = (i : ℕ) → is_marked ran i ≡ false
 IfMark ran (Some q) = (q < length ran) × (is_marked ran q ≡ true) × ((i : ℕ) → i < q → is_marked ran i ≡ false)
 
 -- whoever stands before the next mark leaves nothing
-pub before_rest : (l : Line) (q : ℕ) → IsLine l → ((i : ℕ) → i < q → is_marked l.ran.items i ≡ false) → (i : ℕ) (r : Runner) → i < q → slice_get (runners_in l) i ≡ Some r → Rests l.budget r
+pub before_rest : (l : Line) (q : ℕ) → IsLine l → ((i : ℕ) → i < q → is_marked l.ran i ≡ false) → (i : ℕ) (r : Runner) → i < q → slice_get (runners_in l) i ≡ Some r → Rests l.budget r
 before_rest l q line none i r lt h = line.marked i r h (none i lt)
 
-pub next_stands : (p : ℕ) (old new : Line) (acc now : List Thread) → IsLine old → ((i : ℕ) → i < p → is_marked old.ran.items i ≡ false) → (d : HasClosedAt p old new) → now ≡ acc ++ stands_if d.was
+pub next_stands : (p : ℕ) (old new : Line) (acc now : List Thread) → IsLine old → ((i : ℕ) → i < p → is_marked old.ran i ≡ false) → (d : HasClosedAt p old new) → now ≡ acc ++ stands_if d.was
     → now ++ flat_map stands_if (runners_in new) ≡ acc ++ flat_map stands_if (runners_in old)
 next_stands p old new acc now line none d is =
     ap (λ (l : List Thread). l ++ flat_map stands_if (runners_in new)) is
@@ -240,7 +240,7 @@ next_stands p old new acc now line none d is =
     ∙ ap (λ (l : List Thread). acc ++ l)
     (sym (takes_first stands_if (runners_in old) p d.was d.now (λ i q lt h. rests_stands old.budget q (before_rest old p line none i q lt h)) d.there (rests_stands old.budget d.now d.rests)))
 
-pub next_leaves : (p : ℕ) (old new : Line) (acc now : List Sent) → IsLine old → ((i : ℕ) → i < p → is_marked old.ran.items i ≡ false) → (d : HasClosedAt p old new) → now ≡ acc ++ leaves_if d.was
+pub next_leaves : (p : ℕ) (old new : Line) (acc now : List Sent) → IsLine old → ((i : ℕ) → i < p → is_marked old.ran i ≡ false) → (d : HasClosedAt p old new) → now ≡ acc ++ leaves_if d.was
     → now ++ flat_map leaves_if (runners_in new) ≡ acc ++ flat_map leaves_if (runners_in old)
 next_leaves p old new acc now line none d is =
     ap (λ (l : List Sent). l ++ flat_map leaves_if (runners_in new)) is
@@ -252,24 +252,24 @@ next_leaves p old new acc now line none d is =
 pub next_standings : (p : ℕ) (old new : Line) → (d : HasClosedAt p old new) → standings_in (runners_in new) ≡ standings_in (runners_in old)
 next_standings p old new d = ap standings_in d.runners ∙ keeps_same standing_if (runners_in old) p d.was d.now d.there d.standing
 
-pub next_unmarked : (p : ℕ) (old new : Line) → ((i : ℕ) → i < p → is_marked old.ran.items i ≡ false) → HasClosedAt p old new → (i : ℕ) → i < p + 1 → is_marked new.ran.items i ≡ false
+pub next_unmarked : (p : ℕ) (old new : Line) → ((i : ℕ) → i < p → is_marked old.ran i ≡ false) → HasClosedAt p old new → (i : ℕ) → i < p + 1 → is_marked new.ran i ≡ false
 next_unmarked p old new none d i lt =
     ap (λ (l : List ℕ). is_marked l i) d.ran
     ∙ dite (ℕ_discrete i p)
-    (λ same. ap (is_marked (set old.ran.items p 0)) same ∙ unmarked_here old.ran.items p)
-    (λ apart. unmarked_other old.ran.items p i apart ∙ none i (omega (arith, lt, apart)))
+    (λ same. ap (is_marked (set old.ran p 0)) same ∙ unmarked_here old.ran p)
+    (λ apart. unmarked_other old.ran p i apart ∙ none i (omega (arith, lt, apart)))
 
-pub last_stands : (l : Line) (acc : List Thread) → IsLine l → ((i : ℕ) → is_marked l.ran.items i ≡ false) → acc ++ flat_map stands_if (runners_in l) ≡ acc
+pub last_stands : (l : Line) (acc : List Thread) → IsLine l → ((i : ℕ) → is_marked l.ran i ≡ false) → acc ++ flat_map stands_if (runners_in l) ≡ acc
 last_stands l acc line none = ap (λ (x : List Thread). acc ++ x) (nothing_left stands_if (runners_in l) (λ i q h. rests_stands l.budget q (line.marked i q h (none i)))) ∙ append-nil acc
 
-pub last_leaves : (l : Line) (acc : List Sent) → IsLine l → ((i : ℕ) → is_marked l.ran.items i ≡ false) → acc ++ flat_map leaves_if (runners_in l) ≡ acc
+pub last_leaves : (l : Line) (acc : List Sent) → IsLine l → ((i : ℕ) → is_marked l.ran i ≡ false) → acc ++ flat_map leaves_if (runners_in l) ≡ acc
 last_leaves l acc line none = ap (λ (x : List Sent). acc ++ x) (nothing_left leaves_if (runners_in l) (λ i q h. rests_leaves l.budget q (line.marked i q h (none i)))) ∙ append-nil acc
 
 abbrev pub left_from : ℕ → Option ℕ → ℕ
 left_from n None = 0
 left_from n (Some q) = n - q
 
--- what `next_mark` says, from the first mark on
+-- what `next` of the flags says, from the first mark on
 pub mark_from : (ran : List ℕ) (from : ℕ) (o : Option ℕ) → ((i : ℕ) → i < from → is_marked ran i ≡ false)
     → MatchOption o ((i : ℕ) → from ≤ i → is_marked ran i ≡ false) (λ q. (from ≤ q) × (q < length ran) × (is_marked ran q ≡ true) × ((i : ℕ) → from ≤ i → i < q → is_marked ran i ≡ false)) → IfMark ran o
 mark_from ran from None below found = λ i. one i (nat_lt i from) refl
@@ -307,7 +307,7 @@ with_stop (Some w) r = refl
 pub logical_stop : (rs : List Runner) (ws : List (Option Wait)) (p : ℕ) (x r : Runner) → slice_get rs p ≡ Some x → slice_get (with_waits rs ws) p ≡ Some r → r.stop ≡ x.stop
 logical_stop rs ws p x r there h = sym (ap (λ (q : Runner). q.stop) (logical_is rs ws p x r there h)) ∙ with_stop (get_or ws p None) x
 
-pub closed_held : (p : ℕ) (l mid new : Line) (x : Runner) → slice_get l.slots.items p ≡ Some x → x.stop ≡ Holds → mid.slots ≡ l.slots → mid.waits ≡ l.waits → mid.ran.items ≡ slice_set l.ran.items p 0 → mid.held ≡ l.held → mid.budget ≡ l.budget → mid.finder ≡ l.finder
+pub closed_held : (p : ℕ) (l mid new : Line) (x : Runner) → slice_get l.slots.items p ≡ Some x → x.stop ≡ Holds → mid.slots ≡ l.slots → mid.waits ≡ l.waits → mid.ran ≡ slice_set l.ran p 0 → mid.held ≡ l.held → mid.budget ≡ l.budget → mid.finder ≡ l.finder
     → HasBegunAt p mid new → HasClosedAt p l new
 closed_held p l mid new x there holds slots waits ran held budget finder b =
     let w = get_or l.waits.waits p None in
@@ -326,7 +326,7 @@ closed_held p l mid new x there holds slots waits ran held budget finder b =
       standing = is.standing;
       waits = is.waits;
       long = b.long ∙ ap (λ (s : Vec Runner Global). length s.items) slots;
-      ran = ap (λ (v : Vec ℕ Global). v.items) b.ran ∙ ran;
+      ran = b.ran ∙ ran;
       told = b.told ∙ waits;
       held = ap (λ (k : ℕ). k + 1) (b.held ∙ held) ∙ sym (ap (λ (c : Bool). l.held + one_if c) is_held_was);
       budget = b.budget ∙ budget;
@@ -355,7 +355,7 @@ gone_held : (b : Bool) → b ≡ false → b ≡ true → ⊥
 gone_held true f t = cc
 gone_held false f t = cc
 
-pub closed_gone : (p : ℕ) (l new : Line) (x : Runner) → IsLine l → slice_get l.slots.items p ≡ Some x → is_held x.stop ≡ false → (e : IsEmptied p l.slots.items new.slots.items) → new.waits ≡ l.waits → new.ran.items ≡ slice_set l.ran.items p 0
+pub closed_gone : (p : ℕ) (l new : Line) (x : Runner) → IsLine l → slice_get l.slots.items p ≡ Some x → is_held x.stop ≡ false → (e : IsEmptied p l.slots.items new.slots.items) → new.waits ≡ l.waits → new.ran ≡ slice_set l.ran p 0
     → new.held + 1 ≡ l.held → new.budget ≡ l.budget → KeepsOthers p l.finder new.finder → HasClosedAt p l new
 closed_gone p l new x line there gone e waits ran held budget finder =
     let w = get_or l.waits.waits p None in
@@ -396,9 +396,9 @@ some_marked (x ∷ rs) (b ∷ ran) zero same within h =
     or_true false = refl
 some_marked (x ∷ rs) (b ∷ ran) (suc p) same within h = let rest = some_marked rs ran p (omega (arith, same)) (omega arith) h in omega (arith, rest)
 
-pub many_held : (l : Line) (p : ℕ) → IsLine l → p < length l.ran.items → is_marked l.ran.items p ≡ true → 1 ≤ l.held
+pub many_held : (l : Line) (p : ℕ) → IsLine l → p < length l.ran → is_marked l.ran p ≡ true → 1 ≤ l.held
 many_held l p line within marked =
-    let one = some_marked (runners_in l) l.ran.items p (line.many ∙ sym (length_with l.slots.items l.waits.waits)) within marked in
+    let one = some_marked (runners_in l) l.ran p (line.many ∙ sym (length_with l.slots.items l.waits.waits)) within marked in
     let is = line.held in
     omega (arith, one, is)
 

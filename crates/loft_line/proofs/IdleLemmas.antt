@@ -23,15 +23,15 @@ use Rattle.loft_line.proofs.NameLemmas.{named_hole, named_same, named_more, name
 use Rattle.loft_line.proofs.FirstLemmas.{first_without, first_suspend}
 use Rattle.loft_line.proofs.BatchLemmas.{begun_held, begun_standing, begun_rests, one_more, emptied, hole_standing, hole_rests, hole_waits, one_fewer, with_flag, flag_rests, flag_standing, same_held, first_held}
 
-pub many_threads : (l : Line) → IsIdle l → length l.ran.items ≡ length (runners_in l)
+pub many_threads : (l : Line) → IsIdle l → length l.ran ≡ length (runners_in l)
 many_threads l idle = idle.line.many ∙ sym (length_with l.slots.items l.waits.waits)
 
 -- what has to be shown of a line that differs in its threads
 pub record IsChanged (l new : Line) (rs : List Runner) (ran : List ℕ) : Type 0 where
   pub runners : runners_in new ≡ rs
   pub waits : new.waits.waits ≡ map wait_of rs
-  pub many : length new.ran.items ≡ length new.slots.items
-  pub ran_is : new.ran.items ≡ ran
+  pub many : length new.ran ≡ length new.slots.items
+  pub ran_is : new.ran ≡ ran
   pub marked : AreMarked new.budget rs ran
   pub held : new.held ≡ count_present rs ran
   pub unmarked : (i : ℕ) → is_marked ran i ≡ false
@@ -42,8 +42,8 @@ idle_now l new rs ran c = record {
   line = record {
     waits = c.waits ∙ ap (map wait_of) (sym c.runners);
     many = c.many;
-    marked = subst (λ (q : List Runner). AreMarked new.budget q new.ran.items) (sym c.runners) (subst (λ (b : List ℕ). AreMarked new.budget rs b) (sym c.ran_is) c.marked);
-    held = c.held ∙ ap (count_present rs) (sym c.ran_is) ∙ ap (λ (q : List Runner). count_present q new.ran.items) (sym c.runners);
+    marked = subst (λ (q : List Runner). AreMarked new.budget q new.ran) (sym c.runners) (subst (λ (b : List ℕ). AreMarked new.budget rs b) (sym c.ran_is) c.marked);
+    held = c.held ∙ ap (count_present rs) (sym c.ran_is) ∙ ap (λ (q : List Runner). count_present q new.ran) (sym c.runners);
     named = subst (AreNamed new.finder) (sym c.runners) c.named;
   };
   unmarked = λ i. ap (λ (b : List ℕ). is_marked b i) c.ran_is ∙ c.unmarked i;
@@ -73,7 +73,7 @@ begun_id n budget s begun =
 module _ (l new : Line) (n : Runner) (s : Standing) (pos : ℕ) (s0 : List Runner) (t0 : Told) (idle : IsIdle l) (begun : linked_of n ≡ runner_of l.budget s ∷ []) (at : pos ≡ length l.slots.items)
     (pushed : s0 ≡ l.slots.items ++ n ∷ []) (grown : t0 ≡ record l.waits { waits = l.waits.waits ++ None ∷ [] })
     (told : (r : Runner) → slice_get s0 pos ≡ Some r → new.waits ≡ record t0 { waits = slice_set t0.waits pos (wait_of r) }) (back : (r : Runner) → slice_get s0 pos ≡ Some r → new.slots.items ≡ slice_set s0 pos (without_wait r))
-    (ran : new.ran.items ≡ l.ran.items ++ 0 ∷ []) (held : new.held ≡ l.held + 1) (budget : new.budget ≡ l.budget)
+    (ran : new.ran ≡ l.ran ++ 0 ∷ []) (held : new.held ≡ l.held + 1) (budget : new.budget ≡ l.budget)
     (keeps : KeepsAll l.finder new.finder) (stands : may_stand new.finder s.thread.id pos ≡ true) where
   long : length l.waits.waits ≡ length l.slots.items
   long = length_line l.slots.items l.waits.waits idle.line.waits
@@ -98,21 +98,21 @@ module _ (l new : Line) (n : Runner) (s : Standing) (pos : ℕ) (s0 : List Runne
       ∙ ap (λ (ws : List (Option Wait)). ws ++ wait_of n ∷ []) idle.line.waits
       ∙ sym (map-append wait_of (runners_in l) (n ∷ []))
 
-  linked_many : length new.ran.items ≡ length new.slots.items
+  linked_many : length new.ran ≡ length new.slots.items
   linked_many =
-      ap (λ (b : List ℕ). length b) ran ∙ length-append l.ran.items (0 ∷ [])
+      ap (λ (b : List ℕ). length b) ran ∙ length-append l.ran (0 ∷ [])
       ∙ ap (λ (k : ℕ). k + 1) idle.line.many
       ∙ sym (length-append l.slots.items (n ∷ [])) ∙ sym (ap (λ (x : List Runner). length x) pushed) ∙ sym (length-set s0 pos (without_wait n)) ∙ sym (ap (λ (x : List Runner). length x) (back n last))
 
   pub linked_idle : IsIdle new
-  linked_idle = idle_now l new (runners_in l ++ n ∷ []) (l.ran.items ++ 0 ∷ []) (record {
+  linked_idle = idle_now l new (runners_in l ++ n ∷ []) (l.ran ++ 0 ∷ []) (record {
     runners = linked_runners;
     waits = linked_waits;
     many = linked_many;
     ran_is = ran;
-    marked = subst (λ (b : ℕ). AreMarked b (runners_in l ++ n ∷ []) (l.ran.items ++ 0 ∷ [])) (sym budget) (marked_more l.budget (runners_in l) l.ran.items n (many_threads l idle) (begun_rests n l.budget s begun) idle.line.marked);
-    held = held ∙ ap (λ (k : ℕ). k + 1) idle.line.held ∙ sym (present_more (runners_in l) l.ran.items n (many_threads l idle) (begun_held n l.budget s begun));
-    unmarked = unmarked_more l.ran.items idle.unmarked;
+    marked = subst (λ (b : ℕ). AreMarked b (runners_in l ++ n ∷ []) (l.ran ++ 0 ∷ [])) (sym budget) (marked_more l.budget (runners_in l) l.ran n (many_threads l idle) (begun_rests n l.budget s begun) idle.line.marked);
+    held = held ∙ ap (λ (k : ℕ). k + 1) idle.line.held ∙ sym (present_more (runners_in l) l.ran n (many_threads l idle) (begun_held n l.budget s begun));
+    unmarked = unmarked_more l.ran idle.unmarked;
     named = named_more l.finder new.finder (runners_in l) n keeps
         (ap (may_stand new.finder n.thread.id) (length_with l.slots.items l.waits.waits ∙ sym at) ∙ ap (λ (t : ThreadId). may_stand new.finder t pos) (begun_id n l.budget s begun) ∙ stands)
         idle.line.named;
@@ -131,7 +131,7 @@ module _ (l new : Line) (n : Runner) (s : Standing) (pos : ℕ) (s0 : List Runne
 
 module _ (l new : Line) (p : ℕ) (t : ThreadId) (s1 : List Runner) (idle : IsIdle l) (first : IsFirstAt p t (runners_in l))
     (left : (r : Runner) → slice_get l.slots.items p ≡ Some r → s1 ≡ slice_set l.slots.items p (with_wait (get_or l.waits.waits p None) r)) (told : new.waits ≡ record l.waits { waits = slice_set l.waits.waits p None })
-    (e : IsEmptied p s1 new.slots.items) (ran : new.ran.items ≡ l.ran.items) (held : new.held + 1 ≡ l.held) (budget : new.budget ≡ l.budget)
+    (e : IsEmptied p s1 new.slots.items) (ran : new.ran ≡ l.ran) (held : new.held + 1 ≡ l.held) (budget : new.budget ≡ l.budget)
     (f : Finder) (named : AreNamed f l.slots.items) (keeps : KeepsOthers p f new.finder) where
   within : p < length l.slots.items
   within = let i = slice_get_within (runners_in l) p first.runner first.there in let k = length_with l.slots.items l.waits.waits in omega (arith, i, k)
@@ -146,20 +146,20 @@ module _ (l new : Line) (p : ℕ) (t : ThreadId) (s1 : List Runner) (idle : IsId
       ∙ ap (set (map wait_of (runners_in l)) p) (sym (hole_waits e.hole e.gone))
       ∙ sym (map-set wait_of (runners_in l) p e.hole)
 
-  stopped_many : length new.ran.items ≡ length new.slots.items
+  stopped_many : length new.ran ≡ length new.slots.items
   stopped_many =
       let it = there_is l.slots.items p within in
       ap (λ (b : List ℕ). length b) ran ∙ idle.line.many
       ∙ sym (ap (λ (x : List Runner). length x) e.slots ∙ length-set s1 p e.hole ∙ ap (λ (x : List Runner). length x) (left it.0 it.1) ∙ length-set l.slots.items p (with_wait (get_or l.waits.waits p None) it.0))
 
   pub stopped_idle : IsIdle new
-  stopped_idle = idle_now l new (set (runners_in l) p e.hole) l.ran.items (record {
+  stopped_idle = idle_now l new (set (runners_in l) p e.hole) l.ran (record {
     runners = stopped_runners;
     waits = stopped_waits;
     many = stopped_many;
     ran_is = ran;
-    marked = subst (λ (b : ℕ). AreMarked b (set (runners_in l) p e.hole) l.ran.items) (sym budget) (marked_now l.budget (runners_in l) l.ran.items p e.hole (hole_rests l.budget e.hole e.gone e.nobody) idle.line.marked);
-    held = let fewer = one_fewer (runners_in l) l.ran.items l.held p t e.hole (many_threads l idle) idle.line.held first (idle.unmarked p) e.gone in let h = held in omega (arith, fewer, h);
+    marked = subst (λ (b : ℕ). AreMarked b (set (runners_in l) p e.hole) l.ran) (sym budget) (marked_now l.budget (runners_in l) l.ran p e.hole (hole_rests l.budget e.hole e.gone e.nobody) idle.line.marked);
+    held = let fewer = one_fewer (runners_in l) l.ran l.held p t e.hole (many_threads l idle) idle.line.held first (idle.unmarked p) e.gone in let h = held in omega (arith, fewer, h);
     unmarked = idle.unmarked;
     named = named_hole f new.finder (runners_in l) p e.hole keeps e.gone (named_runners f l.slots.items l.waits.waits named);
   })
@@ -180,7 +180,7 @@ module _ (l new : Line) (p : ℕ) (t : ThreadId) (b : Bool) (s1 : List Runner) (
     (there : slice_get s1 p ≡ Some x)
     (told : (r : Runner) → slice_get (set s1 p (with_flag b x)) p ≡ Some r → new.waits ≡ record t1 { waits = slice_set t1.waits p (wait_of r) })
     (back : (r : Runner) → slice_get (set s1 p (with_flag b x)) p ≡ Some r → new.slots.items ≡ slice_set (set s1 p (with_flag b x)) p (without_wait r))
-    (ran : new.ran.items ≡ l.ran.items) (held : new.held ≡ l.held) (budget : new.budget ≡ l.budget) (named : AreNamed new.finder l.slots.items) where
+    (ran : new.ran ≡ l.ran) (held : new.held ≡ l.held) (budget : new.budget ≡ l.budget) (named : AreNamed new.finder l.slots.items) where
   inside : p < length l.slots.items
   inside = let i = slice_get_within (runners_in l) p first.runner first.there in let k = length_with l.slots.items l.waits.waits in omega (arith, i, k)
 
@@ -208,17 +208,17 @@ module _ (l new : Line) (p : ℕ) (t : ThreadId) (b : Bool) (s1 : List Runner) (
   flagged_runners : runners_in new ≡ slice_set (runners_in l) p now
   flagged_runners = changed_at l.slots.items s1 (set s1 p now) new.slots.items l.waits.waits t1.waits new.waits.waits p now inside (length_line l.slots.items l.waits.waits idle.line.waits) left w1 refl back w4
 
-  flagged_many : length new.ran.items ≡ length new.slots.items
+  flagged_many : length new.ran ≡ length new.slots.items
   flagged_many = ap (λ (q : List ℕ). length q) ran ∙ idle.line.many ∙ sym (ap (λ (q : List Runner). length q) (back now set_here) ∙ length-set (set s1 p now) p (without_wait now) ∙ length-set s1 p now ∙ long1)
 
   pub flagged_idle : IsIdle new
-  flagged_idle = idle_now l new (set (runners_in l) p now) l.ran.items (record {
+  flagged_idle = idle_now l new (set (runners_in l) p now) l.ran (record {
     runners = flagged_runners;
     waits = waits_at (runners_in l) (set (runners_in l) p now) l.waits.waits t1.waits new.waits.waits p now idle.line.waits w1 w4 refl;
     many = flagged_many;
     ran_is = ran;
-    marked = subst (λ (k : ℕ). AreMarked k (set (runners_in l) p now) l.ran.items) (sym budget) (marked_now l.budget (runners_in l) l.ran.items p now (flag_rests x b l.budget (idle.line.marked p x here (idle.unmarked p))) idle.line.marked);
-    held = held ∙ same_held (runners_in l) l.ran.items l.held p x b (many_threads l idle) idle.line.held here (idle.unmarked p);
+    marked = subst (λ (k : ℕ). AreMarked k (set (runners_in l) p now) l.ran) (sym budget) (marked_now l.budget (runners_in l) l.ran p now (flag_rests x b l.budget (idle.line.marked p x here (idle.unmarked p))) idle.line.marked);
+    held = held ∙ same_held (runners_in l) l.ran l.held p x b (many_threads l idle) idle.line.held here (idle.unmarked p);
     unmarked = idle.unmarked;
     named = named_same new.finder (runners_in l) p x now here (λ h. (h, refl)) (named_runners new.finder l.slots.items l.waits.waits named);
   })
@@ -241,7 +241,7 @@ module _ (l new : Line) (p : ℕ) (t : ThreadId) (b : Bool) (s1 : List Runner) (
 pub told_idle : (l : Line) (t : Told) → IsIdle l → t.waits ≡ l.waits.waits → IsIdle (record l { waits = t })
 told_idle l t idle same =
     let runners : runners_in (record l { waits = t }) ≡ runners_in l = ap (with_waits l.slots.items) same in
-    idle_now l (record l { waits = t }) (runners_in l) l.ran.items (record {
+    idle_now l (record l { waits = t }) (runners_in l) l.ran (record {
       runners = runners;
       waits = same ∙ idle.line.waits;
       many = idle.line.many;

@@ -2,7 +2,6 @@ pub mod ListLemmas
 pub mod LineLemmas
 pub mod IdLemmas
 pub mod NameLemmas
-pub mod MarkLemmas
 pub mod CloseLemmas
 pub mod BatchLemmas
 pub mod RunLemmas
@@ -15,3 +14,4 @@ pub mod StandingLemmas
 pub mod PackLemmas
 pub mod RoomLemmas
 pub mod CountLemmas
+pub mod CopyLemmas

@@ -26,7 +26,7 @@ module _ (l new : Line) (to pos : ℕ) (h r : Runner) (s1 s2 : List Runner) (t1 
     (left : (x : Runner) → slice_get l.slots.items pos ≡ Some x → s1 ≡ slice_set l.slots.items pos (with_wait (get_or l.waits.waits pos None) x)) (told1 : t1 ≡ record l.waits { waits = slice_set l.waits.waits pos None })
     (exchanged : (a b : Runner) → slice_get s1 to ≡ Some a → slice_get s1 pos ≡ Some b → s2 ≡ slice_set (slice_set s1 pos a) to b)
     (told : (x : Runner) → slice_get s2 to ≡ Some x → new.waits ≡ record t1 { waits = slice_set t1.waits to (wait_of x) }) (back : (x : Runner) → slice_get s2 to ≡ Some x → new.slots.items ≡ slice_set s2 to (without_wait x))
-    (ran : new.ran.items ≡ l.ran.items) (held : new.held ≡ l.held) (budget : new.budget ≡ l.budget)
+    (ran : new.ran ≡ l.ran) (held : new.held ≡ l.held) (budget : new.budget ≡ l.budget)
     (mid : Finder) (adds : KeepsAll l.finder mid) (stands : may_stand mid r.thread.id to ≡ true) (keeps : KeepsOthers pos mid new.finder) where
   abbrev s0 : List Runner
   s0 = l.slots.items
@@ -101,21 +101,21 @@ module _ (l new : Line) (to pos : ℕ) (h r : Runner) (s1 s2 : List Runner) (t1 
   lined : standings_in (set (set (runners_in l) pos h) to r) ≡ standings_in (runners_in l)
   lined = moved_standings (runners_in l) to pos h r (let o = order in omega (arith, o)) there at empty
 
-  many_moved : length l.ran.items ≡ length (set (set (runners_in l) pos h) to r)
+  many_moved : length l.ran ≡ length (set (set (runners_in l) pos h) to r)
   many_moved = many_threads l idle ∙ sym (length-set (set (runners_in l) pos h) to r ∙ length-set (runners_in l) pos h)
 
   moved_idle : IsIdle new
-  moved_idle = idle_now l new (set (set (runners_in l) pos h) to r) l.ran.items (record {
+  moved_idle = idle_now l new (set (set (runners_in l) pos h) to r) l.ran (record {
     runners = moved_runners;
     waits = moved_waits;
     many = ap (λ (b : List ℕ). length b) ran ∙ idle.line.many ∙ sym moved_long;
     ran_is = ran;
-    marked = subst (λ (b : ℕ). AreMarked b (set (set (runners_in l) pos h) to r) l.ran.items) (sym budget)
-        (marked_now l.budget (set (runners_in l) pos h) l.ran.items to r (idle.line.marked pos r at (idle.unmarked pos))
-        (marked_now l.budget (runners_in l) l.ran.items pos h (idle.line.marked to h there (idle.unmarked to)) idle.line.marked));
-    held = held ∙ idle.line.held ∙ all_present (runners_in l) l.ran.items (many_threads l idle) idle.unmarked
+    marked = subst (λ (b : ℕ). AreMarked b (set (set (runners_in l) pos h) to r) l.ran) (sym budget)
+        (marked_now l.budget (set (runners_in l) pos h) l.ran to r (idle.line.marked pos r at (idle.unmarked pos))
+        (marked_now l.budget (runners_in l) l.ran pos h (idle.line.marked to h there (idle.unmarked to)) idle.line.marked));
+    held = held ∙ idle.line.held ∙ all_present (runners_in l) l.ran (many_threads l idle) idle.unmarked
         ∙ ap (λ (s : List Standing). length s) (sym lined)
-        ∙ sym (all_present (set (set (runners_in l) pos h) to r) l.ran.items many_moved idle.unmarked);
+        ∙ sym (all_present (set (set (runners_in l) pos h) to r) l.ran many_moved idle.unmarked);
     unmarked = idle.unmarked;
     named = named_moved l.finder mid new.finder (runners_in l) to pos h r apart gone adds stands keeps idle.line.named;
   })
@@ -222,7 +222,7 @@ packed_skip old l next pos r p at gone =
 -- ---- the first places are left
 
 module _ (l new : Line) (n : ℕ) (idle : IsIdle l) (empty : AreEmpty n (length l.slots.items) (runners_in l)) (slots : new.slots.items ≡ take n l.slots.items) (told : new.waits ≡ record l.waits { waits = take n l.waits.waits })
-    (ran : new.ran.items ≡ take n l.ran.items) (held : new.held ≡ l.held) (budget : new.budget ≡ l.budget) (finder : new.finder ≡ l.finder) where
+    (ran : new.ran ≡ take n l.ran) (held : new.held ≡ l.held) (budget : new.budget ≡ l.budget) (finder : new.finder ≡ l.finder) where
   all_empty : AreEmpty n (length (runners_in l)) (runners_in l)
   all_empty = let k = length_with l.slots.items l.waits.waits in λ i q from below at. empty i q from (omega (arith, below, k)) at
 
@@ -236,16 +236,16 @@ module _ (l new : Line) (n : ℕ) (idle : IsIdle l) (empty : AreEmpty n (length 
   cut_linked = ap standings_in cut_runners ∙ cut_standings n (runners_in l) all_empty
 
   pub cut_idle : IsIdle new
-  cut_idle = idle_now l new (take n (runners_in l)) (take n l.ran.items) (record {
+  cut_idle = idle_now l new (take n (runners_in l)) (take n l.ran) (record {
     runners = cut_runners;
     waits = cut_waits ∙ ap (λ (ws : List (Option Wait)). take n ws) idle.line.waits ∙ take-map wait_of n (runners_in l);
-    many = ap (λ (b : List ℕ). length b) ran ∙ both_take n l.ran.items l.slots.items idle.line.many ∙ sym (ap (λ (q : List Runner). length q) slots);
+    many = ap (λ (b : List ℕ). length b) ran ∙ both_take n l.ran l.slots.items idle.line.many ∙ sym (ap (λ (q : List Runner). length q) slots);
     ran_is = ran;
-    marked = subst (λ (b : ℕ). AreMarked b (take n (runners_in l)) (take n l.ran.items)) (sym budget) (marked_taken l.budget n (runners_in l) l.ran.items idle.unmarked idle.line.marked);
-    held = held ∙ idle.line.held ∙ all_present (runners_in l) l.ran.items (many_threads l idle) idle.unmarked
+    marked = subst (λ (b : ℕ). AreMarked b (take n (runners_in l)) (take n l.ran)) (sym budget) (marked_taken l.budget n (runners_in l) l.ran idle.unmarked idle.line.marked);
+    held = held ∙ idle.line.held ∙ all_present (runners_in l) l.ran (many_threads l idle) idle.unmarked
         ∙ ap (λ (s : List Standing). length s) (sym (cut_standings n (runners_in l) all_empty))
-        ∙ sym (all_present (take n (runners_in l)) (take n l.ran.items) (both_take n l.ran.items (runners_in l) (many_threads l idle)) (unmarked_taken n l.ran.items idle.unmarked));
-    unmarked = unmarked_taken n l.ran.items idle.unmarked;
+        ∙ sym (all_present (take n (runners_in l)) (take n l.ran) (both_take n l.ran (runners_in l) (many_threads l idle)) (unmarked_taken n l.ran idle.unmarked));
+    unmarked = unmarked_taken n l.ran idle.unmarked;
     named = subst (λ (f : Finder). AreNamed f (take n (runners_in l))) (sym finder) (λ i r at h. idle.line.named i r (get_taken n (runners_in l) i r at) h);
   })
 

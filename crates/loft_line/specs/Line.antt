@@ -78,15 +78,15 @@ AreNamed finder rs = (i : ℕ) (r : Runner) → slice_get rs i ≡ Some r → is
 -- the waits are those of the threads, whoever has run is marked, and whoever is held can be found by his id
 pub record IsLine (l : Line) : Type 0 where
   pub waits : l.waits.waits ≡ map wait_of (runners_in l)
-  pub many : length l.ran.items ≡ length l.slots.items
-  pub marked : AreMarked l.budget (runners_in l) l.ran.items
-  pub held : l.held ≡ count_present (runners_in l) l.ran.items
+  pub many : length l.ran ≡ length l.slots.items
+  pub marked : AreMarked l.budget (runners_in l) l.ran
+  pub held : l.held ≡ count_present (runners_in l) l.ran
   pub named : AreNamed l.finder (runners_in l)
 
 -- nobody has run in this instant
 pub record IsIdle (l : Line) : Type 0 where
   pub line : IsLine l
-  pub unmarked : (i : ℕ) → is_marked l.ran.items i ≡ false
+  pub unmarked : (i : ℕ) → is_marked l.ran i ≡ false
 
 -- only the threads and their waits have changed
 pub record KeepsTold (old new : Line) : Type 0 where
@@ -170,7 +170,7 @@ pub record HasClosedAt (p : ℕ) (old new : Line) : Type 0 where
   pub standing : standing_if now ≡ standing_if was
   pub waits : wait_of now ≡ wait_of was
   pub long : length new.slots.items ≡ length old.slots.items
-  pub ran : new.ran.items ≡ slice_set old.ran.items p 0
+  pub ran : new.ran ≡ slice_set old.ran p 0
   pub told : new.waits ≡ old.waits
   pub held : new.held + 1 ≡ old.held + one_if (is_held was.stop)
   pub budget : new.budget ≡ old.budget

@@ -11,24 +11,29 @@ ghost use Rattle.loft_waits.specs.Told.{closed as closed_told, NobodyFrom};
 ghost use Rattle.loft_line.specs.Line.{IsThreadAt, stands_if, leaves_if, thread_with as thread_with_of};
 
 use crate::line::Line;
-use crate::marks::next_mark;
 use crate::slots::empty;
-use loft_base::{NoMemory, Sequence, TryClone};
+use loft_base::{NoMemory, Sequence, TryClone, try_clone_all};
 use loft_orders::{Order, Sent, Sents, SharedThread, Stop, Thread, Threads, To, Wait};
 use std::alloc::Global;
-use std::mem;
 
-/// A thread with another wait, if there is one.
-fn thread_with(mut thread: Thread, wait: Option<Wait>) -> Thread
-    ensures { result ≡ thread_with_of wait thread }
+/// For at most so many threads there is room before one is copied. Of many that ran, few may stay.
+const ROOM: usize = 16;
+
+/// A copy of a thread, with another wait where there is one.
+fn copy_with(alloc: Global, thread: &Thread, wait: Option<Wait>) -> Result<Thread, NoMemory>
+    ensures { IfOk result (λ t. t ≡ thread_with_of wait thread.now) }
 {
-    match wait {
-        Some(wait) => {
-            mem::replace(&mut thread.wait, wait);
-            thread
-        }
-        None => thread,
-    }
+    let wait = match wait {
+        Some(wait) => wait,
+        None => thread.wait.try_clone(alloc)?,
+    };
+    Ok(Thread {
+        id: thread.id,
+        code: thread.code,
+        mask: thread.mask,
+        wait,
+        frames: try_clone_all(alloc, thread.frames.as_slice())?,
+    })
 }
 
 /// A thread sends itself to an address.
@@ -51,9 +56,8 @@ impl Line {
         requires waits { pos < length self.now.waits.waits }
         ensures { IfOk result (λ t. IsThreadAt pos (runners_in self.now) t) }
     {
-        let thread = self.slots[pos].thread.try_clone(alloc)?;
         let wait = self.waits.wait(alloc, pos)?;
-        Ok(thread_with(thread, wait))
+        copy_with(alloc, &self.slots[pos].thread, wait)
     }
 
     /// The thread at a position is copied, where it ran.
@@ -99,15 +103,15 @@ impl Line {
         sent: &mut Sents,
     ) -> Result<(), NoMemory>
         requires line { IsLine self.old }
-        requires marked { is_marked self.old.ran.items pos ≡ true }
-        requires within { pos < length self.old.ran.items }
+        requires marked { is_marked self.old.ran pos ≡ true }
+        requires within { pos < length self.old.ran }
         ensures closed { OnOk result (HasClosedAt pos self.old self.new) }
         ensures stands { OnOk result ((r : ARunner) → slice_get (runners_in self.old) pos ≡ Some r
             → stands.new ≡ stands.old ++ stands_if r) }
         ensures sent { OnOk result ((r : ARunner) → slice_get (runners_in self.old) pos ≡ Some r
             → sent.new ≡ sent.old ++ leaves_if r) }
     {
-        self.ran[pos] = 0;
+        self.ran.clear(pos);
         match self.slots[pos].stop {
             Stop::Holds => {
                 self.close_held(alloc, pos, stands)?;
@@ -143,11 +147,12 @@ impl Line {
         ensures sent { OnOk result (sent.new ≡ sent.old ++ flat_map leaves_if (runners_in self.old)) }
         ensures keeps { OnOk result (HasClosed self.old self.new) }
     {
-        let mut next = next_mark(self.ran.as_slice(), 0);
+        let mut next = self.ran.next(0);
         'marks: while let Some(pos) = next {
             self.close_at(alloc, pos, stands, sent)?;
-            next = next_mark(self.ran.as_slice(), pos + 1);
+            next = self.ran.next(pos + 1);
         }
+        self.ran.rest();
         Ok(())
     }
 
@@ -168,7 +173,8 @@ impl Line {
         ensures quiet { OnOk result (IsQuiet self.new) }
     {
         self.waits.close();
-        let mut stands = Sequence::new(alloc);
+        let room = Vec::with_capacity(alloc, self.ran.count_hint().min(ROOM))?;
+        let mut stands = Sequence::from_vec(room);
         self.close_marked(alloc, &mut stands, sent)?;
         Ok(stands)
     }

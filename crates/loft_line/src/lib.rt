@@ -3,7 +3,6 @@
 
 mod close;
 mod line;
-mod marks;
 mod pack;
 mod run;
 mod slots;

@@ -9,7 +9,7 @@ use loft_base::{EventId, NoMemory, ThreadId};
 use loft_finder::Finder;
 use loft_orders::Thread;
 use loft_passes::Runner;
-use loft_waits::Waits;
+use loft_waits::{Flags, Waits};
 use std::alloc::Global;
 
 /// The linked threads of a scheduler, by position, in the order in which they were linked. One that
@@ -23,7 +23,7 @@ pub struct Line {
     /// The waits of those that are held and aren't suspended.
     pub waits: Waits,
     /// For each position 1 where its thread has run in this instant.
-    pub ran: Vec<u8>,
+    pub ran: Flags,
     /// How many are held.
     pub held: usize,
     /// How many steps a thread may make in an instant.
@@ -45,7 +45,7 @@ impl Line {
             slots: Vec::new(alloc),
             finder: Finder::new(alloc),
             waits: Waits::new(alloc, events)?,
-            ran: Vec::new(alloc),
+            ran: Flags::new(alloc),
             held: 0,
             budget,
         })
@@ -72,7 +72,7 @@ impl Line {
         let id = thread.id;
         let mut runner = Runner::new(thread);
         runner.begin(self.budget);
-        self.ran.push(0)?;
+        self.ran.grow()?;
         self.slots.push(runner)?;
         self.waits.grow()?;
         self.held += 1;

@@ -50,7 +50,7 @@ impl Line {
         let acts = around.acts.len();
         let known = around.known.len();
         leave(&mut self.slots, &mut self.waits, pos);
-        self.ran[pos] = 1;
+        self.ran.set(pos);
         let runner = &mut self.slots[pos];
         run_counted(runner, alloc, interpreter, around, steps)?;
         acts_tell_what_was_done();

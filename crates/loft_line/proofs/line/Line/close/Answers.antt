@@ -1,4 +1,4 @@
-use Rattle.std.proofs.Common.{◌++◌, List, sym, ap, subst, ◌∙◌}
+use Rattle.std.proofs.Common.{rules, ◌≡◌, ◌++◌, List, [], sym, ap, subst, ◌∙◌}
 use Rattle.std.specs.List.{flat_map}
 use Rattle.loft_orders.specs.declared.order.Sent.{Sent}
 use Rattle.loft_orders.specs.declared.thread.Thread.{Thread}
@@ -21,8 +21,9 @@ returns-clause-linked c =
 pub returns-clause-stands : goal.returns-clause-stands
 returns-clause-stands c =
     let l = c.args.self.now in
+    let none : c.from_vec-stands.result ≡ [] = search rules in
     c.in_ok-close_marked.ensures.stands
-    ∙ ap (λ (s : List Thread). s ++ flat_map stands_if (with_waits l.slots.items c.close.new.self.waits)) c.new-stands.ensures
+    ∙ ap (λ (s : List Thread). s ++ flat_map stands_if (with_waits l.slots.items c.close.new.self.waits)) none
     ∙ ap (λ (t : Told). flat_map stands_if (with_waits l.slots.items t.waits)) c.close.ensures
     ∙ closed_stands l c.requires.line
 

@@ -1,6 +1,5 @@
 use Rattle.std.proofs.Common.{◌≡◌, ◌<◌, ◌-◌, ◌++◌, ◌∷◌, [], List, Some, refl, sym, ap, ◌∙◌, arith, length, append-nil}
 use Rattle.std.specs.Prelude.{slice_get}
-use Rattle.std.specs.Vec.{with_item}
 use Rattle.std.proofs.lemmas.Option.{slice_get_read}
 use Rattle.loft_orders.specs.declared.order.Order.TheVariants.{Arrive}
 use Rattle.loft_orders.specs.declared.order.Sent.{Sent}
@@ -35,8 +34,8 @@ returns-in_ok-close_held-in-Holds-clause-closed c =
     let many = c.requires.line.many in
     let within : p < length l.slots.items = omega (arith, has, many) in
     let there : slice_get l.slots.items p ≡ Some x = slice_get_read l.slots.items (length l.slots.items) p x refl within c.index.ensures in
-    let mid : Line = record { slots = l.slots; waits = l.waits; ran = with_item l.ran p 0; held = l.held; budget = l.budget; finder = l.finder } in
-    closed_held p l mid c.close_held.new.self x there c.in-Holds.is refl refl refl refl refl refl c.in_ok-close_held-in-Holds.ensures.begun
+    let mid : Line = record { slots = l.slots; waits = l.waits; ran = c.clear.new.self; held = l.held; budget = l.budget; finder = l.finder } in
+    closed_held p l mid c.close_held.new.self x there c.in-Holds.is refl refl c.clear.ensures refl refl refl c.in_ok-close_held-in-Holds.ensures.begun
 
 pub returns-in_ok-close_held-in-Holds-clause-stands : goal.returns-in_ok-close_held-in-Holds-clause-stands
 returns-in_ok-close_held-in-Holds-clause-stands c = λ r h.
@@ -69,9 +68,9 @@ returns-in_ok-send-in-Leaves-clause-closed c =
     let many = c.requires.line.many in
     let within : p < length l.slots.items = omega (arith, has, many) in
     let there : slice_get l.slots.items p ≡ Some x = slice_get_read l.slots.items (length l.slots.items) p x refl within c.index.ensures in
-    let new : Line = record { slots = c.empty-thread.new.slots; waits = l.waits; ran = with_item l.ran p 0; held = l.held - 1; budget = l.budget; finder = c.empty-thread.new.finder } in
+    let new : Line = record { slots = c.empty-thread.new.slots; waits = l.waits; ran = c.clear.new.self; held = l.held - 1; budget = l.budget; finder = c.empty-thread.new.finder } in
     let some = many_held l p c.requires.line c.requires.within c.requires.marked in
-    closed_gone p l new x c.requires.line there (ap is_held c.in-Leaves.is) c.empty-thread.ensures.slots refl refl (omega (arith, some)) refl c.empty-thread.ensures.finder
+    closed_gone p l new x c.requires.line there (ap is_held c.in-Leaves.is) c.empty-thread.ensures.slots refl c.clear.ensures (omega (arith, some)) refl c.empty-thread.ensures.finder
 
 pub returns-in_ok-send-in-Leaves-clause-stands : goal.returns-in_ok-send-in-Leaves-clause-stands
 returns-in_ok-send-in-Leaves-clause-stands c = λ r h.
@@ -108,9 +107,9 @@ returns-in-Ends-clause-closed c =
     let many = c.requires.line.many in
     let within : p < length l.slots.items = omega (arith, has, many) in
     let there : slice_get l.slots.items p ≡ Some x = slice_get_read l.slots.items (length l.slots.items) p x refl within c.index.ensures in
-    let new : Line = record { slots = c.empty.new.slots; waits = l.waits; ran = with_item l.ran p 0; held = l.held - 1; budget = l.budget; finder = c.empty.new.finder } in
+    let new : Line = record { slots = c.empty.new.slots; waits = l.waits; ran = c.clear.new.self; held = l.held - 1; budget = l.budget; finder = c.empty.new.finder } in
     let some = many_held l p c.requires.line c.requires.within c.requires.marked in
-    closed_gone p l new x c.requires.line there (ap is_held c.in-Ends.is) c.empty.ensures.slots refl refl (omega (arith, some)) refl c.empty.ensures.finder
+    closed_gone p l new x c.requires.line there (ap is_held c.in-Ends.is) c.empty.ensures.slots refl c.clear.ensures (omega (arith, some)) refl c.empty.ensures.finder
 
 pub returns-in-Ends-clause-stands : goal.returns-in-Ends-clause-stands
 returns-in-Ends-clause-stands c = λ r h.

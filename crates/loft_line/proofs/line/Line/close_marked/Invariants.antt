@@ -8,7 +8,7 @@ use Rattle.loft_line.proofs.line.Line.close_marked.Given as goal
 abbrev pub invariant-marks : goal.invariant-marks
 invariant-marks l = record {
   line : IsLine l.self;
-  mark : IfMark l.self.ran.items l.next;
+  mark : IfMark l.self.ran l.next;
   linked : standings_in (runners_in l.self) ≡ standings_in (runners_in l.fn.self);
   stands : l.stands ++ flat_map stands_if (runners_in l.self) ≡ l.fn.stands ++ flat_map stands_if (runners_in l.fn.self);
   sent : l.sent ++ flat_map leaves_if (runners_in l.self) ≡ l.fn.sent ++ flat_map leaves_if (runners_in l.fn.self);
@@ -16,4 +16,4 @@ invariant-marks l = record {
 }
 
 abbrev pub decreases-marks : goal.decreases-marks
-decreases-marks l = left_from (length l.self.ran.items) l.next
+decreases-marks l = left_from (length l.self.ran) l.next

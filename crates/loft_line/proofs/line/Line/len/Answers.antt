@@ -8,4 +8,4 @@ pub returns : goal.returns
 returns c =
     let l = c.args.self.now in
     let line = c.requires.idle.line in
-    line.held ∙ all_present (runners_in l) l.ran.items (line.many ∙ sym (length_with l.slots.items l.waits.waits)) c.requires.idle.unmarked
+    line.held ∙ all_present (runners_in l) l.ran (line.many ∙ sym (length_with l.slots.items l.waits.waits)) c.requires.idle.unmarked

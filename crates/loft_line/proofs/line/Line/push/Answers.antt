@@ -16,9 +16,9 @@ use Rattle.loft_line.proofs.line.Line.push.Goals as goal
 pub overflow_add-self : goal.overflow_add-self
 overflow_add-self c =
     let l = c.args.self.now in
-    let few = few_held (runners_in l) l.ran.items l.held (length l.slots.items) c.requires.idle.line.held (length_with l.slots.items l.waits.waits) in
-    let most : length c.push-2.new.self.items < 18446744073709551616 = search rules in
-    let pushed : c.push-2.new.self.items ≡ l.slots.items ++ c.begin.new.self ∷ [] = search rules in
+    let few = few_held (runners_in l) l.ran l.held (length l.slots.items) c.requires.idle.line.held (length_with l.slots.items l.waits.waits) in
+    let most : length c.push.new.self.items < 18446744073709551616 = search rules in
+    let pushed : c.push.new.self.items ≡ l.slots.items ++ c.begin.new.self ∷ [] = search rules in
     let more = ap (λ (s : List Runner). length s) pushed ∙ length-append l.slots.items (c.begin.new.self ∷ []) in
     omega (arith, few, most, more)
 
@@ -27,7 +27,7 @@ enter-requires-clause-waits c =
     let l = c.args.self.now in
     let at = c.len-pos.ensures in
     let long = length_line l.slots.items l.waits.waits c.requires.idle.line.waits in
-    let more = ap (λ (t : Told). length t.waits) c.in_ok-grow.ensures.ok ∙ length-append l.waits.waits (None ∷ []) in
+    let more = ap (λ (t : Told). length t.waits) c.in_ok-grow-2.ensures.ok ∙ length-append l.waits.waits (None ∷ []) in
     omega (arith, at, long, more)
 
 pub enter-requires-clause-free : goal.enter-requires-clause-free
@@ -35,43 +35,43 @@ enter-requires-clause-free c =
     let l = c.args.self.now in
     let long = length_line l.slots.items l.waits.waits c.requires.idle.line.waits in
     let here = c.len-pos.ensures in
-    ap (λ (t : Told). wait_at t c.len-pos.result) c.in_ok-grow.ensures.ok ∙ last_none l.waits.waits c.len-pos.result (omega (arith, here, long))
+    ap (λ (t : Told). wait_at t c.len-pos.result) c.in_ok-grow-2.ensures.ok ∙ last_none l.waits.waits c.len-pos.result (omega (arith, here, long))
 
 pub returns-clause-idle : goal.returns-clause-idle
 returns-clause-idle c =
     let l = c.args.self.now in
     let n = c.begin.new.self in
     let s : Standing = record { thread = c.args.thread; suspended = false } in
-    let new : Line = record { slots = c.enter.new.slots; waits = c.enter.new.waits; ran = c.push.new.self; held = l.held + 1; budget = l.budget; finder = c.add.new.self } in
+    let new : Line = record { slots = c.enter.new.slots; waits = c.enter.new.waits; ran = c.grow.new.self; held = l.held + 1; budget = l.budget; finder = c.add.new.self } in
     let begun : linked_of n ≡ runner_of l.budget s ∷ [] = c.begin.ensures ∙ ap (λ (q : Standing). runner_of l.budget q ∷ []) c.new-runner.ensures in
-    let pushed : c.push-2.new.self.items ≡ l.slots.items ++ n ∷ [] = search rules in
+    let pushed : c.push.new.self.items ≡ l.slots.items ++ n ∷ [] = search rules in
     let here = c.len-pos.ensures in
     let at : c.len-pos.result ≡ length l.slots.items = omega (arith, here) in
-    let ran : c.push.new.self.items ≡ l.ran.items ++ 0 ∷ [] = search rules in
-    linked_idle l new n s c.len-pos.result c.push-2.new.self.items c.grow.new.self c.requires.idle begun at pushed c.in_ok-grow.ensures.ok c.in_ok-enter.ensures.told c.in_ok-enter.ensures.slots ran refl refl c.add.ensures.keeps c.add.ensures.stands
+    let ran : c.grow.new.self ≡ l.ran ++ 0 ∷ [] = search rules in
+    linked_idle l new n s c.len-pos.result c.push.new.self.items c.grow-2.new.self c.requires.idle begun at pushed c.in_ok-grow-2.ensures.ok c.in_ok-enter.ensures.told c.in_ok-enter.ensures.slots ran refl refl c.add.ensures.keeps c.add.ensures.stands
 
 pub returns-clause-linked : goal.returns-clause-linked
 returns-clause-linked c =
     let l = c.args.self.now in
     let n = c.begin.new.self in
     let s : Standing = record { thread = c.args.thread; suspended = false } in
-    let new : Line = record { slots = c.enter.new.slots; waits = c.enter.new.waits; ran = c.push.new.self; held = l.held + 1; budget = l.budget; finder = c.add.new.self } in
+    let new : Line = record { slots = c.enter.new.slots; waits = c.enter.new.waits; ran = c.grow.new.self; held = l.held + 1; budget = l.budget; finder = c.add.new.self } in
     let begun : linked_of n ≡ runner_of l.budget s ∷ [] = c.begin.ensures ∙ ap (λ (q : Standing). runner_of l.budget q ∷ []) c.new-runner.ensures in
-    let pushed : c.push-2.new.self.items ≡ l.slots.items ++ n ∷ [] = search rules in
+    let pushed : c.push.new.self.items ≡ l.slots.items ++ n ∷ [] = search rules in
     let here = c.len-pos.ensures in
     let at : c.len-pos.result ≡ length l.slots.items = omega (arith, here) in
-    let ran : c.push.new.self.items ≡ l.ran.items ++ 0 ∷ [] = search rules in
-    linked_standings l new n s c.len-pos.result c.push-2.new.self.items c.grow.new.self c.requires.idle begun at pushed c.in_ok-grow.ensures.ok c.in_ok-enter.ensures.told c.in_ok-enter.ensures.slots ran refl refl c.add.ensures.keeps c.add.ensures.stands
+    let ran : c.grow.new.self ≡ l.ran ++ 0 ∷ [] = search rules in
+    linked_standings l new n s c.len-pos.result c.push.new.self.items c.grow-2.new.self c.requires.idle begun at pushed c.in_ok-grow-2.ensures.ok c.in_ok-enter.ensures.told c.in_ok-enter.ensures.slots ran refl refl c.add.ensures.keeps c.add.ensures.stands
 
 pub returns-clause-told : goal.returns-clause-told
 returns-clause-told c =
     let l = c.args.self.now in
     let n = c.begin.new.self in
     let s : Standing = record { thread = c.args.thread; suspended = false } in
-    let new : Line = record { slots = c.enter.new.slots; waits = c.enter.new.waits; ran = c.push.new.self; held = l.held + 1; budget = l.budget; finder = c.add.new.self } in
+    let new : Line = record { slots = c.enter.new.slots; waits = c.enter.new.waits; ran = c.grow.new.self; held = l.held + 1; budget = l.budget; finder = c.add.new.self } in
     let begun : linked_of n ≡ runner_of l.budget s ∷ [] = c.begin.ensures ∙ ap (λ (q : Standing). runner_of l.budget q ∷ []) c.new-runner.ensures in
-    let pushed : c.push-2.new.self.items ≡ l.slots.items ++ n ∷ [] = search rules in
+    let pushed : c.push.new.self.items ≡ l.slots.items ++ n ∷ [] = search rules in
     let here = c.len-pos.ensures in
     let at : c.len-pos.result ≡ length l.slots.items = omega (arith, here) in
-    let ran : c.push.new.self.items ≡ l.ran.items ++ 0 ∷ [] = search rules in
-    linked_told l new n s c.len-pos.result c.push-2.new.self.items c.grow.new.self c.requires.idle begun at pushed c.in_ok-grow.ensures.ok c.in_ok-enter.ensures.told c.in_ok-enter.ensures.slots ran refl refl c.add.ensures.keeps c.add.ensures.stands
+    let ran : c.grow.new.self ≡ l.ran ++ 0 ∷ [] = search rules in
+    linked_told l new n s c.len-pos.result c.push.new.self.items c.grow-2.new.self c.requires.idle begun at pushed c.in_ok-grow-2.ensures.ok c.in_ok-enter.ensures.told c.in_ok-enter.ensures.slots ran refl refl c.add.ensures.keeps c.add.ensures.stands

@@ -1,4 +1,4 @@
-use Rattle.std.proofs.Common.{◌≡◌, ◌<◌, ◌-◌, ◌++◌, ◌∙◌, ap, sym, refl, subst, arith, List, drop, length, length-set, set}
+use Rattle.std.proofs.Common.{◌≡◌, ◌<◌, ◌-◌, ◌++◌, ◌∙◌, ap, sym, refl, subst, arith, ℕ, List, drop, length, length-set, set}
 use Rattle.loft_base.specs.declared.ids.ThreadId.{ThreadId}
 use Rattle.loft_sense.specs.LawWords.{ended_in}
 use Rattle.loft_sense.specs.Passes.{steps_left}
@@ -23,8 +23,8 @@ leave-requires-clause-within g c =
     let within = c.requires.within in
     omega (arith, same, within)
 
-pub index_mut-requires : goal.index_mut-requires
-index_mut-requires g c =
+pub set-requires : goal.set-requires
+set-requires g c =
     let l = c.args.self.now in
     let same = length_with l.slots.items l.waits.waits in
     let many = c.requires.line.many in
@@ -91,12 +91,14 @@ returns-clause-line g c =
     let d = did g c in
     let a = around_of c.args.around.now in
     let same = c.requires.line.many ∙ sym (length_with l.slots.items l.waits.waits) in
-    let within : p < length l.ran.items = let has = c.requires.within in omega (arith, same, has) in
+    let within : p < length l.ran = let has = c.requires.within in omega (arith, same, has) in
+    let now = with_waits c.enter.new.slots.items c.enter.new.waits.waits in
+    let ran = c.set.ensures in
     record {
       waits = d.entered.waits;
-      many = length-set l.ran.items p 1 ∙ c.requires.line.many ∙ sym d.long;
-      marked = subst (λ (q : List Runner). AreMarked l.budget q (set l.ran.items p 1)) (sym d.run.later_is) (marked_run l.budget rs l.ran.items p d.run.now within c.requires.line.marked);
-      held = c.requires.line.held ∙ sym (ap (λ (q : List Runner). count_present q (set l.ran.items p 1)) d.run.later_is ∙ present_run rs l.ran.items p d.before d.run.now same d.there d.held);
+      many = ap (λ (b : List ℕ). length b) ran ∙ length-set l.ran p 1 ∙ c.requires.line.many ∙ sym d.long;
+      marked = subst (λ (b : List ℕ). AreMarked l.budget now b) (sym ran) (subst (λ (q : List Runner). AreMarked l.budget q (set l.ran p 1)) (sym d.run.later_is) (marked_run l.budget rs l.ran p d.run.now within c.requires.line.marked));
+      held = c.requires.line.held ∙ sym (ap (count_present now) ran ∙ ap (λ (q : List Runner). count_present q (set l.ran p 1)) d.run.later_is ∙ present_run rs l.ran p d.before d.run.now same d.there d.held);
       named = subst (AreNamed l.finder) (sym d.run.later_is)
           (named_run (g.I.Interpreter.program c.args.interpreter.now) l.finder rs p d.run.before d.run.now a (d.run.before.bound - d.run.before.steps) d.run.there
           (ready_held rs a l.waits p d.run.before c.requires.entered d.run.there c.requires.ready) d.run.linked c.requires.line.named);

@@ -13,7 +13,7 @@ use Rattle.loft_line.proofs.line.Line.stop.Goals as goal
 
 some_held : (l : Line) (p : ℕ) (t : ThreadId) → Rattle.loft_line.specs.Line.IsIdle l → IsFirstAt p t (runners_in l) → 1 ≤ l.held
 some_held l p t idle first =
-    let one = some_present (runners_in l) l.ran.items p first.runner (many_threads l idle) first.there (first_held p t (runners_in l) first) in
+    let one = some_present (runners_in l) l.ran p first.runner (many_threads l idle) first.there (first_held p t (runners_in l) first) in
     let is = idle.line.held in
     omega (arith, one, is)
 
