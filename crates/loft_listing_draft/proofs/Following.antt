@@ -1,5 +1,5 @@
 -- A text that is taken line by line: what its lines so far say, and where it stops.
-use Rattle.std.proofs.Common.{◌≡◌, ◌≢◌, ℕ, ◌+◌, ◌⊎◌, inl, inr, List, [], ◌∷◌, ◌++◌, length, refl, sym, ap, subst, ◌∙◌, append-nil, append_assoc, length-append, arith, lit≤, lit<}
+use Rattle.std.proofs.Common.{◌≡◌, ◌≢◌, ℕ, ◌⊎◌, inl, inr, List, [], ◌∷◌, ◌++◌, length, refl, sym, ap, subst, ◌∙◌, append-nil, append_assoc, length-append, arith, lit≤, lit<}
 use Rattle.std.specs.List.{flat_map, Contains}
 use Rattle.std.proofs.lemmas.List.{append_cancel_left}
 use Rattle.std.proofs.lemmas.Grind.{flat_map-append}
@@ -10,10 +10,11 @@ use Rattle.loft_listing_draft.specs.Drafts.{Draft, DraftFits, IsListing, draft_l
 use Rattle.loft_listing_line.specs.RowsFit.{ListingLineFits}
 use Rattle.loft_listing_draft.specs.Held.{StandsAt}
 use Rattle.loft_listing_draft.specs.Stops.{IsBegun, StopsAt, closings}
-use Rattle.loft_listing_draft.specs.Taking.{Begun, Nothing, InModule, InClient, MayStand, with_line, lined_line, closed, closing}
+use Rattle.loft_listing_draft.specs.Taking.{Begun, Nothing, InModule, InClient, MayStand, with_line, closed, closing}
+use Rattle.loft_listing_draft.specs.Lined.{line_at}
 use Rattle.loft_listing_draft.proofs.Lists.{each_right}
 use Rattle.loft_listing_draft.proofs.Growing.{said, says, closed_says, fits_more}
-use Rattle.loft_listing_draft.proofs.Walking.{start, so_far, AllStand, with_lines, with_lines-append, stands_next, walks, lined_at}
+use Rattle.loft_listing_draft.proofs.Walking.{start, so_far, AllStand, with_lines, with_lines-append, stands_next, walks, after_lines, lined_at}
 
 pub lines_text_end : (ls : List ListingLine) (l : ListingLine) → lines_text (ls ++ l ∷ []) ≡ lines_text ls ++ line_text l
 lines_text_end ls l = flat_map-append line_text ls (l ∷ []) ∙ ap (λ t. lines_text ls ++ t) (append-nil (line_text l))
@@ -54,7 +55,6 @@ none_fits = record {
   items = tt;
   lines = (tt, tt);
   lined = refl;
-  bare = tt;
 }
 
 pub at_first : (text : List ℕ) → Follows text [] text
@@ -64,7 +64,7 @@ at_first text = record { written = refl; fits = none_fits; said = refl; only = �
 
 -- the next line of a listing stands there
 next_stands : (text : List ℕ) (ls : List ListingLine) (rest : List ℕ) (d : Draft) (l : ListingLine) (more : List ListingLine) → Follows text ls rest
-    → IsListing (line_text Title ++ text) d → flat_map item_lines d ≡ ls ++ l ∷ more → StandsAt (2 + length ls) rest (lines_text more) l
+    → IsListing (line_text Title ++ text) d → flat_map item_lines d ≡ ls ++ l ∷ more → StandsAt (after_lines ls) rest (lines_text more) l
 next_stands text ls rest d l more follows is lines =
     let each = subst (Each ListingLineFits) lines is.fits.lines.1 in
     let own : text ≡ lines_text (flat_map item_lines d) = append_cancel_left (line_text Title) text (lines_text (flat_map item_lines d)) is.written in
@@ -89,7 +89,7 @@ begun_lines text ls ks back l more is split = is.lines ∙ ap (λ xs. xs ++ is.f
 
 -- the next line of a beginning stands there
 pub begun_next : (text : List ℕ) (ls : List ListingLine) (rest : List ℕ) (ks : List ListingLine) (back : List ℕ) (l : ListingLine) (more : List ListingLine)
-    → Follows text ls rest → Begins text ks back → ks ≡ ls ++ l ∷ more → StandsAt (2 + length ls) rest (lines_text more ++ back) l
+    → Follows text ls rest → Begins text ks back → ks ≡ ls ++ l ∷ more → StandsAt (after_lines ls) rest (lines_text more ++ back) l
 begun_next text ls rest ks back l more follows is split =
     let lines = begun_lines text ls ks back l more is split in
     let each = subst (Each ListingLineFits) lines is.fits.lines.1 in
@@ -113,8 +113,8 @@ nothing_left text ls rest d follows is lines =
 
 -- ---- one line more
 
-only_line : (text : List ℕ) (ls : List ListingLine) (rest after : List ℕ) (l : ListingLine) → Follows text ls rest → StandsAt (2 + length ls) rest after l
-    → ((k : ListingLine) (back : List ℕ) → StandsAt (2 + length ls) rest back k → (k ≡ l) × (back ≡ after))
+only_line : (text : List ℕ) (ls : List ListingLine) (rest after : List ℕ) (l : ListingLine) → Follows text ls rest → StandsAt (after_lines ls) rest after l
+    → ((k : ListingLine) (back : List ℕ) → StandsAt (after_lines ls) rest back k → (k ≡ l) × (back ≡ after))
     → (d : Draft) → IsListing (line_text Title ++ text) d → (all : List ListingLine) → flat_map item_lines d ≡ ls ++ all
     → (more : List ListingLine) × (flat_map item_lines d ≡ (ls ++ l ∷ []) ++ more)
 only_line text ls rest after l follows stands only d is [] lines =
@@ -124,7 +124,7 @@ only_line text ls rest after l follows stands only d is (k ∷ more) lines =
     (more, lines ∙ ap (λ x. ls ++ x ∷ more) same.0 ∙ sym (append_assoc ls (l ∷ []) more))
 
 agree_more : (text : List ℕ) (ls : List ListingLine) (rest after : List ℕ) (l : ListingLine) → Follows text ls rest
-    → ((k : ListingLine) (back : List ℕ) → StandsAt (2 + length ls) rest back k → (k ≡ l) × (back ≡ after))
+    → ((k : ListingLine) (back : List ℕ) → StandsAt (after_lines ls) rest back k → (k ≡ l) × (back ≡ after))
     → (ks : List ListingLine) (back : List ℕ) → Begins text ks back → Agree ls ks → Agree (ls ++ l ∷ []) ks
 agree_more text ls rest after l follows only ks back is (inl ([], same)) = inr (l ∷ [], ap (λ xs. xs ++ l ∷ []) (sym (same ∙ append-nil ls)))
 agree_more text ls rest after l follows only ks back is (inl (k ∷ more, split)) =
@@ -132,14 +132,14 @@ agree_more text ls rest after l follows only ks back is (inl (k ∷ more, split)
     inl (more, split ∙ ap (λ x. ls ++ x ∷ more) next.0 ∙ sym (append_assoc ls (l ∷ []) more))
 agree_more text ls rest after l follows only ks back is (inr (more, split)) = inr (more ++ l ∷ [], ap (λ xs. xs ++ l ∷ []) split ∙ append_assoc ks more (l ∷ []))
 
-pub one_more : (text : List ℕ) (ls : List ListingLine) (rest after : List ℕ) (l : ListingLine) → Follows text ls rest → StandsAt (2 + length ls) rest after l
-    → ((k : ListingLine) (back : List ℕ) → StandsAt (2 + length ls) rest back k → (k ≡ l) × (back ≡ after))
+pub one_more : (text : List ℕ) (ls : List ListingLine) (rest after : List ℕ) (l : ListingLine) → Follows text ls rest → StandsAt (after_lines ls) rest after l
+    → ((k : ListingLine) (back : List ℕ) → StandsAt (after_lines ls) rest back k → (k ≡ l) × (back ≡ after))
     → MayStand (with_lines start ls) l → Follows text (ls ++ l ∷ []) after
 one_more text ls rest after l follows stands only may =
     let s = with_lines start ls in
     let further : with_line s l ≡ with_lines start (ls ++ l ∷ []) = sym (with_lines-append start ls (l ∷ [])) in
-    let line : 2 + length ls ≡ length (said s) + 1 = omega (arith, ap length follows.said) in
-    let grown = fits_more s l follows.fits may stands.fits (subst (λ n. lined_line n l ≡ l) line stands.lined) in
+    let here : after_lines ls ≡ length (lines_text (said s)) = ap (λ xs. length (lines_text xs)) (sym follows.said) in
+    let grown = fits_more s l follows.fits may stands.fits (subst (λ n. line_at n l ≡ l) here stands.lined) in
     record {
       written = follows.written ∙ ap (λ t. lines_text ls ++ t) stands.written ∙ sym (append_assoc (lines_text ls) (line_text l) after) ∙ ap (λ t. t ++ after) (sym (lines_text_end ls l));
       fits = subst (λ t. DraftFits (closed t)) further grown;
@@ -152,7 +152,7 @@ one_more text ls rest after l follows stands only may =
 
 -- no line may stand next
 abbrev pub Stuck : List ListingLine → List ℕ → Type 0
-Stuck ls rest = (l : ListingLine) (after : List ℕ) → StandsAt (2 + length ls) rest after l → MayStand (with_lines start ls) l → ⊥
+Stuck ls rest = (l : ListingLine) (after : List ℕ) → StandsAt (after_lines ls) rest after l → MayStand (with_lines start ls) l → ⊥
 
 closes_so : (b : Begun) → Contains closings (closing b)
 closes_so Nothing = (0, lit< tt, refl)
@@ -190,9 +190,9 @@ never_begun text ls rest after l stuck (d, more, fits, lines) is =
     stuck l after (record { fits = kept; lined = lined_at d ls l more fits split; written = is }) (may_next ls d l more fits split)
 
 -- no line may stand next, and something is open or left: the text stops there
-pub ends_stop : (text : List ℕ) (ls : List ListingLine) (rest : List ℕ) (n : ℕ) → Follows text ls rest → Stuck ls rest → n ≡ 2 + length ls
+pub ends_stop : (text : List ℕ) (ls : List ListingLine) (rest : List ℕ) (n : ℕ) → Follows text ls rest → Stuck ls rest → n ≡ after_lines ls
     → ((with_lines start ls).begun ≡ Nothing → rest ≡ [] → ⊥) → StopsAt (line_text Title ++ text) (closed (with_lines start ls)) n
-ends_stop text ls rest n follows stuck line other =
+ends_stop text ls rest n follows stuck here other =
     let b = (with_lines start ls).begun in (
       Title ∷ ls,
       closing b,
@@ -205,7 +205,7 @@ ends_stop text ls rest n follows stuck line other =
         unfinished = open_left b rest other;
         stops = λ l after begun is. never_begun text ls rest after l stuck begun is;
       },
-      omega arith,
+      here,
     )
 
 ends_at : (text : List ℕ) (ls : List ListingLine) (rest : List ℕ) (d : Draft) → Follows text ls rest → Stuck ls rest → IsListing (line_text Title ++ text) d
@@ -226,7 +226,7 @@ never_title : (text after : List ℕ) (l : ListingLine) → ((rest : List ℕ) �
 never_title text after l never (d, more, fits, lines) is =
     let first : l ≡ Title = cc in never after (is ∙ ap (λ k. line_text k ++ after) first)
 
-pub stops_first : (text : List ℕ) → ((rest : List ℕ) → text ≡ line_text Title ++ rest → ⊥) → StopsAt text [] 1
+pub stops_first : (text : List ℕ) → ((rest : List ℕ) → text ≡ line_text Title ++ rest → ⊥) → StopsAt text [] 0
 stops_first text never = (
   [],
   Title ∷ [],

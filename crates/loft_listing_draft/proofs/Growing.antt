@@ -1,15 +1,16 @@
 -- What the lines so far say, line by line: it stays within the limits, and it has these lines.
-use Rattle.std.proofs.Common.{◌≡◌, ℕ, ◌+◌, List, [], ◌∷◌, ◌++◌, map, length, refl, sym, ap, subst, ◌∙◌, append-nil, append_assoc, zero-add, length-append, arith}
-use Rattle.std.proofs.lemmas.List.{map-append, length-map}
+use Rattle.std.proofs.Common.{◌≡◌, ℕ, ◌+◌, List, [], ◌∷◌, ◌++◌, map, length, refl, sym, ap, subst, ◌∙◌, append-nil, append_assoc, zero-add, arith}
+use Rattle.std.proofs.lemmas.List.{map-append}
 use Rattle.loft_tree.specs.Source as src
 use Rattle.loft_tree.specs.Source.{Ident, Named, ModuleHead, Declaration, Scheduler, Event, Shared, Module, Start, Outside}
-use Rattle.loft_listing_line.specs.Rows.{ListingLine, Title, Item, Head, Local, Operation, End, Client, Order, Close}
+use Rattle.loft_listing_line.specs.Rows.{ListingLine, Title, Item, Head, Local, Operation, End, Client, Order, Close, line_text}
 use Rattle.loft_listing_line.specs.RowsFit.{ListingLineFits}
-use Rattle.loft_listing_draft.specs.Drafts.{Draft, DraftOperation, DraftFits, source_of, operation_lines, draft_lines}
-use Rattle.loft_listing_draft.specs.Lined.{head_at, variable_at, name_at, order_at, lined_declaration}
-use Rattle.loft_listing_draft.specs.Taking.{Begun, Nothing, InModule, InClient, SoFar, lined_line, MayBegin, MayStandInModule, MayStandInClient, MayFollow, MayStand, begin_with, in_module_with, in_client_with, going_on, with_line, module_item, simple_item, closed_as, closed, closing}
-use Rattle.loft_listing_draft.proofs.Items.{joined, front, room, last, lines_end, next_line}
-use Rattle.loft_listing_draft.proofs.Parts.{line_of, operations_end, one_line, module_begins, module_local, module_operation, client_begins, client_order}
+use Rattle.loft_listing_draft.specs.Drafts.{Draft, DraftOperation, DraftFits, source_of, operation_line, operation_lines, draft_lines, lines_text}
+use Rattle.loft_listing_draft.specs.Lined.{line_at, lines_at}
+use Rattle.loft_listing_draft.specs.Taking.{Begun, Nothing, InModule, InClient, SoFar, MayBegin, MayStandInModule, MayStandInClient, MayFollow, MayStand, begin_with, in_module_with, in_client_with, going_on, with_line, module_item, simple_item, closed_as, closed, closing}
+use Rattle.loft_listing_draft.proofs.Items.{Keeps, keeps, joined, front, room, last, lines_end}
+use Rattle.loft_listing_draft.proofs.LinedLines.{lined_append, lined_left}
+use Rattle.loft_listing_draft.proofs.Parts.{operations_end, one_line, module_begins, module_local, module_operation, client_begins, client_order}
 
 -- ---- the lines that were said
 
@@ -56,11 +57,11 @@ local_says xs h ls [] v none =
 local_says xs h ls (o ∷ os) v none = absurd (omega arith)
 
 operation_says : (xs : List ListingLine) (h : ModuleHead) (ls : List Named) (os : List DraftOperation) (o : DraftOperation) (k : ℕ) → k ≡ length os
-    → xs ++ Head h ∷ (map Local ls ++ operation_lines 0 (os ++ o ∷ [])) ≡ (xs ++ Head h ∷ (map Local ls ++ operation_lines 0 os)) ++ line_of k o ∷ []
+    → xs ++ Head h ∷ (map Local ls ++ operation_lines 0 (os ++ o ∷ [])) ≡ (xs ++ Head h ∷ (map Local ls ++ operation_lines 0 os)) ++ operation_line k o ∷ []
 operation_says xs h ls os o k is =
-    ap (λ ys. xs ++ Head h ∷ (map Local ls ++ ys)) (operations_end 0 os o ∙ ap (λ n. operation_lines 0 os ++ line_of n o ∷ []) (zero-add (length os) ∙ sym is))
-    ∙ ap (λ ys. xs ++ Head h ∷ ys) (sym (append_assoc (map Local ls) (operation_lines 0 os) (line_of k o ∷ [])))
-    ∙ sym (append_assoc xs (Head h ∷ (map Local ls ++ operation_lines 0 os)) (line_of k o ∷ []))
+    ap (λ ys. xs ++ Head h ∷ (map Local ls ++ ys)) (operations_end 0 os o ∙ ap (λ n. operation_lines 0 os ++ operation_line n o ∷ []) (zero-add (length os) ∙ sym is))
+    ∙ ap (λ ys. xs ++ Head h ∷ ys) (sym (append_assoc (map Local ls) (operation_lines 0 os) (operation_line k o ∷ [])))
+    ∙ sym (append_assoc xs (Head h ∷ (map Local ls ++ operation_lines 0 os)) (operation_line k o ∷ []))
 
 says_module : (done : Draft) (h : ModuleHead) (ls : List Named) (os : List DraftOperation) (l : ListingLine) → MayStandInModule (length ls) (length os) l
     → said (in_module_with done h ls os l) ≡ said_as done (InModule h ls os) ++ l ∷ []
@@ -98,88 +99,92 @@ says s l fits may = says_more s.done s.begun l fits may
 
 -- ---- limits
 
-fits_nothing : (done : Draft) (l : ListingLine) → DraftFits done → MayBegin (source_of done) l → ListingLineFits l → lined_line (next_line done) l ≡ l
-    → DraftFits (closed (begin_with done l))
-fits_nothing done Title fits may kept lined = absurd may
-fits_nothing done (Item d) fits may kept lined =
-    let at : lined_declaration (next_line done) d ≡ d = cc in joined done (simple_item d) fits may (one_line (next_line done) d kept at)
-fits_nothing done (Head h) fits may kept lined =
-    let at : head_at (next_line done) h ≡ h = cc in joined done (module_item h [] []) fits may (module_begins (next_line done) h kept at)
-fits_nothing done (Local v) fits may kept lined = absurd may
-fits_nothing done (Operation k p d i) fits may kept lined = absurd may
-fits_nothing done End fits may kept lined = absurd may
-fits_nothing done (Client n) fits may kept lined =
-    let at : name_at (next_line done) n ≡ n = cc in joined done (simple_item (Outside n [])) fits may (client_begins (next_line done) n kept at)
-fits_nothing done (Order x) fits may kept lined = absurd may
-fits_nothing done Close fits may kept lined = absurd may
+keeps_nothing : (done : Draft) (l : ListingLine) → Keeps done → MayBegin (source_of done) l → ListingLineFits l → Keeps (closed (begin_with done l))
+keeps_nothing done Title fits may kept = absurd may
+keeps_nothing done (Item d) fits may kept = joined done (simple_item d) fits may (one_line d kept)
+keeps_nothing done (Head h) fits may kept = joined done (module_item h [] []) fits may (module_begins h kept)
+keeps_nothing done (Local v) fits may kept = absurd may
+keeps_nothing done (Operation k p d i) fits may kept = absurd may
+keeps_nothing done End fits may kept = absurd may
+keeps_nothing done (Client n) fits may kept = joined done (simple_item (Outside n [])) fits may (client_begins n kept)
+keeps_nothing done (Order x) fits may kept = absurd may
+keeps_nothing done Close fits may kept = absurd may
 
-fits_local : (done : Draft) (h : ModuleHead) (ls : List Named) (os : List DraftOperation) (v : Named) → DraftFits (done ++ module_item h ls os ∷ [])
-    → MayStandInModule (length ls) (length os) (Local v) → ListingLineFits (Local v) → variable_at (next_line done + 1 + length ls) v ≡ v
-    → DraftFits (done ++ module_item h (ls ++ v ∷ []) os ∷ [])
-fits_local done h ls [] v fits may kept at =
+keeps_local : (done : Draft) (h : ModuleHead) (ls : List Named) (os : List DraftOperation) (v : Named) → Keeps (done ++ module_item h ls os ∷ [])
+    → MayStandInModule (length ls) (length os) (Local v) → ListingLineFits (Local v) → Keeps (done ++ module_item h (ls ++ v ∷ []) os ∷ [])
+keeps_local done h ls [] v fits may kept =
     joined done (module_item h (ls ++ v ∷ []) []) (front done (module_item h ls []) fits) (room done (module_item h ls []) fits)
-    (module_local (next_line done) h ls v (last done (module_item h ls []) fits) kept at may.1)
-fits_local done h ls (o ∷ os) v fits may kept at = absurd (omega (arith, may.0))
+    (module_local h ls v (last done (module_item h ls []) fits) kept may.1)
+keeps_local done h ls (o ∷ os) v fits may kept = absurd (omega (arith, may.0))
 
-fits_operation : (done : Draft) (h : ModuleHead) (ls : List Named) (os : List DraftOperation) (l : ListingLine) (o : DraftOperation) (k n : ℕ) → l ≡ line_of k o
-    → DraftFits (done ++ module_item h ls os ∷ []) → MayStandInModule (length ls) (length os) (line_of k o) → ListingLineFits (line_of k o) → lined_line n (line_of k o) ≡ line_of k o
-    → DraftFits (done ++ module_item h ls (os ++ o ∷ []) ∷ [])
-fits_operation done h ls os l o k n is fits may kept lined =
+keeps_operation : (done : Draft) (h : ModuleHead) (ls : List Named) (os : List DraftOperation) (o : DraftOperation) (k : ℕ)
+    → Keeps (done ++ module_item h ls os ∷ []) → MayStandInModule (length ls) (length os) (operation_line k o) → ListingLineFits (operation_line k o)
+    → Keeps (done ++ module_item h ls (os ++ o ∷ []) ∷ [])
+keeps_operation done h ls os o k fits may kept =
     joined done (module_item h ls (os ++ o ∷ [])) (front done (module_item h ls os) fits) (room done (module_item h ls os) fits)
-    (module_operation (next_line done) h ls os o (last done (module_item h ls os) fits) (subst (λ j. ListingLineFits (line_of j o)) may.0 kept) (cc, cc) may.1)
+    (module_operation h ls os o (last done (module_item h ls os) fits) (subst (λ j. ListingLineFits (operation_line j o)) may.0 kept) may.1)
 
-fits_order : (done : Draft) (n : Ident) (xs : List src.Order) (x : src.Order) → DraftFits (done ++ simple_item (Outside n xs) ∷ [])
-    → MayStandInClient (length xs) (Order x) → ListingLineFits (Order x) → order_at (next_line done + 1 + length xs) x ≡ x
-    → DraftFits (done ++ simple_item (Outside n (xs ++ x ∷ [])) ∷ [])
-fits_order done n xs x fits may kept at =
+keeps_order : (done : Draft) (n : Ident) (xs : List src.Order) (x : src.Order) → Keeps (done ++ simple_item (Outside n xs) ∷ [])
+    → MayStandInClient (length xs) (Order x) → ListingLineFits (Order x) → Keeps (done ++ simple_item (Outside n (xs ++ x ∷ [])) ∷ [])
+keeps_order done n xs x fits may kept =
     joined done (simple_item (Outside n (xs ++ x ∷ []))) (front done (simple_item (Outside n xs)) fits) (room done (simple_item (Outside n xs)) fits)
-    (client_order (next_line done) n xs x (last done (simple_item (Outside n xs)) fits) kept at may)
+    (client_order n xs x (last done (simple_item (Outside n xs)) fits) kept may)
 
-line_of_local : (done : Draft) (h : ModuleHead) (ls : List Named) (os : List DraftOperation) → length os ≡ 0 → length (said_as done (InModule h ls os)) + 1 ≡ next_line done + 1 + length ls
-line_of_local done h ls [] none =
-    omega (arith, length-append (draft_lines done) (Head h ∷ (map Local ls ++ [])), length-append (map Local ls) [], length-map ls Local)
-line_of_local done h ls (o ∷ os) none = absurd (omega arith)
+keeps_module : (done : Draft) (h : ModuleHead) (ls : List Named) (os : List DraftOperation) (l : ListingLine) → Keeps (done ++ module_item h ls os ∷ [])
+    → MayStandInModule (length ls) (length os) l → ListingLineFits l → Keeps (closed (in_module_with done h ls os l))
+keeps_module done h ls os Title fits may kept = absurd may
+keeps_module done h ls os (Item d) fits may kept = absurd may
+keeps_module done h ls os (Head g) fits may kept = absurd may
+keeps_module done h ls os (Local v) fits may kept = keeps_local done h ls os v fits may kept
+keeps_module done h ls os (Operation k p d i) fits may kept = keeps_operation done h ls os (record { place = p; depth = d; instruction = i }) k fits may kept
+keeps_module done h ls os End fits may kept = fits
+keeps_module done h ls os (Client n) fits may kept = absurd may
+keeps_module done h ls os (Order x) fits may kept = absurd may
+keeps_module done h ls os Close fits may kept = absurd may
 
-line_of_order : (done : Draft) (n : Ident) (xs : List src.Order) → length (said_as done (InClient n xs)) + 1 ≡ next_line done + 1 + length xs
-line_of_order done n xs = omega (arith, length-append (draft_lines done) (Client n ∷ map Order xs), length-map xs Order)
+keeps_client : (done : Draft) (n : Ident) (xs : List src.Order) (l : ListingLine) → Keeps (done ++ simple_item (Outside n xs) ∷ [])
+    → MayStandInClient (length xs) l → ListingLineFits l → Keeps (closed (in_client_with done n xs l))
+keeps_client done n xs Title fits may kept = absurd may
+keeps_client done n xs (Item d) fits may kept = absurd may
+keeps_client done n xs (Head h) fits may kept = absurd may
+keeps_client done n xs (Local v) fits may kept = absurd may
+keeps_client done n xs (Operation k p d i) fits may kept = absurd may
+keeps_client done n xs End fits may kept = absurd may
+keeps_client done n xs (Client m) fits may kept = absurd may
+keeps_client done n xs (Order x) fits may kept = keeps_order done n xs x fits may kept
+keeps_client done n xs Close fits may kept = fits
 
-fits_module : (done : Draft) (h : ModuleHead) (ls : List Named) (os : List DraftOperation) (l : ListingLine) → DraftFits (done ++ module_item h ls os ∷ [])
-    → MayStandInModule (length ls) (length os) l → ListingLineFits l → lined_line (length (said_as done (InModule h ls os)) + 1) l ≡ l → DraftFits (closed (in_module_with done h ls os l))
-fits_module done h ls os Title fits may kept lined = absurd may
-fits_module done h ls os (Item d) fits may kept lined = absurd may
-fits_module done h ls os (Head g) fits may kept lined = absurd may
-fits_module done h ls os (Local v) fits may kept lined =
-    let at : variable_at (length (said_as done (InModule h ls os)) + 1) v ≡ v = cc in
-    fits_local done h ls os v fits may kept (subst (λ k. variable_at k v ≡ v) (line_of_local done h ls os may.0) at)
-fits_module done h ls os (Operation k p d i) fits may kept lined =
-    fits_operation done h ls os (Operation k p d i) (record { place = p; depth = d; instruction = i }) k (length (said_as done (InModule h ls os)) + 1) refl fits may kept lined
-fits_module done h ls os End fits may kept lined = fits
-fits_module done h ls os (Client n) fits may kept lined = absurd may
-fits_module done h ls os (Order x) fits may kept lined = absurd may
-fits_module done h ls os Close fits may kept lined = absurd may
+keeps_as : (done : Draft) (b : Begun) (l : ListingLine) → Keeps (closed_as done b) → MayFollow (source_of done) b l → ListingLineFits l
+    → Keeps (closed (going_on done b l))
+keeps_as done Nothing l fits may kept = keeps_nothing done l fits may kept
+keeps_as done (InModule h ls os) l fits may kept = keeps_module done h ls os l fits may kept
+keeps_as done (InClient n xs) l fits may kept = keeps_client done n xs l fits may kept
 
-fits_client : (done : Draft) (n : Ident) (xs : List src.Order) (l : ListingLine) → DraftFits (done ++ simple_item (Outside n xs) ∷ [])
-    → MayStandInClient (length xs) l → ListingLineFits l → lined_line (length (said_as done (InClient n xs)) + 1) l ≡ l → DraftFits (closed (in_client_with done n xs l))
-fits_client done n xs Title fits may kept lined = absurd may
-fits_client done n xs (Item d) fits may kept lined = absurd may
-fits_client done n xs (Head h) fits may kept lined = absurd may
-fits_client done n xs (Local v) fits may kept lined = absurd may
-fits_client done n xs (Operation k p d i) fits may kept lined = absurd may
-fits_client done n xs End fits may kept lined = absurd may
-fits_client done n xs (Client m) fits may kept lined = absurd may
-fits_client done n xs (Order x) fits may kept lined =
-    let at : order_at (length (said_as done (InClient n xs)) + 1) x ≡ x = cc in
-    fits_order done n xs x fits may kept (subst (λ k. order_at k x ≡ x) (line_of_order done n xs) at)
-fits_client done n xs Close fits may kept lined = fits
+-- ---- offsets
 
-fits_as : (done : Draft) (b : Begun) (l : ListingLine) → DraftFits (closed_as done b) → MayFollow (source_of done) b l → ListingLineFits l
-    → lined_line (length (said_as done b) + 1) l ≡ l → DraftFits (closed (going_on done b l))
-fits_as done Nothing l fits may kept lined =
-    let line : length (draft_lines done) + 1 ≡ next_line done = omega arith in
-    fits_nothing done l fits may kept (subst (λ k. lined_line k l ≡ l) line lined)
-fits_as done (InModule h ls os) l fits may kept lined = fits_module done h ls os l fits may kept lined
-fits_as done (InClient n xs) l fits may kept lined = fits_client done n xs l fits may kept lined
+closing_lined : (n : ℕ) (b : Begun) → lines_at n (closing b) ≡ closing b
+closing_lined n Nothing = refl
+closing_lined n (InModule h ls os) = refl
+closing_lined n (InClient m xs) = refl
+
+-- where a line more stands at its offset, so does each line
+lined_more : (s : SoFar) (l : ListingLine) → DraftFits (closed s) → MayStand s l → ListingLineFits l → line_at (length (lines_text (said s))) l ≡ l
+    → lines_at 0 (draft_lines (closed (with_line s l))) ≡ draft_lines (closed (with_line s l))
+lined_more s l fits may kept lined =
+    let t = with_line s l in
+    let n = length (lines_text (said s)) in
+    let whole : draft_lines (closed t) ≡ said s ++ l ∷ closing t.begun =
+    closed_says t.done t.begun ∙ ap (λ xs. xs ++ closing t.begun) (says s l kept may) ∙ append_assoc (said s) (l ∷ []) (closing t.begun) in
+    let before : lines_at 0 (said s) ≡ said s = lined_left 0 (said s) (closing s.begun) (subst (λ xs. lines_at 0 xs ≡ xs) (closed_says s.done s.begun) fits.lined) in
+    let rest : lines_at n (l ∷ closing t.begun) ≡ l ∷ closing t.begun =
+    ap (λ x. x ∷ lines_at (n + length (line_text l)) (closing t.begun)) lined ∙ ap (λ xs. l ∷ xs) (closing_lined (n + length (line_text l)) t.begun) in
+    let all : lines_at 0 (said s ++ l ∷ closing t.begun) ≡ said s ++ l ∷ closing t.begun =
+    lined_append 0 (said s) (l ∷ closing t.begun) ∙ ap (λ xs. xs ++ lines_at (0 + n) (l ∷ closing t.begun)) before
+    ∙ ap (λ k. said s ++ lines_at k (l ∷ closing t.begun)) (zero-add n) ∙ ap (λ xs. said s ++ xs) rest in
+    subst (λ xs. lines_at 0 xs ≡ xs) (sym whole) all
 
 -- with one line more it stays within the limits
-pub fits_more : (s : SoFar) (l : ListingLine) → DraftFits (closed s) → MayStand s l → ListingLineFits l → lined_line (length (said s) + 1) l ≡ l → DraftFits (closed (with_line s l))
-fits_more s l fits may kept lined = fits_as s.done s.begun l fits may kept lined
+pub fits_more : (s : SoFar) (l : ListingLine) → DraftFits (closed s) → MayStand s l → ListingLineFits l → line_at (length (lines_text (said s))) l ≡ l → DraftFits (closed (with_line s l))
+fits_more s l fits may kept lined =
+    let grown = keeps_as s.done s.begun l (keeps (closed s) fits) may kept in
+    record { source = grown.source; items = grown.items; lines = grown.lines; lined = lined_more s l fits may kept lined }

@@ -1,5 +1,5 @@
 -- A draft with one declaration more keeps the limits where that declaration keeps them.
-use Rattle.std.proofs.Common.{◌≡◌, ℕ, ◌+◌, ◌<◌, ◌≤◌, Bool, true, false, [], ◌∷◌, ◌++◌, length, count_by, refl, sym, ap, subst, ◌∙◌, append-nil, add-zero, length-append, arith}
+use Rattle.std.proofs.Common.{◌≡◌, ℕ, ◌+◌, ◌<◌, ◌≤◌, Bool, true, false, [], ◌∷◌, ◌++◌, count_by, refl, sym, ap, subst, ◌∙◌, append-nil, arith}
 use Rattle.std.specs.List.{flat_map}
 use Rattle.std.proofs.lemmas.List.{map-append}
 use Rattle.std.proofs.lemmas.List.Sums.{sum_by-append}
@@ -8,9 +8,8 @@ use Rattle.loft_tree.specs.declared.limits.TheConstants.{MAX_SCHEDULERS, MAX_EVE
 use Rattle.loft_tree.specs.Source.{Declaration, Scheduler, Event, Shared, Module, Start, Outside, Source}
 use Rattle.loft_tree.specs.Fits.{Each, DeclarationFits, SourceFits, is_scheduler, is_event, is_shared, is_module, is_start, is_outside}
 use Rattle.loft_listing_line.specs.Rows.{Title}
-use Rattle.loft_listing_draft.specs.Drafts.{Draft, DraftItem, source_of, item_lines, draft_lines, ItemHolds, IsBare, lined_from, DraftFits}
+use Rattle.loft_listing_draft.specs.Drafts.{Draft, DraftItem, source_of, item_lines, draft_lines, ItemHolds, DraftFits}
 use Rattle.loft_listing_line.specs.RowsFit.{ListingLineFits}
-use Rattle.loft_listing_draft.specs.Lined.{lined_declaration}
 use Rattle.loft_listing_draft.specs.Taking.{HasRoom}
 use Rattle.loft_listing_draft.proofs.Lists.{each_append, each_left, each_right, one, count_end}
 
@@ -116,79 +115,45 @@ lines_after d i = flat_map-append item_lines d (i ∷ []) ∙ ap (λ ls. flat_ma
 pub lines_end : (d : Draft) (i : DraftItem) → draft_lines (d ++ i ∷ []) ≡ draft_lines d ++ item_lines i
 lines_end d i = ap (λ ls. Title ∷ ls) (lines_after d i)
 
--- the line on which the next declaration begins
-abbrev pub next_line : Draft → ℕ
-next_line d = 2 + length (flat_map item_lines d)
-
--- ---- offsets
-
-abbrev pub lined_item : ℕ → DraftItem → DraftItem
-lined_item line i = record { declaration = lined_declaration line i.declaration; operations = i.operations }
-
-further : (n : ℕ) (i : DraftItem) (xs : Draft) → n + length (item_lines i) + length (flat_map item_lines xs) ≡ n + length (flat_map item_lines (i ∷ xs))
-further n i xs = omega (arith, length-append (item_lines i) (flat_map item_lines xs))
-
-pub lined_append : (n : ℕ) (xs ys : Draft) → lined_from n (xs ++ ys) ≡ lined_from n xs ++ lined_from (n + length (flat_map item_lines xs)) ys
-lined_append n [] ys = ap (λ k. lined_from k ys) (sym (add-zero n))
-lined_append n (x ∷ xs) ys =
-    ap (λ zs. lined_item n x ∷ zs) (lined_append (n + length (item_lines x)) xs ys ∙ ap (λ k. lined_from (n + length (item_lines x)) xs ++ lined_from k ys) (further n x xs))
-
-pub lined_front : (n : ℕ) (xs ys : Draft) → lined_from n (xs ++ ys) ≡ xs ++ ys → lined_from n xs ≡ xs
-lined_front n [] ys same = refl
-lined_front n (x ∷ xs) ys same =
-    let first : lined_item n x ≡ x = cc in
-    let rest : lined_from (n + length (item_lines x)) (xs ++ ys) ≡ xs ++ ys = cc in
-    ap (λ i. i ∷ lined_from (n + length (item_lines x)) xs) first ∙ ap (λ is. x ∷ is) (lined_front (n + length (item_lines x)) xs ys rest)
-
-pub lined_back : (n : ℕ) (xs ys : Draft) → lined_from n (xs ++ ys) ≡ xs ++ ys → lined_from (n + length (flat_map item_lines xs)) ys ≡ ys
-lined_back n [] ys same = ap (λ k. lined_from k ys) (add-zero n) ∙ same
-lined_back n (x ∷ xs) ys same =
-    let rest : lined_from (n + length (item_lines x)) (xs ++ ys) ≡ xs ++ ys = cc in
-    ap (λ k. lined_from k ys) (sym (further n x xs)) ∙ lined_back (n + length (item_lines x)) xs ys rest
-
 -- ---- one declaration
 
--- a declaration of a fitting draft that begins on this line
-pub record ItemKeeps (line : ℕ) (i : DraftItem) : Type 0 where
+-- a declaration that keeps the limits, and so do its lines
+pub record ItemKeeps (i : DraftItem) : Type 0 where
   pub declaration : DeclarationFits i.declaration
   pub holds : ItemHolds i
   pub lines : Each ListingLineFits (item_lines i)
-  pub lined : lined_declaration line i.declaration ≡ i.declaration
-  pub bare : Each IsBare i.operations
 
-abbrev AreBare : DraftItem → Type 0
-AreBare i = Each IsBare i.operations
+-- a draft that keeps the limits
+pub record Keeps (d : Draft) : Type 0 where
+  pub source : SourceFits (source_of d)
+  pub items : Each ItemHolds d
+  pub lines : Each ListingLineFits (draft_lines d)
 
-pub joined : (d : Draft) (i : DraftItem) → DraftFits d → HasRoom (source_of d) i.declaration → ItemKeeps (next_line d) i → DraftFits (d ++ i ∷ [])
+pub keeps : (d : Draft) → DraftFits d → Keeps d
+keeps d fits = record { source = fits.source; items = fits.items; lines = fits.lines }
+
+pub joined : (d : Draft) (i : DraftItem) → Keeps d → HasRoom (source_of d) i.declaration → ItemKeeps i → Keeps (d ++ i ∷ [])
 joined d i fits room keeps = record {
   source = subst SourceFits (sym (source_end d i)) (source_join (source_of d) i.declaration fits.source keeps.declaration room);
   items = each_append ItemHolds d (i ∷ []) fits.items (keeps.holds, tt);
   lines = subst (Each ListingLineFits) (sym (lines_end d i)) (each_append ListingLineFits (draft_lines d) (item_lines i) fits.lines keeps.lines);
-  lined = lined_append 2 d (i ∷ []) ∙ ap (λ is. is ++ lined_item (next_line d) i ∷ []) fits.lined ∙ ap (λ v. d ++ record { declaration = v; operations = i.operations } ∷ []) keeps.lined;
-  bare = each_append AreBare d (i ∷ []) fits.bare (keeps.bare, tt);
 }
 
-pub front : (d : Draft) (i : DraftItem) → DraftFits (d ++ i ∷ []) → DraftFits d
+pub front : (d : Draft) (i : DraftItem) → Keeps (d ++ i ∷ []) → Keeps d
 front d i fits = record {
   source = source_left (source_of d) (i.declaration ∷ []) (subst SourceFits (source_end d i) fits.source);
   items = each_left ItemHolds d (i ∷ []) fits.items;
   lines = each_left ListingLineFits (draft_lines d) (item_lines i) (subst (Each ListingLineFits) (lines_end d i) fits.lines);
-  lined = lined_front 2 d (i ∷ []) fits.lined;
-  bare = each_left AreBare d (i ∷ []) fits.bare;
 }
 
-pub room : (d : Draft) (i : DraftItem) → DraftFits (d ++ i ∷ []) → HasRoom (source_of d) i.declaration
+pub room : (d : Draft) (i : DraftItem) → Keeps (d ++ i ∷ []) → HasRoom (source_of d) i.declaration
 room d i fits = source_room (source_of d) i.declaration (subst SourceFits (source_end d i) fits.source)
 
-pub last : (d : Draft) (i : DraftItem) → DraftFits (d ++ i ∷ []) → ItemKeeps (next_line d) i
+pub last : (d : Draft) (i : DraftItem) → Keeps (d ++ i ∷ []) → ItemKeeps i
 last d i fits =
-    let back = lined_back 2 d (i ∷ []) fits.lined in
-    let same : lined_item (next_line d) i ≡ i = cc in
     let source = subst SourceFits (source_end d i) fits.source in
     record {
       declaration = (each_right DeclarationFits (source_of d) (i.declaration ∷ []) source.each).0;
       holds = (each_right ItemHolds d (i ∷ []) fits.items).0;
       lines = each_right ListingLineFits (draft_lines d) (item_lines i) (subst (Each ListingLineFits) (lines_end d i) fits.lines);
-      lined = ap (λ j. j.declaration) same;
-      bare = (each_right AreBare d (i ∷ []) fits.bare).0;
     }

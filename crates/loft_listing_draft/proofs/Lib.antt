@@ -1,5 +1,6 @@
 pub mod Lists
 pub mod Offsets
+pub mod LinedLines
 pub mod Items
 pub mod Parts
 pub mod Growing

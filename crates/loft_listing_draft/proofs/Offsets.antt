@@ -1,4 +1,4 @@
--- Offsets don't matter for limits and texts, and a line as it stands in a listing has those of its line.
+-- Offsets don't matter for limits and texts, and the names of a line have the offset at which it stands.
 use Rattle.std.proofs.Common.{◌≡◌, ℕ, ◌≤◌, List, map, Option, Some, None, refl, sym, ap, subst, ◌∙◌}
 use Rattle.std.specs.Option.{option_map}
 use Rattle.std.proofs.lemmas.List.{length-map}
@@ -16,8 +16,7 @@ use Rattle.loft_listing_line.specs.Rows.{ListingLine, Title, Item, Head, Local, 
 use Rattle.loft_listing_line.specs.RowsFit.{IsOneLineItem, IsStatementOf, InstructionFits, ListingLineFits}
 use Rattle.loft_listing_line.specs.declared.sort.StatementSort.{StatementSort}
 use Rattle.loft_listing_line.proofs.Bare.{same_sort, same_line, action_line, stop_line}
-use Rattle.loft_listing_draft.specs.Lined.{name_at, variable_at, place_at, head_at, argument_at, order_at, lined_declaration}
-use Rattle.loft_listing_draft.specs.Taking.{lined_line}
+use Rattle.loft_listing_draft.specs.Lined.{name_at, variable_at, place_at, head_at, argument_at, order_at, item_at, line_at}
 use Rattle.loft_listing_draft.proofs.Lists.{each_map, there_map, map_twice, option_twice, map_same, option_same}
 
 -- ---- limits: expressions and statements
@@ -98,76 +97,76 @@ bare_place_fits Unlinked fits = tt
 
 -- ---- limits: declarations, heads and orders
 
-place_at_fits : (line : ℕ) (p : PlaceName) → PlaceFits p → PlaceFits (place_at line p)
-place_at_fits line (InScheduler n) fits = fits
-place_at_fits line Unlinked fits = tt
+place_at_fits : (here : ℕ) (p : PlaceName) → PlaceFits p → PlaceFits (place_at here p)
+place_at_fits here (InScheduler n) fits = fits
+place_at_fits here Unlinked fits = tt
 
-same_places : (line : ℕ) (p q : PlaceName) → same_place (place_at line p) (place_at line q) ≡ same_place p q
-same_places line (InScheduler m) (InScheduler n) = refl
-same_places line (InScheduler m) Unlinked = refl
-same_places line Unlinked (InScheduler n) = refl
-same_places line Unlinked Unlinked = refl
+same_places : (here : ℕ) (p q : PlaceName) → same_place (place_at here p) (place_at here q) ≡ same_place p q
+same_places here (InScheduler m) (InScheduler n) = refl
+same_places here (InScheduler m) Unlinked = refl
+same_places here Unlinked (InScheduler n) = refl
+same_places here Unlinked Unlinked = refl
 
-end_at_fits : (line : ℕ) (begin : PlaceName) (end : Option PlaceName) → EndFits begin end → EndFits (place_at line begin) (option_map (place_at line) end)
-end_at_fits line begin None fits = tt
-end_at_fits line begin (Some end) fits = (place_at_fits line end fits.0, same_places line begin end ∙ fits.1)
+end_at_fits : (here : ℕ) (begin : PlaceName) (end : Option PlaceName) → EndFits begin end → EndFits (place_at here begin) (option_map (place_at here) end)
+end_at_fits here begin None fits = tt
+end_at_fits here begin (Some end) fits = (place_at_fits here end fits.0, same_places here begin end ∙ fits.1)
 
-head_at_fits : (line : ℕ) (h : ModuleHead) → HeadFits h → HeadFits (head_at line h)
-head_at_fits line h fits =
+head_at_fits : (here : ℕ) (h : ModuleHead) → HeadFits h → HeadFits (head_at here h)
+head_at_fits here h fits =
     let few : ℕ → Type 0 = λ n. n ≤ MAX_PARAMETERS in
     record {
       name = fits.name;
-      parameters = each_map NamedFits NamedFits (variable_at line) (λ v is. is) h.parameters fits.parameters;
-      few_parameters = subst few (sym (length-map h.parameters (variable_at line))) fits.few_parameters;
-      begin = place_at_fits line h.begin fits.begin;
-      end = end_at_fits line h.begin h.end fits.end;
+      parameters = each_map NamedFits NamedFits (variable_at here) (λ v is. is) h.parameters fits.parameters;
+      few_parameters = subst few (sym (length-map h.parameters (variable_at here))) fits.few_parameters;
+      begin = place_at_fits here h.begin fits.begin;
+      end = end_at_fits here h.begin h.end fits.end;
     }
 
-argument_at_fits : (line : ℕ) (a : Argument) → ArgumentFits a → ArgumentFits (argument_at line a)
-argument_at_fits line (ANumber at value) fits = fits
-argument_at_fits line (AName n) fits = fits
+argument_at_fits : (here : ℕ) (a : Argument) → ArgumentFits a → ArgumentFits (argument_at here a)
+argument_at_fits here (ANumber at value) fits = fits
+argument_at_fits here (AName n) fits = fits
 
-call_at_fits : (line : ℕ) (scheduler called : src.Ident) (arguments : List Argument) → CallFits scheduler called arguments → CallFits (name_at line scheduler) (name_at line called) (map (argument_at line) arguments)
-call_at_fits line scheduler called arguments fits =
+call_at_fits : (here : ℕ) (scheduler called : src.Ident) (arguments : List Argument) → CallFits scheduler called arguments → CallFits (name_at here scheduler) (name_at here called) (map (argument_at here) arguments)
+call_at_fits here scheduler called arguments fits =
     let few : ℕ → Type 0 = λ n. n ≤ MAX_ARGUMENTS in
     record {
       there = fits.there;
       runs = fits.runs;
-      each = each_map ArgumentFits ArgumentFits (argument_at line) (argument_at_fits line) arguments fits.each;
-      few = subst few (sym (length-map arguments (argument_at line))) fits.few;
+      each = each_map ArgumentFits ArgumentFits (argument_at here) (argument_at_fits here) arguments fits.each;
+      few = subst few (sym (length-map arguments (argument_at here))) fits.few;
     }
 
-order_at_fits : (line : ℕ) (x : src.Order) → OrderFits x → OrderFits (order_at line x)
-order_at_fits line (CreateThere scheduler called arguments) fits = call_at_fits line scheduler called arguments fits
-order_at_fits line (ControlThere control thread scheduler) fits = fits
-order_at_fits line (BroadcastThere event value) fits = fits
+order_at_fits : (here : ℕ) (x : src.Order) → OrderFits x → OrderFits (order_at here x)
+order_at_fits here (CreateThere scheduler called arguments) fits = call_at_fits here scheduler called arguments fits
+order_at_fits here (ControlThere control thread scheduler) fits = fits
+order_at_fits here (BroadcastThere event value) fits = fits
 
-one_line_item : (line : ℕ) (d : Declaration) → IsOneLineItem d → IsOneLineItem (lined_declaration line d)
-one_line_item line (Scheduler n) is = tt
-one_line_item line (Event n scheduler) is = tt
-one_line_item line (Shared n scheduler value) is = tt
-one_line_item line (Module head locals body) is = is
-one_line_item line (Start scheduler called arguments n) is = tt
-one_line_item line (Outside n orders) is = is
+one_line_item : (here : ℕ) (d : Declaration) → IsOneLineItem d → IsOneLineItem (item_at here d)
+one_line_item here (Scheduler n) is = tt
+one_line_item here (Event n scheduler) is = tt
+one_line_item here (Shared n scheduler value) is = tt
+one_line_item here (Module head locals body) is = is
+one_line_item here (Start scheduler called arguments n) is = tt
+one_line_item here (Outside n orders) is = is
 
-item_at_fits : (line : ℕ) (d : Declaration) → IsOneLineItem d → DeclarationFits d → DeclarationFits (lined_declaration line d)
-item_at_fits line (Scheduler n) is fits = fits
-item_at_fits line (Event n scheduler) is fits = fits
-item_at_fits line (Shared n scheduler value) is fits = fits
-item_at_fits line (Module head locals body) is fits = absurd is
-item_at_fits line (Start scheduler called arguments n) is fits = (call_at_fits line scheduler called arguments fits.0, there_map NameFits NameFits (name_at line) (λ m ok. ok) n fits.1)
-item_at_fits line (Outside n orders) is fits = absurd is
+item_at_fits : (here : ℕ) (d : Declaration) → IsOneLineItem d → DeclarationFits d → DeclarationFits (item_at here d)
+item_at_fits here (Scheduler n) is fits = fits
+item_at_fits here (Event n scheduler) is fits = fits
+item_at_fits here (Shared n scheduler value) is fits = fits
+item_at_fits here (Module head locals body) is fits = absurd is
+item_at_fits here (Start scheduler called arguments n) is fits = (call_at_fits here scheduler called arguments fits.0, there_map NameFits NameFits (name_at here) (λ m ok. ok) n fits.1)
+item_at_fits here (Outside n orders) is fits = absurd is
 
-pub line_at_fits : (line : ℕ) (l : ListingLine) → ListingLineFits l → ListingLineFits (lined_line line l)
-line_at_fits line Title fits = tt
-line_at_fits line (Item d) fits = (one_line_item line d fits.0, item_at_fits line d fits.0 fits.1)
-line_at_fits line (Head h) fits = head_at_fits line h fits
-line_at_fits line (Local v) fits = fits
-line_at_fits line (Operation k p d i) fits = (fits.0, bare_place_fits p fits.1, fits.2, bare_instruction_fits i fits.3)
-line_at_fits line End fits = tt
-line_at_fits line (Client n) fits = fits
-line_at_fits line (Order x) fits = order_at_fits line x fits
-line_at_fits line Close fits = tt
+pub line_at_fits : (here : ℕ) (l : ListingLine) → ListingLineFits l → ListingLineFits (line_at here l)
+line_at_fits here Title fits = tt
+line_at_fits here (Item d) fits = (one_line_item here d fits.0, item_at_fits here d fits.0 fits.1)
+line_at_fits here (Head h) fits = head_at_fits here h fits
+line_at_fits here (Local v) fits = fits
+line_at_fits here (Operation k p d i) fits = (fits.0, bare_place_fits p fits.1, fits.2, bare_instruction_fits i fits.3)
+line_at_fits here End fits = tt
+line_at_fits here (Client n) fits = fits
+line_at_fits here (Order x) fits = order_at_fits here x fits
+line_at_fits here Close fits = tt
 
 -- ---- offsets twice: expressions and statements
 
@@ -243,7 +242,7 @@ same_parts : (name : src.Ident) (ps qs : List Named) (b c : PlaceName) (e f : Op
 same_parts name ps qs b c e f parameters begin end =
     ap (λ v. head_with name v b e) parameters ∙ ap (λ v. head_with name qs v e) begin ∙ ap (λ v. head_with name qs c v) end
 
--- on line m, after line n
+-- at offset m, after offset n
 module _ (m n : ℕ) where
   place_twice : (p : PlaceName) → place_at m (place_at n p) ≡ place_at m p
   place_twice (InScheduler name) = refl
@@ -268,7 +267,7 @@ module _ (m n : ℕ) where
   order_twice (ControlThere control thread scheduler) = refl
   order_twice (BroadcastThere event value) = refl
 
-  item_twice : (d : Declaration) → IsOneLineItem d → lined_declaration m (lined_declaration n d) ≡ lined_declaration m d
+  item_twice : (d : Declaration) → IsOneLineItem d → item_at m (item_at n d) ≡ item_at m d
   item_twice (Scheduler name) is = refl
   item_twice (Event name scheduler) is = refl
   item_twice (Shared name scheduler value) is = refl
@@ -278,7 +277,7 @@ module _ (m n : ℕ) where
       ∙ ap (λ v. Start (name_at m scheduler) (name_at m called) (map (argument_at m) arguments) v) (option_twice (name_at m) (name_at n) (name_at m) (λ x. refl) name)
   item_twice (Outside name orders) is = absurd is
 
--- without offsets is as on line 0
+-- without offsets is as at offset 0
 place_bare : (p : PlaceName) → bare_place p ≡ place_at 0 p
 place_bare (InScheduler name) = refl
 place_bare Unlinked = refl
@@ -301,7 +300,7 @@ order_bare (CreateThere scheduler called arguments) = ap (λ v. CreateThere (bar
 order_bare (ControlThere control thread scheduler) = refl
 order_bare (BroadcastThere event value) = refl
 
-item_bare : (d : Declaration) → IsOneLineItem d → bare_declaration d ≡ lined_declaration 0 d
+item_bare : (d : Declaration) → IsOneLineItem d → bare_declaration d ≡ item_at 0 d
 item_bare (Scheduler name) is = refl
 item_bare (Event name scheduler) is = refl
 item_bare (Shared name scheduler value) is = refl
@@ -311,7 +310,7 @@ item_bare (Start scheduler called arguments name) is =
     ∙ ap (λ v. Start (bare_name scheduler) (bare_name called) (map (argument_at 0) arguments) v) (option_same bare_name (name_at 0) (λ x. refl) name)
 item_bare (Outside name orders) is = absurd is
 
-line_bare : (l : ListingLine) → ListingLineFits l → bare_line l ≡ lined_line 0 l
+line_bare : (l : ListingLine) → ListingLineFits l → bare_line l ≡ line_at 0 l
 line_bare Title fits = refl
 line_bare (Item d) fits = ap Item (item_bare d fits.0)
 line_bare (Head h) fits = ap Head (head_bare h)
@@ -322,8 +321,8 @@ line_bare (Client name) fits = refl
 line_bare (Order x) fits = ap Order (order_bare x)
 line_bare Close fits = refl
 
--- a line as it stands on line m has the offsets of that line, whatever it had
-pub line_twice : (m n : ℕ) (l : ListingLine) → ListingLineFits l → lined_line m (lined_line n l) ≡ lined_line m l
+-- a line at offset m has that offset, whatever it had
+pub line_twice : (m n : ℕ) (l : ListingLine) → ListingLineFits l → line_at m (line_at n l) ≡ line_at m l
 line_twice m n Title fits = refl
 line_twice m n (Item d) fits = ap Item (item_twice m n d fits.0)
 line_twice m n (Head h) fits = ap Head (head_twice m n h)
@@ -334,13 +333,13 @@ line_twice m n (Client name) fits = refl
 line_twice m n (Order x) fits = ap Order (order_twice m n x)
 line_twice m n Close fits = refl
 
--- lines that are equal but for their offsets are the same on a line
-pub same_lined : (line : ℕ) (l m : ListingLine) → ListingLineFits l → ListingLineFits m → bare_line l ≡ bare_line m → lined_line line l ≡ lined_line line m
-same_lined line l m first second same =
-    sym (line_twice line 0 l first) ∙ ap (lined_line line) (sym (line_bare l first) ∙ same ∙ line_bare m second) ∙ line_twice line 0 m second
+-- lines that are equal but for their offsets are the same at one offset
+pub same_lined : (here : ℕ) (l m : ListingLine) → ListingLineFits l → ListingLineFits m → bare_line l ≡ bare_line m → line_at here l ≡ line_at here m
+same_lined here l m first second same =
+    sym (line_twice here 0 l first) ∙ ap (line_at here) (sym (line_bare l first) ∙ same ∙ line_bare m second) ∙ line_twice here 0 m second
 
 -- the text of a line has no offsets
-pub line_at_text : (line : ℕ) (l : ListingLine) → ListingLineFits l → line_text (lined_line line l) ≡ line_text l
-line_at_text line l fits =
-    let there = line_at_fits line l fits in
-    sym (same_line (lined_line line l) there) ∙ ap line_text (line_bare (lined_line line l) there ∙ line_twice 0 line l fits ∙ sym (line_bare l fits)) ∙ same_line l fits
+pub line_at_text : (here : ℕ) (l : ListingLine) → ListingLineFits l → line_text (line_at here l) ≡ line_text l
+line_at_text here l fits =
+    let there = line_at_fits here l fits in
+    sym (same_line (line_at here l) there) ∙ ap line_text (line_bare (line_at here l) there ∙ line_twice 0 here l fits ∙ sym (line_bare l fits)) ∙ same_line l fits

@@ -1,12 +1,12 @@
 -- Where a text stops, and what it says there, is one number and one draft.
-use Rattle.std.proofs.Common.{◌≡◌, ◌≢◌, ℕ, zero, suc, ◌+◌, ◌⊎◌, inl, inr, List, [], ◌∷◌, ◌++◌, length, refl, sym, ap, subst, ◌∙◌, append-nil, append_assoc, arith}
+use Rattle.std.proofs.Common.{◌≡◌, ◌≢◌, ℕ, zero, suc, ◌⊎◌, inl, inr, List, [], ◌∷◌, ◌++◌, length, refl, sym, ap, subst, ◌∙◌, append-nil, append_assoc, arith}
 use Rattle.std.specs.List.{flat_map, Contains}
 use Rattle.std.proofs.lemmas.List.{append_cancel_left}
 use Rattle.loft_listing_line.specs.Rows.{ListingLine, Title, End, Close, line_text}
 use Rattle.loft_listing_draft.specs.Drafts.{Draft, item_lines, lines_text}
 use Rattle.loft_listing_draft.specs.Stops.{IsBegun, StopsAfter, StopsAt, closings}
 use Rattle.loft_listing_draft.specs.Taking.{Begun, Nothing, InModule, InClient, SoFar, closed, closing}
-use Rattle.loft_listing_draft.proofs.Walking.{start, so_far, AllStand, with_lines, with_lines-append, stands_after, walks}
+use Rattle.loft_listing_draft.proofs.Walking.{start, so_far, AllStand, with_lines, with_lines-append, stands_after, walks, after_lines}
 use Rattle.loft_listing_draft.proofs.Following.{Begins, Agree, Follows, Stuck, none_fits, lines_apart, begun_lines, begun_next, may_next, closed_lines}
 
 -- ---- the lines before the stop
@@ -75,14 +75,14 @@ never_whole b xs back rest closes left (inr other) none over = other (sym closes
 
 -- ---- the stop
 
--- a text whose lines are taken as far as they stand says this draft before line n
+-- a text whose lines are taken as far as they stand says this draft before offset n
 pub record StopsSo (ls : List ListingLine) (rest : List ℕ) (d : Draft) (n : ℕ) : Type 0 where
   pub draft : closed (with_lines start ls) ≡ d
-  pub line : n ≡ 2 + length ls
+  pub here : n ≡ after_lines ls
   pub other : (with_lines start ls).begun ≡ Nothing → rest ≡ [] → ⊥
 
 stops_there : (text : List ℕ) (ls : List ListingLine) (rest : List ℕ) (d : Draft) (n : ℕ) (ks cl : List ListingLine) (back : List ℕ) → Follows text ls rest → Stuck ls rest
-    → StopsAfter (line_text Title ++ text) d (Title ∷ ks) cl back → n ≡ length (Title ∷ ks) + 1 → StopsSo ls rest d n
+    → StopsAfter (line_text Title ++ text) d (Title ∷ ks) cl back → n ≡ after_lines ks → StopsSo ls rest d n
 stops_there text ls rest d n ks cl back follows stuck at is =
     let lines : flat_map item_lines d ≡ ks ++ cl = cc (at.said) in
     let own = append_cancel_left (line_text Title) text (lines_text ks ++ back) (at.written ∙ append_assoc (line_text Title) (lines_text ks) back) in
@@ -95,7 +95,7 @@ stops_there text ls rest d n ks cl back follows stuck at is =
     let closes = closes_as (with_lines start ls) d cl at.closes (stands_after start ls cl (subst (AllStand start) all walk.stands)) comes in
     record {
       draft = closes.0;
-      line = omega (arith, is, ap length same);
+      here = is ∙ ap after_lines same;
       other = never_whole (with_lines start ls).begun cl back rest closes.1 left at.unfinished;
     }
 
@@ -105,7 +105,7 @@ stops_so text ls rest d n follows stuck ([], cl, back, at, is) = absurd (at.stop
 stops_so text ls rest d n follows stuck (k ∷ ks, cl, back, at, is) =
     let first : k ≡ Title = cc (at.said) in
     let P : ListingLine → Type 0 = λ x. StopsAfter (line_text Title ++ text) d (x ∷ ks) cl back in
-    stops_there text ls rest d n ks cl back follows stuck (subst P first at) is
+    stops_there text ls rest d n ks cl back follows stuck (subst P first at) (is ∙ ap (λ x. length (lines_text (x ∷ ks))) first)
 
 -- ---- a text that doesn't begin as a listing
 
@@ -114,11 +114,11 @@ no_lines d xs there =
     let P : List ListingLine → Type 0 = λ ys. Title ∷ flat_map item_lines d ≡ ys → flat_map item_lines d ≡ [] in
     one_closing P (λ e. absurd cc) (λ e. absurd cc) (λ e. absurd cc) (λ e. cc) xs there
 
-pub first_stop : (text : List ℕ) (d : Draft) (n : ℕ) → ((rest : List ℕ) → text ≡ line_text Title ++ rest → ⊥) → StopsAt text d n → (d ≡ []) × (n ≡ 1)
+pub first_stop : (text : List ℕ) (d : Draft) (n : ℕ) → ((rest : List ℕ) → text ≡ line_text Title ++ rest → ⊥) → StopsAt text d n → (d ≡ []) × (n ≡ 0)
 first_stop text d n never ([], cl, back, at, is) =
     let none = no_lines d cl at.closes at.said in
     let comes : start ≡ so_far d Nothing = ap (with_lines start) (sym none) ∙ (walks d at.fits).comes in
-    (sym (ap (λ t. t.done) comes), omega (arith, is))
+    (sym (ap (λ t. t.done) comes), is)
 first_stop text d n never (k ∷ ks, cl, back, at, is) =
     let first : k ≡ Title = cc (at.said) in
     absurd (never (lines_text ks ++ back) (at.written ∙ append_assoc (line_text k) (lines_text ks) back ∙ ap (λ x. line_text x ++ (lines_text ks ++ back)) first))

@@ -1,5 +1,5 @@
 -- The lines of a draft within the limits may stand one after the other, and they say that draft.
-use Rattle.std.proofs.Common.{◌≡◌, ℕ, ◌+◌, ◌≤◌, List, [], ◌∷◌, ◌++◌, map, length, refl, sym, ap, subst, ◌∙◌, append-nil, append_assoc, add-zero, length-append, arith}
+use Rattle.std.proofs.Common.{◌≡◌, ℕ, ◌+◌, ◌≤◌, List, [], ◌∷◌, ◌++◌, map, length, refl, sym, ap, subst, ◌∙◌, append-nil, append_assoc, zero-add, length-append, arith}
 use Rattle.std.specs.List.{flat_map}
 use Rattle.std.proofs.lemmas.List.{map-append}
 use Rattle.loft_tree.specs.declared.limits.TheConstants.{MAX_LOCALS, MAX_ORDERS}
@@ -7,12 +7,12 @@ use Rattle.loft_tree.specs.Source as src
 use Rattle.loft_tree.specs.Source.{Ident, Named, ModuleHead, Declaration, Scheduler, Event, Shared, Module, Start, Outside, Statements, Done}
 use Rattle.loft_tree.specs.Fits.{Each, DeclarationFits, SourceFits}
 use Rattle.loft_code.specs.declared.limits.TheConstants.{MAX_OPERATIONS}
-use Rattle.loft_listing_line.specs.Instructions.{bare_instruction}
-use Rattle.loft_listing_line.specs.Rows.{ListingLine, Item, Head, Local, Operation, End, Client, Order, Close}
-use Rattle.loft_listing_draft.specs.Drafts.{Draft, DraftItem, DraftOperation, DraftFits, HasOperations, ItemHolds, IsBare, source_of, operation_lines, declaration_lines, item_lines, lined_from}
-use Rattle.loft_listing_draft.specs.Lined.{head_at, variable_at, name_at, order_at, locals_from, orders_from, lined_declaration}
-use Rattle.loft_listing_draft.specs.Taking.{Begun, Nothing, InModule, InClient, SoFar, HasRoom, MayStand, with_line, lined_line}
-use Rattle.loft_listing_draft.proofs.Items.{source_left, source_room, source_end, lined_item}
+use Rattle.loft_listing_line.specs.Rows.{ListingLine, Title, Item, Head, Local, End, Client, Order, Close}
+use Rattle.loft_listing_draft.specs.Drafts.{Draft, DraftItem, DraftOperation, DraftFits, HasOperations, ItemHolds, source_of, operation_lines, declaration_lines, item_lines, lines_text}
+use Rattle.loft_listing_draft.specs.Lined.{line_at, lines_at}
+use Rattle.loft_listing_draft.specs.Taking.{Begun, Nothing, InModule, InClient, SoFar, HasRoom, MayStand, with_line}
+use Rattle.loft_listing_draft.proofs.Items.{source_left, source_room, source_end}
+use Rattle.loft_listing_draft.proofs.LinedLines.{lined_next}
 
 -- ---- lines one after the other
 
@@ -152,68 +152,12 @@ walks d fits = walk_draft [] d fits.source fits.items
 
 -- ---- offsets
 
-abbrev AreLined : ℕ → List ListingLine → Type 0
-AreLined n [] = Unit {0}
-AreLined n (l ∷ ls) = (lined_line n l ≡ l) × AreLined (n + 1) ls
+-- the offset after the first line and these
+abbrev pub after_lines : List ListingLine → ℕ
+after_lines ls = length (lines_text (Title ∷ ls))
 
-lined_join : (n : ℕ) (xs ys : List ListingLine) → AreLined n xs → AreLined (n + length xs) ys → AreLined n (xs ++ ys)
-lined_join n [] ys first rest = subst (λ k. AreLined k ys) (add-zero n) rest
-lined_join n (x ∷ xs) ys first rest =
-    let further : n + length (x ∷ xs) ≡ n + 1 + length xs = omega arith in (first.0, lined_join (n + 1) xs ys first.1 (subst (λ k. AreLined k ys) further rest))
-
-lined_locals : (n : ℕ) (ls : List Named) → locals_from n ls ≡ ls → AreLined n (map Local ls)
-lined_locals n [] same = tt
-lined_locals n (v ∷ vs) same =
-    let first : variable_at n v ≡ v = cc in
-    let rest : locals_from (n + 1) vs ≡ vs = cc in
-    (ap Local first, lined_locals (n + 1) vs rest)
-
-lined_orders : (n : ℕ) (xs : List src.Order) → orders_from n xs ≡ xs → AreLined n (map Order xs)
-lined_orders n [] same = tt
-lined_orders n (x ∷ xs) same =
-    let first : order_at n x ≡ x = cc in
-    let rest : orders_from (n + 1) xs ≡ xs = cc in
-    (ap Order first, lined_orders (n + 1) xs rest)
-
-lined_operations : (n k : ℕ) (os : List DraftOperation) → Each IsBare os → AreLined n (operation_lines k os)
-lined_operations n k [] bare = tt
-lined_operations n k (o ∷ os) bare =
-    (ap (λ p. Operation k p o.depth (bare_instruction o.instruction)) bare.0.0 ∙ ap (λ i. Operation k o.place o.depth i) bare.0.1, lined_operations (n + 1) (k + 1) os bare.1)
-
-lined_module : (n : ℕ) (h : ModuleHead) (ls : List Named) (body : Statements) (os : List DraftOperation) → lined_declaration n (Module h ls body) ≡ Module h ls body → Each IsBare os
-    → AreLined n (Head h ∷ (map Local ls ++ (operation_lines 0 os ++ End ∷ [])))
-lined_module n h ls body os same bare =
-    let head : head_at n h ≡ h = cc in
-    let locals : locals_from (n + 1) ls ≡ ls = cc in
-    let k = n + 1 + length (map Local ls) in
-    (ap Head head, lined_join (n + 1) (map Local ls) (operation_lines 0 os ++ End ∷ []) (lined_locals (n + 1) ls locals) (lined_join k (operation_lines 0 os) (End ∷ []) (lined_operations k 0 os bare) (refl, tt)))
-
-lined_client : (n : ℕ) (name : Ident) (xs : List src.Order) → lined_declaration n (Outside name xs) ≡ Outside name xs → AreLined n (Client name ∷ (map Order xs ++ Close ∷ []))
-lined_client n name xs same =
-    let first : name_at n name ≡ name = cc in
-    let orders : orders_from (n + 1) xs ≡ xs = cc in
-    (ap Client first, lined_join (n + 1) (map Order xs) (Close ∷ []) (lined_orders (n + 1) xs orders) (refl, tt))
-
-lined_lines : (n : ℕ) (d : Declaration) (os : List DraftOperation) → lined_declaration n d ≡ d → Each IsBare os → AreLined n (declaration_lines d os)
-lined_lines n (Scheduler name) os same bare = (ap Item same, tt)
-lined_lines n (Event name s) os same bare = (ap Item same, tt)
-lined_lines n (Shared name s v) os same bare = (ap Item same, tt)
-lined_lines n (Module h ls body) os same bare = lined_module n h ls body os same bare
-lined_lines n (Start s c args name) os same bare = (ap Item same, tt)
-lined_lines n (Outside name xs) os same bare = lined_client n name xs same
-
-lined_draft : (n : ℕ) (d : Draft) → lined_from n d ≡ d → Each (λ i. Each IsBare i.operations) d → AreLined n (flat_map item_lines d)
-lined_draft n [] same bare = tt
-lined_draft n (i ∷ is) same bare =
-    let first : lined_item n i ≡ i = cc in
-    let rest : lined_from (n + length (item_lines i)) is ≡ is = cc in
-    lined_join n (item_lines i) (flat_map item_lines is) (lined_lines n i.declaration i.operations (ap (λ j. j.declaration) first) bare.0) (lined_draft (n + length (item_lines i)) is rest bare.1)
-
-lined_next : (n : ℕ) (ls : List ListingLine) (l : ListingLine) (more : List ListingLine) → AreLined n (ls ++ l ∷ more) → lined_line (n + length ls) l ≡ l
-lined_next n [] l more all = subst (λ k. lined_line k l ≡ l) (sym (add-zero n)) all.0
-lined_next n (k ∷ ks) l more all =
-    let further : n + 1 + length ks ≡ n + length (k ∷ ks) = omega arith in subst (λ j. lined_line j l ≡ l) further (lined_next (n + 1) ks l more all.1)
-
--- each line of a draft has the offsets of its number
-pub lined_at : (d : Draft) (ls : List ListingLine) (l : ListingLine) (more : List ListingLine) → DraftFits d → flat_map item_lines d ≡ ls ++ l ∷ more → lined_line (2 + length ls) l ≡ l
-lined_at d ls l more fits is = lined_next 2 ls l more (subst (AreLined 2) is (lined_draft 2 d fits.lined fits.bare))
+-- a line of a draft stands at its offset
+pub lined_at : (d : Draft) (ls : List ListingLine) (l : ListingLine) (more : List ListingLine) → DraftFits d → flat_map item_lines d ≡ ls ++ l ∷ more → line_at (after_lines ls) l ≡ l
+lined_at d ls l more fits is =
+    let all = subst (λ xs. lines_at 0 (Title ∷ xs) ≡ Title ∷ xs) is fits.lined in
+    subst (λ n. line_at n l ≡ l) (zero-add (after_lines ls)) (lined_next 0 (Title ∷ ls) l more all)

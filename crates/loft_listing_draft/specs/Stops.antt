@@ -1,5 +1,5 @@
 -- Where a listing stops: at the first line where none goes on so (docs/CODE.md, "What a listing says").
-use Rattle.std.specs.Prelude.{◌≡◌, ◌≢◌, ℕ, ◌+◌, ◌⊎◌, List, [], ◌∷◌, ◌++◌, length}
+use Rattle.std.specs.Prelude.{◌≡◌, ◌≢◌, ℕ, ◌⊎◌, List, [], ◌∷◌, ◌++◌, length}
 use Rattle.std.specs.List.{Contains}
 use Rattle.loft_listing_line.specs.Rows.{ListingLine, Title, End, Close, line_text}
 use Rattle.loft_listing_draft.specs.Drafts.{Draft, DraftFits, draft_lines, lines_text}
@@ -22,7 +22,7 @@ pub record StopsAfter (text : List ℕ) (d : Draft) (lines closing : List Listin
   pub unfinished : (rest ≢ []) ⊎ (closing ≢ [])
   pub stops : (l : ListingLine) (after : List ℕ) → IsBegun (lines ++ l ∷ []) → rest ≢ line_text l ++ after
 
--- The text says this draft before line n, counted from 1, and stops there.
+-- The text says this draft before the line at this offset, and stops there.
 abbrev pub StopsAt : List ℕ → Draft → ℕ → Type 0
-StopsAt text d n =
-    (lines : List ListingLine) × (closing : List ListingLine) × (rest : List ℕ) × StopsAfter text d lines closing rest × (n ≡ length lines + 1)
+StopsAt text d at =
+    (lines : List ListingLine) × (closing : List ListingLine) × (rest : List ℕ) × StopsAfter text d lines closing rest × (at ≡ length (lines_text lines))

@@ -6,11 +6,8 @@ use Rattle.loft_tree.specs.Source as src
 use Rattle.loft_tree.specs.Source.{Ident, Named, ModuleHead, Declaration, Scheduler, Event, Shared, Module, Start, Outside, Source, Done}
 use Rattle.loft_tree.specs.Fits.{is_scheduler, is_event, is_shared, is_module, is_start, is_outside}
 use Rattle.loft_code.specs.declared.limits.TheConstants.{MAX_OPERATIONS}
-use Rattle.loft_show.specs.Places.{bare_place}
-use Rattle.loft_listing_line.specs.Instructions.{bare_instruction}
 use Rattle.loft_listing_line.specs.Rows.{ListingLine, Title, Item, Head, Local, Operation, End, Client, Order, Close}
 use Rattle.loft_listing_draft.specs.Drafts.{Draft, DraftItem, DraftOperation, source_of}
-use Rattle.loft_listing_draft.specs.Lined.{lined_declaration, head_at, variable_at, name_at, order_at}
 
 -- the declaration that isn't closed yet
 pub data Begun : Type 0 where
@@ -22,18 +19,6 @@ pub data Begun : Type 0 where
 pub record SoFar : Type 0 where
   pub done : Draft
   pub begun : Begun
-
--- a line as it stands in a listing as line n
-abbrev pub lined_line : ℕ → ListingLine → ListingLine
-lined_line n Title = Title
-lined_line n (Item d) = Item (lined_declaration n d)
-lined_line n (Head h) = Head (head_at n h)
-lined_line n (Local v) = Local (variable_at n v)
-lined_line n (Operation k p d i) = Operation k (bare_place p) d (bare_instruction i)
-lined_line n End = End
-lined_line n (Client name) = Client (name_at n name)
-lined_line n (Order x) = Order (order_at n x)
-lined_line n Close = Close
 
 -- ---- what may come next
 

@@ -4,10 +4,10 @@
 mod closed;
 mod counts;
 mod draft;
-mod lined;
+mod placed;
 mod read;
 mod sofar;
 mod take;
 
-pub use draft::{Draft, Drafted, MAX_LISTING_LEN};
+pub use draft::{Draft, Drafted, MAX_LISTING_LEN, OperationLine};
 pub use read::read_draft;

@@ -13,7 +13,7 @@ ghost use Rattle.loft_listing_draft.specs.Taking.{closed};
 use crate::closed::Closed;
 use crate::draft::{Drafted, MAX_LISTING_LEN};
 use crate::sofar::{Open, SoFar};
-use crate::take::{Spot, Taken};
+use crate::take::Taken;
 use loft_base::{NoMemory, Room};
 use loft_listing_line::{first_line, read_row};
 use std::alloc::Global;
@@ -25,20 +25,15 @@ const TITLE: &[u8] = b"loft-listing 1\n";
 #[derive(Drop)]
 enum Next<'a> {
     /// What the lines say with this one, and the text after it.
-    More(SoFar<'a>, &'a [u8]),
+    More(SoFar, &'a [u8]),
     /// The text stops here: what the lines before say.
-    Stop(SoFar<'a>),
+    Stop(SoFar),
 }
 
-/// The next line, which has this number.
-fn take_line<'a>(
-    alloc: Global,
-    sofar: SoFar<'a>,
-    line: u32,
-    text: &'a [u8],
-) -> Result<Next<'a>, NoMemory>
+/// The next line, which stands at this offset.
+fn take_line<'a>(alloc: Global, sofar: SoFar, at: u32, text: &'a [u8]) -> Result<Next<'a>, NoMemory>
     requires short { length text.now ≤ MAX_LISTING_LEN }
-    ensures { IfOk result (Follows sofar.entry line text.now) }
+    ensures { IfOk result (Follows sofar at text.now) }
 {
     let Some((written, after)) = first_line(text) else {
         return Ok(Next::Stop(sofar));
@@ -46,10 +41,8 @@ fn take_line<'a>(
     let Some(row) = read_row(alloc, written)? else {
         return Ok(Next::Stop(sofar));
     };
-    let spot = Spot { line, text, after };
     let mut room = Room::new(alloc);
-    let taken = sofar.take(&mut room, &row, spot);
-    drop(row);
+    let taken = sofar.take(&mut room, row, at);
     match room.done(taken) {
         Ok(Taken::More(more)) => Ok(Next::More(more, after)),
         Ok(Taken::Stop(same)) => Ok(Next::Stop(same)),
@@ -68,23 +61,18 @@ fn after_title(text: &[u8]) -> Option<&[u8]>
 }
 
 /// What stands after the lines that are taken.
-fn finish<'a>(
-    alloc: Global,
-    sofar: SoFar<'a>,
-    line: u32,
-    rest: &'a [u8],
-) -> Result<Drafted<'a>, NoMemory>
-    ensures { (s : plain.SoFar) → Holds sofar.entry rest.now s → IfOk result (λ r.
-        IsInMemory r.draft (closed s) × EndsAt s.begun rest.now line r.stop) }
+fn finish(alloc: Global, sofar: SoFar, at: u32, rest: &[u8]) -> Result<Drafted, NoMemory>
+    ensures { (s : plain.SoFar) → Holds sofar at s → IfOk result (λ r.
+        IsInMemory r.draft (closed s) × EndsAt s.begun rest.now at r.stop) }
 {
     let whole = rest.is_empty() && matches!(sofar.begun, Open::Nothing);
-    let draft = sofar.close(alloc, rest)?;
-    let stop = if whole { None } else { Some(line) };
+    let draft = sofar.close(alloc)?;
+    let stop = if whole { None } else { Some(at) };
     Ok(Drafted { draft, stop })
 }
 
 /// The lines after the first.
-fn read_lines<'a>(alloc: Global, text: &'a [u8]) -> Result<Drafted<'a>, NoMemory>
+fn read_lines(alloc: Global, text: &[u8]) -> Result<Drafted, NoMemory>
     requires { length text.now ≤ MAX_LISTING_LEN }
     ensures whole { IfOk result (λ r. r.stop ≡ None → (d : drafts.Draft)
         × IsListing (line_text Title ++ text.now) d × IsInMemory r.draft d) }
@@ -96,29 +84,29 @@ fn read_lines<'a>(alloc: Global, text: &'a [u8]) -> Result<Drafted<'a>, NoMemory
         → IfOk result (λ r. (r.stop ≡ Some n) × IsInMemory r.draft d) }
 {
     let mut sofar = SoFar::new(alloc);
-    let mut line = 2;
+    let mut at = TITLE.len() as u32;
     let mut rest = text;
     'lines: loop {
-        match take_line(alloc, sofar, line, rest)? {
+        match take_line(alloc, sofar, at, rest)? {
             Next::More(more, after) => {
                 sofar = more;
+                at += (rest.len() - after.len()) as u32;
                 rest = after;
-                line += 1;
             }
-            Next::Stop(same) => return finish(alloc, same, line, rest),
+            Next::Stop(same) => return finish(alloc, same, at, rest),
         }
     }
 }
 
-/// What a listing says, with names as they are written, and of its operations the text
-/// (docs/CODE.md, "What a listing says"). Where the text is no listing, what the lines before its
-/// stop say: the first line that is none of a listing, may not stand there, is one more than a limit
-/// allows, or isn't there. The text has at most 128 MiB.
+/// What a listing says, with names as they are written (docs/CODE.md, "What a listing says"). Where
+/// the text is no listing, what the lines before its stop say: the first line that is none of a
+/// listing, may not stand there, is one more than a limit allows, or isn't there. Each line is read
+/// once. The text has at most 128 MiB.
 ///
 /// # Errors
 ///
 /// `NoMemory` where memory runs out, whatever the text is.
-pub fn read_draft<'a>(alloc: Global, text: &'a [u8]) -> Result<Drafted<'a>, NoMemory>
+pub fn read_draft(alloc: Global, text: &[u8]) -> Result<Drafted, NoMemory>
     requires { length text.now ≤ MAX_LISTING_LEN }
     ensures whole { IfOk result (λ r. r.stop ≡ None → (d : drafts.Draft)
         × IsListing text.now d × IsInMemory r.draft d) }
@@ -133,7 +121,7 @@ pub fn read_draft<'a>(alloc: Global, text: &'a [u8]) -> Result<Drafted<'a>, NoMe
         Some(rest) => read_lines(alloc, rest),
         None => Ok(Drafted {
             draft: Closed::none(alloc).draft,
-            stop: Some(1),
+            stop: Some(0),
         }),
     }
 }

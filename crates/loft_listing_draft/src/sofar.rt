@@ -1,6 +1,6 @@
 //! What the lines so far say.
 
-ghost use Rattle.std.specs.Prelude.{◌≡◌, List, ℕ, ◌++◌, [], map, IfOk};
+ghost use Rattle.std.specs.Prelude.{◌≡◌, ℕ, [], map, IfOk};
 ghost use Rattle.loft_tree.specs.Source.{Module, Outside, Done};
 ghost use Rattle.loft_tree.specs.View.{declaration_of, head_of, named_of, order_of};
 ghost use Rattle.loft_listing_draft.specs.Held.{Holds};
@@ -9,20 +9,17 @@ ghost use Rattle.loft_listing_draft.specs.Taking as plain;
 ghost use Rattle.loft_listing_draft.specs.Taking.{closed};
 
 use crate::closed::Closed;
-use crate::draft::Draft;
+use crate::draft::{Draft, OperationLine};
 use loft_base::{NoMemory, Room};
 use loft_tree::{Ident, Item, ModuleHead, OutsideOrder, Variable};
 use std::alloc::Global;
 
 /// A module whose `end` hasn't come.
 #[derive(Drop)]
-pub struct OpenModule<'a> {
+pub struct OpenModule {
     pub head: ModuleHead,
     pub locals: Vec<Variable>,
-    /// How many operations it has: the number of the next.
-    pub number: u64,
-    /// The text from its first operation on.
-    pub from: &'a [u8],
+    pub operations: Vec<OperationLine>,
 }
 
 /// A client whose `}` hasn't come.
@@ -34,40 +31,32 @@ pub struct OpenClient {
 
 /// The declaration that isn't closed.
 #[derive(Drop)]
-pub enum Open<'a> {
+pub enum Open {
     Nothing,
-    Module(OpenModule<'a>),
+    Module(OpenModule),
     Client(OpenClient),
 }
 
 /// What the lines so far say.
 #[derive(Drop)]
-pub struct SoFar<'a> {
-    pub done: Closed<'a>,
-    pub begun: Open<'a>,
+pub struct SoFar {
+    pub done: Closed,
+    pub begun: Open,
 }
 
-/// What stands in a text before its end.
-pub fn before<'a>(text: &'a [u8], end: &[u8]) -> &'a [u8]
-    ensures { (front : List ℕ) → text.now ≡ front ++ end.now → result.now ≡ front }
-{
-    &text[..text.len().saturating_sub(end.len())]
-}
-
-impl<'a> OpenModule<'a> {
-    /// The module as a declaration, and the lines of its operations before the rest of the text.
-    pub fn close(self, alloc: Global, rest: &[u8]) -> (Item, &'a [u8])
+impl OpenModule {
+    /// The module as a declaration, and its operations.
+    pub fn close(self, alloc: Global) -> (Item, Vec<OperationLine>)
         ensures item { declaration_of result.0
-            ≡ Module (head_of self.entry.head) (map named_of self.entry.locals.items) Done }
-        ensures operations { (front : List ℕ) → self.entry.from.now ≡ front ++ rest.now
-            → result.1.now ≡ front }
+            ≡ Module (head_of self.head) (map named_of self.locals.items) Done }
+        ensures operations { result.1 ≡ self.operations }
     {
         let item = Item::Module {
             head: self.head,
             locals: self.locals,
             body: Vec::new(alloc),
         };
-        (item, before(self.from, rest))
+        (item, self.operations)
     }
 }
 
@@ -83,11 +72,10 @@ impl OpenClient {
     }
 }
 
-impl<'a> SoFar<'a> {
+impl SoFar {
     /// The first line of a listing says nothing.
-    pub fn new(alloc: Global) -> SoFar<'a>
-        ensures { (rest : List ℕ) → Holds result rest
-            (record { done = []; begun = plain.Nothing }) }
+    pub fn new(alloc: Global) -> SoFar
+        ensures { (at : ℕ) → Holds result at (record { done = []; begun = plain.Nothing }) }
     {
         SoFar {
             done: Closed::none(alloc),
@@ -95,9 +83,9 @@ impl<'a> SoFar<'a> {
         }
     }
 
-    /// What is open is closed before the rest of the text.
-    pub fn close(self, alloc: Global, rest: &[u8]) -> Result<Draft<'a>, NoMemory>
-        ensures { (s : plain.SoFar) → Holds self.entry rest.now s
+    /// What is open is closed.
+    pub fn close(self, alloc: Global) -> Result<Draft, NoMemory>
+        ensures { (at : ℕ) (s : plain.SoFar) → Holds self at s
             → IfOk result (λ d. IsInMemory d (closed s)) }
     {
         let SoFar { done, begun } = self;
@@ -105,12 +93,12 @@ impl<'a> SoFar<'a> {
         match begun {
             Open::Nothing => Ok(done.draft),
             Open::Module(module) => {
-                let (item, operations) = module.close(alloc, rest);
+                let (item, operations) = module.close(alloc);
                 let closed = done.with(&mut room, item, operations);
                 room.done(closed.draft)
             }
             Open::Client(client) => {
-                let closed = done.with(&mut room, client.close(), &[]);
+                let closed = done.with(&mut room, client.close(), Vec::new(alloc));
                 room.done(closed.draft)
             }
         }

@@ -1,5 +1,5 @@
--- A text says at most one draft, or stops at one line, and never both.
-use Rattle.std.proofs.Common.{◌≡◌, ℕ, ◌+◌, zero, suc, inl, inr, List, [], ◌∷◌, ◌++◌, length, refl, sym, subst, ap, ◌∙◌, append-nil, append_assoc, arith}
+-- A text says at most one draft, or stops at one offset, and never both.
+use Rattle.std.proofs.Common.{◌≡◌, ℕ, zero, suc, inl, inr, List, [], ◌∷◌, ◌++◌, length, refl, sym, subst, ap, ◌∙◌, append-nil, append_assoc, arith}
 use Rattle.std.specs.Prelude.{◌≢◌}
 use Rattle.std.specs.List.{Contains, flat_map}
 use Rattle.loft_tree.specs.Fits.{Each}
@@ -7,8 +7,9 @@ use Rattle.loft_tree.specs.Source.{Source}
 use Rattle.loft_listing_line.specs.Rows.{Close, End, ListingLine, Title, line_text}
 use Rattle.loft_listing_draft.specs.Drafts.{Draft, DraftFits, IsListing, draft_lines, item_lines, lines_text, source_of}
 use Rattle.loft_listing_line.specs.RowsFit.{ListingLineFits}
+use Rattle.loft_listing_draft.specs.Lined.{line_at}
 use Rattle.loft_listing_draft.specs.Stops.{IsBegun, StopsAt, closings}
-use Rattle.loft_listing_draft.specs.Taking.{Begun, InClient, InModule, MayFollow, Nothing, SoFar, closing, lined_line}
+use Rattle.loft_listing_draft.specs.Taking.{Begun, InClient, InModule, MayFollow, Nothing, SoFar, closing}
 use Rattle.loft_listing_draft.proofs.Following.{line_there}
 use Rattle.loft_listing_draft.proofs.Offsets.{same_lined}
 use Rattle.loft_listing_draft.proofs.Walking.{AllStand, lined_at, so_far, stands_next, start, walks, with_lines}
@@ -16,13 +17,13 @@ use Rattle.loft_listing_laws.proofs.OneLine.{one_next}
 
 -- ---- lines of a draft
 
--- lines have the offsets of their numbers
-placed : (d : Draft) → DraftFits d → (p : List ListingLine) (l : ListingLine) (more : List ListingLine) → draft_lines d ≡ p ++ l ∷ more → lined_line (length p + 1) l ≡ l
-placed d fits [] l more is = let e : Title ≡ l = cc in subst (λ (x : ListingLine). lined_line 1 x ≡ x) e refl
+-- lines have the offsets at which they stand
+placed : (d : Draft) → DraftFits d → (p : List ListingLine) (l : ListingLine) (more : List ListingLine) → draft_lines d ≡ p ++ l ∷ more → line_at (length (lines_text p)) l ≡ l
+placed d fits [] l more is = let e : Title ≡ l = cc in subst (λ (x : ListingLine). line_at 0 x ≡ x) e refl
 placed d fits (x ∷ p) l more is =
+    let first : Title ≡ x = cc in
     let rest : flat_map item_lines d ≡ p ++ l ∷ more = cc in
-    let e : 2 + length p ≡ length (x ∷ p) + 1 = omega arith in
-    subst (λ (n : ℕ). lined_line n l ≡ l) e (lined_at d p l more fits rest)
+    subst (λ (y : ListingLine). line_at (length (lines_text (y ∷ p))) l ≡ l) first (lined_at d p l more fits rest)
 
 each_at : {A : Type 0} (P : A → Type 0) (xs : List A) (x : A) (ys : List A) → Each P (xs ++ x ∷ ys) → P x
 each_at P [] x ys all = all.0
@@ -38,7 +39,7 @@ one_at d e fits fit p l k ls ks a b is also same =
     let first = fits_at d fits p l ls is in
     let second = fits_at e fit p k ks also in
     let next = one_next l k a b first second same in
-    (sym (placed d fits p l ls is) ∙ same_lined (length p + 1) l k first second next.0 ∙ placed e fit p k ks also, next.1)
+    (sym (placed d fits p l ls is) ∙ same_lined (length (lines_text p)) l k first second next.0 ∙ placed e fit p k ks also, next.1)
 
 -- one line more that both have
 further : (p : List ListingLine) (l : ListingLine) (ls all : List ListingLine) → all ≡ p ++ l ∷ ls → all ≡ (p ++ l ∷ []) ++ ls
@@ -146,7 +147,7 @@ one_stop text d e m n (lines, c1, rest, one, number) (others, c2, more, other, a
     let same : lines ≡ others = same_lines d e one.fits other.fits lines others [] lines others c1 c2 rest more refl refl one.said other.said (sym one.written ∙ other.written) one.stops other.stops in
     let said : draft_lines e ≡ lines ++ c2 = other.said ∙ ap (λ (ls : List ListingLine). ls ++ c2) (sym same) in
     let closed : c1 ≡ c2 = one_closing d e one.fits other.fits lines c1 c2 one.closes other.closes one.said said in
-    (lines_tell d e one.fits other.fits (one.said ∙ ap (λ (c : List ListingLine). lines ++ c) closed ∙ sym said), number ∙ ap (λ (ls : List ListingLine). length ls + 1) same ∙ sym also)
+    (lines_tell d e one.fits other.fits (one.said ∙ ap (λ (c : List ListingLine). lines ++ c) closed ∙ sym said), number ∙ ap (λ (ls : List ListingLine). length (lines_text ls)) same ∙ sym also)
 
 -- a draft with all its lines isn't closed further
 never_closed : (d e : Draft) → DraftFits d → DraftFits e → (c : List ListingLine) → Contains closings c → draft_lines e ≡ draft_lines d ++ c → c ≡ []

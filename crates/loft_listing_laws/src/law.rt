@@ -15,7 +15,7 @@ pub fn lines_say_one_thing()
         → line_text l ++ a ≡ line_text k ++ b → (bare_line l ≡ bare_line k) × (a ≡ b) }
 {}
 
-/// A text says at most one draft, or stops at one line with what the lines before it say, and never
+/// A text says at most one draft, or stops at one offset with what the lines before it say, and never
 /// both (docs/CODE.md, "What a listing says").
 pub fn texts_say_one_thing()
     ensures one_draft { (text : List ℕ) (d e : Draft)

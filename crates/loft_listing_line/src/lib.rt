@@ -16,7 +16,6 @@ mod value;
 
 pub use law::lines_end_at_their_feeds;
 pub use line::first_line;
-pub use part::find_row;
 pub use put::write_row;
 pub use read::read_row;
 pub use row::{Deed, OperationRow, Row};

@@ -13,7 +13,7 @@ pub least_of-append : (least : Option ℕ) (ms ns : List ℕ) → least_of least
 least_of-append least [] ns = refl
 least_of-append least (m ∷ ms) ns = least_of-append (lesser least m) ms ns
 
--- for the loops that look for a line
+-- for the loops that look for an offset
 pub ruleset steps = (least_of-append, append-nil)
 
 -- the next of those that are gone over
@@ -72,7 +72,7 @@ least_or_none (x ∷ xs) (Some n) is = let k = keeps x n xs (sym is) in record {
   least = among (λ m. n ≤ m) x xs k.old k.others;
 }
 
--- ---- the first of the faults stands on the least line
+-- ---- the first of the faults stands at the least offset
 
 mapped : (es : List NameError) (e : NameError) → Contains es e → Contains (map place_of es) (place_of e)
 mapped [] e (k, lt, is) = absurd (omega arith)

@@ -8,7 +8,7 @@ use Rattle.loft_scopes.specs.Scopes.{Declared}
 use Rattle.loft_listing_line.specs.Instructions as instruction
 use Rattle.loft_listing_line.specs.Instructions.{Instruction, bare_instruction}
 use Rattle.loft_listing_draft.specs.Drafts.{DraftOperation}
-use Rattle.loft_listing_names.specs.DraftOf.{bare_operation}
+use Rattle.loft_listing_draft.specs.InMemory.{bare_operation}
 use Rattle.loft_listing_names.specs.Named.{names_scheduler, names_event, names_variable, names_module, expression_names, value_names, creation_names, statement_names, instruction_names, place_names, operation_names}
 
 module _ (ds : List Declared) (scope : Scope) where

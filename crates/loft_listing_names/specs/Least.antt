@@ -1,4 +1,4 @@
--- The least of several numbers of lines.
+-- The least of several offsets.
 use Rattle.std.specs.Prelude.{ℕ, nat_lt, if◌then◌else◌, List, [], ◌∷◌, Option, Some, None}
 
 -- the least so far, once n is found too

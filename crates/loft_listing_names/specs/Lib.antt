@@ -1,4 +1,3 @@
 pub mod Named
 pub mod Wrong
-pub mod DraftOf
 pub mod Least

@@ -1,5 +1,5 @@
 -- The wrong lines of a listing that has its form (docs/CODE.md, "Names in a listing").
-use Rattle.std.specs.Prelude.{ℕ, ◌+◌, ◌≤◌, Bool, true, false, ◌==◌, if◌then◌else◌, List, [], ◌∷◌, ◌++◌, length, map, Option, Some, None, slice_get}
+use Rattle.std.specs.Prelude.{ℕ, ◌≤◌, Bool, true, false, ◌==◌, if◌then◌else◌, List, [], ◌∷◌, ◌++◌, map, Option, Some, None, slice_get}
 use Rattle.std.specs.List.{Contains, flat_map}
 use Rattle.std.specs.Option.{option_and_then}
 use Rattle.loft_tree.specs.Source.{Ident, PlaceName, InScheduler, Unlinked, ModuleHead, Order, CreateThere, ControlThere, BroadcastThere, Declaration, Scheduler, Event, Shared, Module, Start, Outside, Source}
@@ -8,7 +8,7 @@ use Rattle.loft_scopes.specs.declared.scope.Scope.{Scope}
 use Rattle.loft_scopes.specs.declared.scope.Scope.TheVariants.{Everywhere, Within}
 use Rattle.loft_scopes.specs.Faults.{faults, place_of, is_scheduler}
 use Rattle.loft_scopes.specs.Modules.{next_module}
-use Rattle.loft_listing_draft.specs.Drafts.{Draft, DraftOperation, source_of}
+use Rattle.loft_listing_draft.specs.Drafts.{Draft, OperationAt, operations_of, source_of}
 use Rattle.loft_listing_names.specs.Named.{operation_names}
 
 -- ---- threads begin where they are made
@@ -65,7 +65,7 @@ module _ (ds : List Declared) (heads : List ModuleHead) where
   can_begin scheduler called =
       same_number (scheduler_meant ds Everywhere scheduler) (option_and_then begins_in (module_meant ds called))
 
-  -- the line of a thread that is made where it can't begin
+  -- the offset of a thread that is made where it can't begin
   abbrev pub misplaced : Ident → Ident → List ℕ
   misplaced scheduler called = if can_begin scheduler called then [] else scheduler.at ∷ []
 
@@ -84,32 +84,24 @@ module _ (ds : List Declared) (heads : List ModuleHead) where
 
 -- ---- operations
 
--- operations of a module, the first of them on this line
-abbrev pub operations_wrong : List Declared → Scope → ℕ → List DraftOperation → List ℕ
-operations_wrong ds scope line [] = []
-operations_wrong ds scope line (o ∷ os) =
-    (if operation_names ds scope o then [] else line ∷ []) ++ operations_wrong ds scope (line + 1) os
+-- the offset of an operation with a wrong name
+abbrev pub operation_wrong : List Declared → Scope → OperationAt → List ℕ
+operation_wrong ds scope o = if operation_names ds scope o.operation then [] else o.at ∷ []
 
--- the first line after those of a module's head and its local variables
-abbrev pub first_operation : Declaration → ℕ
-first_operation (Scheduler name) = 0
-first_operation (Event name scheduler) = 0
-first_operation (Shared name scheduler value) = 0
-first_operation (Module head locals body) = head.name.at + 1 + length locals
-first_operation (Start scheduler called arguments name) = 0
-first_operation (Outside name orders) = 0
+abbrev pub operations_wrong : List Declared → Scope → List OperationAt → List ℕ
+operations_wrong ds scope os = flat_map (operation_wrong ds scope) os
 
 -- the next module has this number
 abbrev pub modules_wrong : List Declared → ℕ → Draft → List ℕ
 modules_wrong ds m [] = []
-modules_wrong ds m (i ∷ is) =
-    operations_wrong ds (Within m) (first_operation i.declaration) i.operations ++ modules_wrong ds (next_module m i.declaration) is
+modules_wrong ds m (i ∷ is) = operations_wrong ds (Within m) (operations_of i) ++ modules_wrong ds (next_module m i.declaration) is
 
 -- ---- all
 
--- Each line with a wrong name outside operations, with a thread that can't begin where it is made, or with a wrong name in an operation.
-abbrev pub wrong_lines : Draft → List ℕ
-wrong_lines d =
+-- The offset of each line with a wrong name outside operations, with a thread that can't begin where it is made, or with a wrong
+-- name in an operation.
+abbrev pub wrong_offsets : Draft → List ℕ
+wrong_offsets d =
     let p = source_of d in
     let ds = declared p in
     map place_of (faults p) ++ (flat_map (declaration_misplaced ds (heads_in p)) p ++ modules_wrong ds 0 d)

@@ -15,8 +15,8 @@ use loft_scopes::Table;
 use loft_tree::{Item, ModuleHead};
 use std::alloc::Global;
 
-/// What a listing declares, and the first line with a wrong name outside operations; no line where
-/// none is wrong so (docs/CODE.md, "Names in a listing").
+/// What a listing declares, and the offset of the first line with a wrong name outside operations;
+/// none where no line is wrong so (docs/CODE.md, "Names in a listing").
 ///
 /// # Errors
 ///
@@ -48,8 +48,8 @@ fn heads_of<'a>(alloc: Global, items: &'a [Item]) -> Result<Vec<&'a ModuleHead>,
     Ok(heads)
 }
 
-/// The first line on which a thread is made where it can't begin; none where each can (docs/CODE.md,
-/// "Names in a listing").
+/// The offset of the first line on which a thread is made where it can't begin; none where each can
+/// (docs/CODE.md, "Names in a listing").
 ///
 /// # Errors
 ///
@@ -59,9 +59,9 @@ pub fn first_misplaced(
     table: &Table,
     items: &[Item],
 ) -> Result<Option<u32>, NoMemory>
-    ensures { IfOk result (λ line. let p = source_of items.now in
+    ensures { IfOk result (λ least. let p = source_of items.now in
         let wrong = flat_map (declaration_misplaced table.now (heads_in p)) p in
-        MatchOption line (wrong ≡ []) (λ n. IsLeast n wrong)) }
+        MatchOption least (wrong ≡ []) (λ n. IsLeast n wrong)) }
 {
     let heads = heads_of(alloc, items)?;
     let mut least = None;

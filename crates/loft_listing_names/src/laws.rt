@@ -10,7 +10,7 @@ ghost use Rattle.loft_scopes.specs.Scopes.{Declared, declared};
 ghost use Rattle.loft_scopes.specs.declared.scope.Scope.{Scope};
 ghost use Rattle.loft_code.specs.Fits.{ClientFits, StartFits};
 ghost use Rattle.loft_listing_draft.specs.Drafts.{DraftOperation};
-ghost use Rattle.loft_listing_names.specs.DraftOf.{bare_operation};
+ghost use Rattle.loft_listing_draft.specs.InMemory.{bare_operation};
 ghost use Rattle.loft_listing_names.specs.Named.{operation_names};
 ghost use Rattle.loft_listing_names.specs.Wrong.{declaration_misplaced, heads_in};
 

@@ -65,7 +65,7 @@ fn can_begin(table: &Table, heads: &[&ModuleHead], scheduler: &Ident, called: &I
     same_number(there, begin)
 }
 
-/// Notes the line of a thread that is made where it can't begin.
+/// Notes the offset of a thread that is made where it can't begin.
 fn note_misplaced(
     table: &Table,
     heads: &[&ModuleHead],

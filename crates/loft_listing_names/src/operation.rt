@@ -3,7 +3,7 @@
 ghost use Rattle.std.specs.Prelude.{◌≡◌};
 ghost use Rattle.loft_listing_line.specs.RowView.{deed_of};
 ghost use Rattle.loft_listing_names.specs.Named.{instruction_names, operation_names};
-ghost use Rattle.loft_listing_names.specs.DraftOf.{draft_of};
+ghost use Rattle.loft_listing_draft.specs.InMemory.{draft_of};
 
 use crate::expression::expression_names;
 use crate::name::place_names;

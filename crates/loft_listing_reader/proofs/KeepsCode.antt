@@ -17,7 +17,7 @@ use Rattle.loft_code.specs.Fits.{HeadsKeep, LinesFit, RawFits}
 use Rattle.loft_listing_line.specs.Rows.{Local, End}
 use Rattle.loft_listing_draft.specs.Drafts.{Draft, DraftOperation, DraftFits, HasOperations, ItemHolds, declaration_lines, item_lines, operation_lines, source_of}
 use Rattle.loft_listing_line.specs.RowsFit.{ListingLineFits}
-use Rattle.loft_listing_names.specs.Wrong.{declaration_misplaced, heads_in, modules_wrong, wrong_lines}
+use Rattle.loft_listing_names.specs.Wrong.{declaration_misplaced, heads_in, modules_wrong, wrong_offsets}
 use Rattle.loft_listing_names.proofs.Threads.{starts_begin, clients_begin}
 use Rattle.loft_listing_reader.specs.Numbered.{module_lines, modules_from, numbered, numbered_line}
 use Rattle.loft_listing_reader.proofs.KeepsOperations.{operations_keep}
@@ -76,7 +76,7 @@ heads_keep p fits none placed =
     }
 
 -- the code of a listing without wrong lines keeps the limits
-pub numbered_keeps : (d : Draft) → DraftFits d → wrong_lines d ≡ [] → RawFits (numbered d)
+pub numbered_keeps : (d : Draft) → DraftFits d → wrong_offsets d ≡ [] → RawFits (numbered d)
 numbered_keeps d fits right =
     let p : Source = source_of d in
     let ds : List Declared = declared p in

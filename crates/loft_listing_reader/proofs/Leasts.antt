@@ -1,10 +1,19 @@
 -- The least of several numbers.
-use Rattle.std.proofs.Common.{◌≡◌, ℕ, ◌≤◌, ◌<◌, ◌⊎◌, inl, inr, List, [], ◌∷◌, ◌++◌, subst, arith}
+use Rattle.std.proofs.Common.{◌≡◌, ℕ, zero, suc, ◌≤◌, ◌<◌, ◌⊎◌, inl, inr, List, [], ◌∷◌, ◌++◌, refl, subst, arith}
 use Rattle.std.specs.Prelude.{min}
 use Rattle.std.specs.List.{Contains}
 use Rattle.std.proofs.lemmas.Bool.{cases_order}
 use Rattle.std.proofs.lemmas.List.Elements.{Contains-append_left, Contains-append_right, Contains-append_cases}
 use Rattle.loft_listing_names.specs.Wrong.{IsLeast}
+
+pub least_one : (n : ℕ) → IsLeast n (n ∷ [])
+least_one n = record {
+  there = (0, omega arith, refl);
+  least = λ k has. one_same k has;
+} where
+  one_same : (k : ℕ) → Contains (n ∷ []) k → n ≤ k
+  one_same k (zero, below, there) = omega (arith, there)
+  one_same k (suc i, below, there) = absurd (omega arith)
 
 pub least_left : (n : ℕ) (ms ns : List ℕ) → IsLeast n ms → ((k : ℕ) → Contains ns k → n ≤ k) → IsLeast n (ms ++ ns)
 least_left n ms ns least later = record {

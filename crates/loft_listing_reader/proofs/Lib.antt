@@ -1,10 +1,8 @@
-pub mod Goes
+pub mod Coding
 pub mod Items
 pub mod Judging
 pub mod KeepsCode
 pub mod KeepsOperations
 pub mod KeepsValues
 pub mod Leasts
-pub mod Lines
 pub mod Offsets
-pub mod Room

@@ -13,7 +13,7 @@ use Rattle.loft_listing_line.specs.Instructions as instruction
 use Rattle.loft_listing_line.specs.Instructions.{Instruction, bare_instruction}
 use Rattle.loft_listing_draft.specs.Drafts.{DraftOperation}
 use Rattle.loft_listing_reader.specs.Numbered.{numbered_statement, numbered_instruction, numbered_line}
-use Rattle.loft_listing_names.specs.DraftOf.{bare_operation}
+use Rattle.loft_listing_draft.specs.InMemory.{bare_operation}
 
 module _ (ds : List Declared) (scope : Scope) where
   same_holder : (a b : ℕ) (h : Holder) → exp_of (variable_term ds scope a h) ≡ exp_of (variable_term ds scope b h)

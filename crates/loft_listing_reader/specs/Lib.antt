@@ -1,3 +1,3 @@
-pub mod Comes
+pub mod AllWrong
 pub mod Lists
 pub mod Numbered

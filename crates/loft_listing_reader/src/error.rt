@@ -4,7 +4,6 @@ ghost use Rattle.std.specs.Prelude.{◌≡◌};
 ghost use Rattle.loft_listing_reader.specs.declared.error.ListError.TheVariants.{NoMemory as no_memory};
 
 use loft_base::NoMemory;
-use std::alloc::AllocFailed;
 
 /// Why a listing isn't read (docs/CODE.md, "Listings that are read").
 #[derive(Clone, Copy, Debug, PartialEq, Eq)]
@@ -21,14 +20,6 @@ impl From<NoMemory> for ListError {
     ghost from_gives = { λ _ e. e ≡ no_memory };
 
     fn from(_error: NoMemory) -> ListError {
-        ListError::NoMemory
-    }
-}
-
-impl<T: Drop> From<AllocFailed<T>> for ListError {
-    ghost from_gives = { λ _ e. e ≡ no_memory };
-
-    fn from(_error: AllocFailed<T>) -> ListError {
         ListError::NoMemory
     }
 }

@@ -6,9 +6,9 @@ mod error;
 mod law;
 mod line;
 mod module;
-mod modules;
 mod operation;
 mod reading;
+mod wrong;
 
 pub use error::ListError;
 pub use law::read_code_keeps_limits;

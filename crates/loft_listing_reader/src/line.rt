@@ -4,7 +4,7 @@ ghost use Rattle.std.specs.Prelude.{◌≡◌, IfOk};
 ghost use Rattle.loft_listing_line.specs.RowView.{deed_of};
 ghost use Rattle.loft_listing_line.specs.RowsFit.{InstructionFits};
 ghost use Rattle.loft_code.specs.View.{line_of, operation_of};
-ghost use Rattle.loft_listing_names.specs.DraftOf.{draft_of};
+ghost use Rattle.loft_listing_draft.specs.InMemory.{draft_of};
 ghost use Rattle.loft_listing_reader.specs.Numbered.{numbered_instruction, numbered_line};
 
 use crate::operation::operation;

@@ -1,103 +1,88 @@
-//! The code of one module.
+//! The code of modules.
 
-ghost use Rattle.std.specs.Prelude.{◌≡◌, ◌+◌, ◌<◌, ◌^◌, ℕ, List, length, map, Some, IfOk, IfSome};
-ghost use Rattle.std.specs.Option.{option_map};
-ghost use Rattle.loft_listing_line.specs.RowView.{deed_of};
-ghost use Rattle.loft_listing_line.specs.RowsFit.{InstructionFits};
+ghost use Rattle.std.specs.Prelude.{◌≡◌, ◌<◌, ◌^◌, ◌++◌, length, map, IfOk, OnOk};
+ghost use Rattle.loft_tree.specs.Fits.{Each};
+ghost use Rattle.loft_tree.specs.View.{declaration_of};
+ghost use Rattle.loft_scopes.specs.Modules.{next_module};
 ghost use Rattle.loft_code.specs.View.{lines_of};
-ghost use Rattle.loft_listing_draft.specs.Drafts.{DraftOperation};
-ghost use Rattle.loft_listing_names.specs.DraftOf.{bare_operation, draft_of};
-ghost use Rattle.loft_listing_names.specs.Wrong.{operations_wrong};
-ghost use Rattle.loft_listing_reader.specs.Comes.{Comes, if_operation, IsNext, IsOperation, Says};
-ghost use Rattle.loft_listing_reader.specs.Numbered.{numbered_line};
+ghost use Rattle.loft_listing_draft.specs.Drafts.{Draft as PlainDraft, DraftItem, operations_of};
+ghost use Rattle.loft_listing_draft.specs.InMemory.{draft_of, held_operation, IsInMemory, OperationFits};
+ghost use Rattle.loft_listing_reader.specs.AllWrong.{IsDraft};
+ghost use Rattle.loft_listing_reader.specs.Numbered.{module_lines, modules_from, numbered_line};
 
-use crate::error::ListError;
 use crate::line::code_line;
 use loft_base::NoMemory;
 use loft_code::ModuleCode;
-use loft_listing_line::{OperationRow, Row, find_row, first_line};
-use loft_listing_names::{offsets_are_free, operation_names};
+use loft_listing_draft::{Draft, OperationLine};
 use loft_scopes::{Scope, Table};
+use loft_tree::Item;
 use std::alloc::Global;
 
-/// The operation that a line of a listing says; nothing where it says another thing.
-fn if_operation(row: Row) -> Option<OperationRow>
-    ensures { result ≡ if_operation row }
-{
-    match row {
-        Row::Operation(operation) => Some(operation),
-        other => {
-            drop(other);
-            None
-        }
-    }
-}
-
-/// The operation that a line is, where it is one.
-fn operation_in(alloc: Global, line: &[u8]) -> Result<Option<OperationRow>, NoMemory>
-    requires short { length line.now < 2 ^ 32 }
-    ensures fits { IfOk result (λ found. IfSome found (λ row. InstructionFits (deed_of row.deed))) }
-    ensures only { (number : ℕ) (o : DraftOperation) → IsOperation line.now number o
-        → IfOk result (λ found.
-        option_map (λ row. bare_operation (draft_of row)) found ≡ Some o) }
-{
-    match find_row(alloc, line)? {
-        Some(row) => Ok(if_operation(row)),
-        None => Ok(None),
-    }
-}
-
-/// What the first line of a text says, if it is an operation, and the lines after it; nothing where
-/// there is none.
-fn next_operation<'a>(
-    alloc: Global,
-    text: &'a [u8],
-) -> Result<Option<(OperationRow, &'a [u8])>, NoMemory>
-    requires short { length text.now < 2 ^ 32 }
-    ensures shorter { IfOk result (λ found. IfSome found (λ p. length p.1.now < length text.now)) }
-    ensures fits { IfOk result (λ found. IfSome found (λ p. InstructionFits (deed_of p.0.deed))) }
-    ensures next { (number : ℕ) (os : List DraftOperation) → Says text.now number os
-        → IfOk result (λ found. IsNext found number os) }
-{
-    let Some((line, rest)) = first_line(text) else {
-        return Ok(None);
-    };
-    match operation_in(alloc, line)? {
-        Some(row) => Ok(Some((row, rest))),
-        None => Ok(None),
-    }
-}
-
-/// The code of a module, whose operations are the lines of a text (docs/CODE.md, "Listings that are
-/// read"); the first of the operations stands on this line of the listing.
-///
-/// # Errors
-///
-/// `ListError::Line` where an operation has a wrong name, with the line of the first; `NoMemory`
-/// where memory runs out.
-pub fn module_code(
+/// The code of a module with these operations.
+fn module_code(
     alloc: Global,
     table: &Table,
     scope: Scope,
-    text: &[u8],
-    first: u32,
-) -> Result<ModuleCode, ListError>
-    requires { first + length text.now < 2 ^ 32 }
-    ensures { (os : List DraftOperation) → Says text.now 0 os
-        → Comes lines_of (operations_wrong table.now scope first os)
-        (map (numbered_line table.now scope) os) result }
+    operations: &[OperationLine],
+) -> Result<ModuleCode, NoMemory>
+    requires { Each OperationFits operations.now }
+    ensures { IfOk result (λ code. lines_of code
+        ≡ map (λ o. numbered_line table.now scope (draft_of o.operation)) operations.now) }
 {
-    offsets_are_free();
     let mut lines = Vec::new(alloc);
-    let mut rest = text;
-    let mut line = first;
-    while let Some((row, after)) = next_operation(alloc, rest)? {
-        if !operation_names(table, scope, &row) {
-            return Err(ListError::Line(line));
-        }
-        lines.push(code_line(alloc, table, scope, &row)?)?;
-        line += 1;
-        rest = after;
+    for operation in operations {
+        lines.push(code_line(alloc, table, scope, &operation.operation)?)?;
     }
     Ok(ModuleCode { lines })
+}
+
+/// One more declaration: the code of a module is put after that of those before it.
+fn put_item(
+    alloc: Global,
+    table: &Table,
+    item: &Item,
+    operations: &[OperationLine],
+    code: &mut Vec<ModuleCode>,
+) -> Result<(), NoMemory>
+    requires fit { Each OperationFits operations.now }
+    requires few { length code.old.items < 2 ^ 32 }
+    ensures item { (i : DraftItem) → declaration_of item.now ≡ i.declaration
+        → map held_operation operations.now ≡ operations_of i
+        → OnOk result (map lines_of code.new.items ≡ map lines_of code.old.items
+        ++ module_lines table.now (length code.old.items) i.declaration i.operations) }
+    ensures counted { OnOk result (length code.new.items
+        ≡ next_module (length code.old.items) (declaration_of item.now)) }
+{
+    if let Item::Module { .. } = item {
+        let scope = Scope::Within(code.len() as u32);
+        code.push(module_code(alloc, table, scope, operations)?)?;
+    }
+    Ok(())
+}
+
+/// The code of the modules of a draft (docs/CODE.md, "Listings that are read").
+///
+/// # Errors
+///
+/// Out of memory.
+pub fn modules_code(
+    alloc: Global,
+    table: &Table,
+    draft: &Draft,
+) -> Result<Vec<ModuleCode>, NoMemory>
+    requires { IsDraft draft.now }
+    ensures { (d : PlainDraft) → IsInMemory draft.now d
+        → IfOk result (λ code. map lines_of code.items ≡ modules_from table.now 0 d) }
+{
+    let mut code = Vec::new(alloc);
+    for (index, item) in draft.items.iter().enumerate() {
+        put_item(
+            alloc,
+            table,
+            item,
+            draft.operations[index].as_slice(),
+            &mut code,
+        )?;
+    }
+    Ok(code)
 }

@@ -1,46 +1,70 @@
 //! Reading a listing.
 
-ghost use Rattle.std.specs.Prelude.{◌≡◌, ◌≤◌, ◌<◌, ◌⊎◌, ℕ, Err, length, IfErr, IfOk};
+ghost use Rattle.std.specs.Prelude.{◌≡◌, ◌≤◌, ◌<◌, ◌⊎◌, ℕ, [], Err, length, IfErr, IfOk};
+ghost use Rattle.loft_tree.specs.View.{source_of};
+ghost use Rattle.loft_scopes.specs.Scopes.{declared};
 ghost use Rattle.loft_code.specs.Operations.{Automata};
 ghost use Rattle.loft_code.specs.View.{automata_of};
 ghost use Rattle.loft_listing_draft.specs.Drafts.{Draft as PlainDraft, DraftFits};
 ghost use Rattle.loft_listing_draft.specs.InMemory.{IsInMemory};
-ghost use Rattle.loft_listing_reader.specs.Comes.{all_wrong, Comes, IsShort};
-ghost use Rattle.loft_listing_reader.specs.Lists.{LineFault, Lists};
+ghost use Rattle.loft_listing_names.specs.Wrong.{wrong_offsets};
+ghost use Rattle.loft_listing_reader.specs.AllWrong.{all_wrong, IsDraft, IsLeastOf};
+ghost use Rattle.loft_listing_reader.specs.Lists.{line_number, LineFault, Lists};
 ghost use Rattle.loft_listing_reader.specs.Numbered.{numbered};
 ghost use Rattle.loft_listing_reader.specs.declared.error.ListError.TheVariants.{Line, NoMemory as no_memory, TooLong};
 
-use crate::earlier::{blame, earlier};
+use crate::earlier::earlier;
 use crate::error::ListError;
-use crate::modules::modules_code;
+use crate::module::modules_code;
+use crate::wrong::first_wrong_operation;
+use loft_base::NoMemory;
 use loft_code::{CodeProgram, RawCode};
-use loft_listing_draft::{Drafted, MAX_LISTING_LEN, read_draft};
+use loft_listing_draft::{Draft, Drafted, MAX_LISTING_LEN, read_draft};
 use loft_listing_names::{first_misplaced, first_wrong_name};
 use loft_numbers::number_heads;
+use loft_scopes::Table;
 use std::alloc::Global;
 
-/// The code that a draft says, with numbers in place of its names, where it doesn't stop and no
-/// line of it is wrong.
-fn code_of(alloc: Global, drafted: &Drafted) -> Result<RawCode, ListError>
-    requires { (d : PlainDraft) × DraftFits d × IsShort d × IsInMemory drafted.now.draft d }
-    ensures { (d : PlainDraft) → DraftFits d → IsInMemory drafted.now.draft d
-        → Comes automata_of (all_wrong drafted.now.stop d) (numbered d) result }
+/// What a draft declares, and the offset of the first line that is wrong, or at which the text
+/// stops; none where it is a listing without wrong lines.
+fn first_fault<'a>(
+    alloc: Global,
+    drafted: &'a Drafted,
+) -> Result<(Table<'a>, Option<u32>), NoMemory>
+    requires { IsDraft drafted.now.draft }
+    ensures table { IfOk result (λ found.
+        found.0 ≡ declared (source_of drafted.now.draft.items.items)) }
+    ensures least { (d : PlainDraft) → IsInMemory drafted.now.draft d
+        → IfOk result (λ found. IsLeastOf found.1 (all_wrong drafted.now.stop d)) }
 {
     let items = drafted.draft.items.as_slice();
-    let texts = drafted.draft.operations.as_slice();
     let (table, name) = first_wrong_name(alloc, items)?;
     let misplaced = first_misplaced(alloc, &table, items)?;
-    let wrong = earlier(drafted.stop, earlier(name, misplaced));
-    match modules_code(alloc, &table, items, texts) {
-        Ok(modules) => match wrong {
-            None => {
-                let heads = number_heads(alloc, &table, items)?;
-                Ok(RawCode::new(CodeProgram { heads, modules }))
-            }
-            Some(line) => Err(ListError::Line(line)),
-        },
-        Err(error) => Err(blame(wrong, error)),
-    }
+    let operation = first_wrong_operation(&table, &drafted.draft);
+    let first = earlier(drafted.stop, earlier(name, earlier(misplaced, operation)));
+    Ok((table, first))
+}
+
+/// The code that a draft without wrong lines says, with numbers in place of its names.
+fn code_of(alloc: Global, table: &Table, draft: &Draft) -> Result<RawCode, NoMemory>
+    requires table { table.now ≡ declared (source_of draft.now.items.items) }
+    requires right { (d : PlainDraft) × DraftFits d × IsInMemory draft.now d
+        × (wrong_offsets d ≡ []) }
+    ensures { (d : PlainDraft) → IsInMemory draft.now d
+        → IfOk result (λ c. automata_of c ≡ numbered d) }
+{
+    let heads = number_heads(alloc, table, draft.items.as_slice())?;
+    let modules = modules_code(alloc, table, draft)?;
+    Ok(RawCode::new(CodeProgram { heads, modules }))
+}
+
+/// The number of the line at this offset, from 1.
+fn line_number(text: &[u8], at: u32) -> u32
+    requires { length text.now ≤ MAX_LISTING_LEN }
+    ensures { result ≡ line_number text.now at }
+{
+    let before = &text[..text.len().min(at as usize)];
+    1 + before.iter().filter(|byte| **byte == b'\n').count() as u32
 }
 
 /// The code that a listing is of (docs/CODE.md, "Listings that are read").
@@ -65,5 +89,9 @@ pub fn read(alloc: Global, text: &[u8]) -> Result<RawCode, ListError>
         return Err(ListError::TooLong);
     }
     let drafted = read_draft(alloc, text)?;
-    code_of(alloc, &drafted)
+    let (table, fault) = first_fault(alloc, &drafted)?;
+    match fault {
+        Some(at) => Err(ListError::Line(line_number(text, at))),
+        None => Ok(code_of(alloc, &table, &drafted.draft)?),
+    }
 }

@@ -55,7 +55,7 @@ slot_there (v ∷ vs) ws (suc k) is = slot_there vs ws k is
 module _ (ds : List Declared) where
   -- ---- what is meant, used in the ways of a listing
 
-  -- on each line it means the same
+  -- at each offset it means the same
   pub placed : (from : Scope) (sort : Sort) (number : ℕ) (name : Ident) (line : ℕ) → Meant ds from sort number name → Meant ds from sort number (name_at line name)
   placed from sort number name line m = record { declaration = m.declaration; means = m.means; sorted = m.sorted; numbered = m.numbered }
 

@@ -18,16 +18,17 @@ use Rattle.loft_names.proofs.HeadsNumbers.{each_declared_has}
 use Rattle.loft_names.proofs.HoldsPrograms.{uses_agree}
 use Rattle.loft_code.specs.Fits.{RawFits}
 use Rattle.loft_code.specs.Operations.{Automata}
-use Rattle.loft_listing_line.specs.Rows.{Title, bare_line, line_text}
+use Rattle.loft_listing_line.specs.Rows.{ListingLine, Title, bare_line, line_text}
+use Rattle.loft_listing_line.specs.RowsFit.{ListingLineFits}
+use Rattle.loft_listing_line.proofs.Bare.{same_line}
 use Rattle.loft_listing_draft.specs.Drafts.{Draft, DraftFits, draft_lines, source_of}
-use Rattle.loft_listing_names.specs.Wrong.{declaration_misplaced, heads_in, modules_wrong, wrong_lines}
+use Rattle.loft_listing_names.specs.Wrong.{declaration_misplaced, heads_in, modules_wrong, wrong_offsets}
 use Rattle.loft_listing_reader.specs.Lists.{Lists}
 use Rattle.loft_listing_reader.specs.Numbered.{modules_from, numbered}
 use Rattle.loft_listing_reader.proofs.KeepsCode.{numbered_keeps}
 use Rattle.loft_listing.specs.Lines.{listing_lines}
 use Rattle.loft_listing.specs.Listing.{listing_text}
 use Rattle.loft_listing_roundtrip.specs.ThreadsNamed.{ArgumentNamed, ClientNamed, OrderNamed, StartNamed, ThreadsNamed}
-use Rattle.loft_listing_roundtrip.proofs.LinesSame.{texts_back}
 use Rattle.loft_listing_roundtrip.proofs.ListingBack.{lines_read}
 use Rattle.loft_listing_roundtrip.proofs.NamesBack.{start_named}
 
@@ -35,8 +36,8 @@ none_mapped : {A B : Type 0} (f : A → B) (xs : List A) → map f xs ≡ [] →
 none_mapped f [] none = refl
 none_mapped f (x ∷ xs) none = absurd cc
 
--- a draft without wrong lines uses names as they have to be, and its operations have right names
-right_uses : (d : Draft) → wrong_lines d ≡ [] → UsesAgree (declared (source_of d)) 0 (source_of d) × (modules_wrong (declared (source_of d)) 0 d ≡ [])
+-- a draft without wrong names uses names as they have to be, and its operations have right names
+right_uses : (d : Draft) → wrong_offsets d ≡ [] → UsesAgree (declared (source_of d)) 0 (source_of d) × (modules_wrong (declared (source_of d)) 0 d ≡ [])
 right_uses d right =
     let p : Source = source_of d in
     let ds : List Declared = declared p in
@@ -45,7 +46,7 @@ right_uses d right =
     (uses_agree ds 0 p (none_right (twice_from [] ds) (uses_from ds 0 p) none), none_right (flat_map (declaration_misplaced ds (heads_in p)) p) (modules_wrong ds 0 d) others)
 
 -- the lines of the code are those of the draft, without offsets
-lines_same : (d : Draft) → DraftFits d → wrong_lines d ≡ [] → listing_lines (numbered d) ≡ map bare_line (draft_lines d)
+lines_same : (d : Draft) → DraftFits d → wrong_offsets d ≡ [] → listing_lines (numbered d) ≡ map bare_line (draft_lines d)
 lines_same d fits right =
     let p : Source = source_of d in
     let ds : List Declared = declared p in
@@ -61,7 +62,12 @@ lines_same d fits right =
       lines = follows_all (modules_from ds 0 d);
     }) uses.0 fits.source.each fits.lines.1 uses.1)
 
-same_texts : (d : Draft) → DraftFits d → wrong_lines d ≡ [] → listing_text (numbered d) ≡ flat_map line_text (draft_lines d)
+-- without offsets lines have the same texts
+texts_back : (ls : List ListingLine) → Each ListingLineFits ls → flat_map line_text (map bare_line ls) ≡ flat_map line_text ls
+texts_back [] fit = refl
+texts_back (l ∷ ls) fit = (λ i. same_line l fit.0 i ++ texts_back ls fit.1 i)
+
+same_texts : (d : Draft) → DraftFits d → wrong_offsets d ≡ [] → listing_text (numbered d) ≡ flat_map line_text (draft_lines d)
 same_texts d fits right = ap (flat_map line_text) (lines_same d fits right) ∙ texts_back (draft_lines d) fits.lines
 
 pub text_is_written : (text : List ℕ) (c : Automata) → Lists text c → text ≡ listing_text c

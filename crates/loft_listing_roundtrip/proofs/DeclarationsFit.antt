@@ -1,10 +1,11 @@
 -- The declarations of the draft of code keep the limits of a source.
-use Rattle.std.proofs.Common.{◌≡◌, ℕ, ◌+◌, ◌<◌, ◌≤◌, zero, suc, Bool, true, false, ◌==◌, List, [], ◌∷◌, length, Option, Some, None, map, refl, sym, subst, ap, ◌∙◌, arith}
+use Rattle.std.proofs.Common.{◌≡◌, ℕ, ◌<◌, ◌≤◌, zero, suc, Bool, true, false, ◌==◌, List, [], ◌∷◌, length, Option, Some, None, map, refl, sym, subst, ap, ◌∙◌, arith}
 use Rattle.std.specs.Prelude.{slice_get, unwrap_or, if◌then◌else◌}
 use Rattle.std.specs.Option.{option_map}
 use Rattle.std.specs.Str.{bytes_eq}
 use Rattle.std.proofs.lemmas.Bool.{and_parts, eq-eqb}
 use Rattle.std.proofs.lemmas.Slice.Eq.{bytes_eq-Decides}
+use Rattle.std.proofs.lemmas.List.{length-map}
 use Rattle.std.proofs.lemmas.Option.{slice_get_within}
 use Rattle.loft_base.specs.declared.ids.SchedId.{SchedId}
 use Rattle.loft_base.specs.declared.ids.EventId.{EventId}
@@ -28,19 +29,23 @@ use Rattle.loft_tree.specs.declared.heads.HeadItem.TheVariants as item
 use Rattle.loft_tree.specs.declared.heads.Heads.{Heads}
 use Rattle.loft_tree.specs.Fits.{Each, IfThere, NameFits, PlaceFits, EndFits, ArgumentFits, CallFits, OrderFits, DeclarationFits}
 use Rattle.loft_tree.specs.Fits as fits
+use Rattle.loft_tree.specs.Source as src
+use Rattle.loft_tree.specs.Source.{Named}
 use Rattle.loft_tree.specs.HeadsFit.{agree, kinds_of, is_of}
 use Rattle.loft_tree.specs.NamedFits.{ArgumentHolds, CallHolds, EventHolds, IsName, IsPlace, IsScheduler, OrderHolds, SharedHolds, SignatureHolds, SlotHolds, StartHolds, TakesArguments}
 use Rattle.loft_names.proofs.HeadsLists.{each_get}
 use Rattle.loft_code.specs.Fits.{HeadsKeep}
 use Rattle.loft_code.specs.Places.{same_place}
-use Rattle.loft_listing_draft.specs.Lined.{argument_at, lined_declaration, locals_from, name_at, order_at, orders_from, place_at, variable_at}
-use Rattle.loft_listing.specs.Called.{called, called_argument, called_event, called_module, called_order, called_place, called_scheduler, called_shared, called_thread, called_variable, start_name}
+use Rattle.loft_grammar.specs.PartsFit.{HeadFits, NamedFits}
+use Rattle.loft_listing_line.specs.Rows as rows
+use Rattle.loft_listing_draft.proofs.Offsets.{line_at_fits}
+use Rattle.loft_listing.specs.Called.{called, called_argument, called_event, called_head, called_module, called_order, called_place, called_scheduler, called_shared, called_thread, called_variable, start_declaration, start_name}
 use Rattle.loft_listing_roundtrip.specs.ThreadsNamed.{ArgumentNamed, IsNamedThread, OrderNamed}
 use Rattle.loft_listing_roundtrip.proofs.Parts.{Part, SchedulerPart, EventPart, SharedPart, ModulePart, StartPart, ClientPart}
-use Rattle.loft_listing_roundtrip.proofs.Saying.{part_item}
+use Rattle.loft_listing_roundtrip.proofs.Saying.{after_head, after_local, after_name, after_order, locals_from, orders_from, part_item}
 use Rattle.loft_listing_roundtrip.proofs.Called.{there_at}
 use Rattle.loft_listing_roundtrip.proofs.HeadsAgain.{signature_there}
-use Rattle.loft_listing_roundtrip.proofs.PartsHold.{PartKeeps}
+use Rattle.loft_listing_roundtrip.proofs.PartsHold.{PartKeeps, StartKeeps}
 
 -- ---- names
 
@@ -61,21 +66,27 @@ number_of (item.Client c) = c
 
 -- ---- parameters and local variables
 
-slots_fit : (line : ℕ) (vs : List SlotHead) → Each SlotHolds vs → Each (λ v. NameFits v.name) (map (variable_at line) (map called_variable vs))
-slots_fit line [] hold = tt
-slots_fit line (v ∷ vs) hold = (hold.0, slots_fit line vs hold.1)
+slots_fit : (vs : List SlotHead) → Each SlotHolds vs → Each NamedFits (map called_variable vs)
+slots_fit [] hold = tt
+slots_fit (v ∷ vs) hold = (hold.0, slots_fit vs hold.1)
 
-slots_length : (line : ℕ) (vs : List SlotHead) → length (map (variable_at line) (map called_variable vs)) ≡ length vs
-slots_length line [] = refl
-slots_length line (v ∷ vs) = ap suc (slots_length line vs)
+locals_fit : (at : ℕ) (vs : List Named) → Each NamedFits vs → Each NamedFits (locals_from at vs)
+locals_fit at [] fit = tt
+locals_fit at (v ∷ vs) fit = (fit.0, locals_fit (after_local at v) vs fit.1)
 
-locals_fit : (line : ℕ) (vs : List SlotHead) → Each SlotHolds vs → Each (λ v. NameFits v.name) (locals_from line (map called_variable vs))
-locals_fit line [] hold = tt
-locals_fit line (v ∷ vs) hold = (hold.0, locals_fit (line + 1) vs hold.1)
+locals_length : (at : ℕ) (vs : List Named) → length (locals_from at vs) ≡ length vs
+locals_length at [] = refl
+locals_length at (v ∷ vs) = ap suc (locals_length (after_local at v) vs)
 
-locals_length : (line : ℕ) (vs : List SlotHead) → length (locals_from line (map called_variable vs)) ≡ length vs
-locals_length line [] = refl
-locals_length line (v ∷ vs) = ap suc (locals_length (line + 1) vs)
+-- ---- orders
+
+orders_stand_fit : (at : ℕ) (xs : List src.Order) → Each OrderFits xs → Each OrderFits (orders_from at xs)
+orders_stand_fit at [] fit = tt
+orders_stand_fit at (x ∷ xs) fit = (line_at_fits at (rows.Order x) fit.0, orders_stand_fit (after_order at x) xs fit.1)
+
+orders_length : (at : ℕ) (xs : List src.Order) → length (orders_from at xs) ≡ length xs
+orders_length at [] = refl
+orders_length at (x ∷ xs) = ap suc (orders_length (after_order at x) xs)
 
 module _ (h : Heads) (keeps : HeadsKeep h) where
   pub scheduler_fits : (s : SchedId) → IsScheduler h s → NameFits (called_scheduler h s)
@@ -107,9 +118,9 @@ module _ (h : Heads) (keeps : HeadsKeep h) where
 
   -- ---- places
 
-  pub place_fits : (line : ℕ) (p : Place) → IsPlace h p → PlaceFits (place_at line (called_place h p))
-  place_fits line (Sched s) is = scheduler_fits s is
-  place_fits line Unlinked is = tt
+  pub place_fits : (p : Place) → IsPlace h p → PlaceFits (called_place h p)
+  place_fits (Sched s) is = scheduler_fits s is
+  place_fits Unlinked is = tt
 
   -- schedulers have names of their own
   one_scheduler : (s t : SchedId) → IsScheduler h s → IsScheduler h t → (called_scheduler h s).text ≡ (called_scheduler h t).text → s.0 ≡ t.0
@@ -126,81 +137,96 @@ module _ (h : Heads) (keeps : HeadsKeep h) where
       let both : true ≡ false = sym (eq-eqb s.0 t.0 one) ∙ other in absurd cc
   other_name s t is also other false same = refl
 
-  places_differ : (line : ℕ) (p q : Place) → IsPlace h p → IsPlace h q → same_place p q ≡ false → fits.same_place (place_at line (called_place h p)) (place_at line (called_place h q)) ≡ false
-  places_differ line (Sched s) (Sched t) is also other = other_name s t is also other (bytes_eq (called_scheduler h s).text (called_scheduler h t).text) refl
-  places_differ line (Sched s) Unlinked is also other = refl
-  places_differ line Unlinked (Sched t) is also other = refl
-  places_differ line Unlinked Unlinked is also other = absurd cc
+  places_differ : (p q : Place) → IsPlace h p → IsPlace h q → same_place p q ≡ false → fits.same_place (called_place h p) (called_place h q) ≡ false
+  places_differ (Sched s) (Sched t) is also other = other_name s t is also other (bytes_eq (called_scheduler h s).text (called_scheduler h t).text) refl
+  places_differ (Sched s) Unlinked is also other = refl
+  places_differ Unlinked (Sched t) is also other = refl
+  places_differ Unlinked Unlinked is also other = absurd cc
 
-  end_fits : (line : ℕ) (begin end : Place) → IsPlace h begin → IsPlace h end → (b : Bool) → same_place begin end ≡ b
-      → EndFits (place_at line (called_place h begin)) (option_map (place_at line) (if b then None else Some (called_place h end)))
-  end_fits line begin end is also true same = tt
-  end_fits line begin end is also false other = (place_fits line end also, places_differ line begin end is also other)
+  end_fits : (begin end : Place) → IsPlace h begin → IsPlace h end → (b : Bool) → same_place begin end ≡ b
+      → EndFits (called_place h begin) (if b then None else Some (called_place h end))
+  end_fits begin end is also true same = tt
+  end_fits begin end is also false other = (place_fits end also, places_differ begin end is also other)
 
   -- ---- parts of declarations
 
-  argument_fits : (line : ℕ) (v : Value) → ArgumentHolds h v → ArgumentNamed h v → ArgumentFits (argument_at line (called_argument h v))
-  argument_fits line (value.Int number) holds named = holds
-  argument_fits line (value.Thread t) holds named = thread_fits t holds.0 named
+  argument_fits : (v : Value) → ArgumentHolds h v → ArgumentNamed h v → ArgumentFits (called_argument h v)
+  argument_fits (value.Int number) holds named = holds
+  argument_fits (value.Thread t) holds named = thread_fits t holds.0 named
 
-  arguments_fit : (line : ℕ) (args : List Value) → Each (ArgumentHolds h) args → Each (ArgumentNamed h) args → Each ArgumentFits (map (argument_at line) (map (called_argument h) args))
-  arguments_fit line [] hold named = tt
-  arguments_fit line (v ∷ args) hold named = (argument_fits line v hold.0 named.0, arguments_fit line args hold.1 named.1)
+  arguments_fit : (args : List Value) → Each (ArgumentHolds h) args → Each (ArgumentNamed h) args → Each ArgumentFits (map (called_argument h) args)
+  arguments_fit [] hold named = tt
+  arguments_fit (v ∷ args) hold named = (argument_fits v hold.0 named.0, arguments_fit args hold.1 named.1)
 
-  as_many : (line : ℕ) (vs : List SlotHead) (args : List Value) → agree (kinds_of vs) args ≡ true → length (map (argument_at line) (map (called_argument h) args)) ≡ length vs
-  as_many line [] [] is = refl
-  as_many line [] (x ∷ args) is = absurd cc
-  as_many line (v ∷ vs) [] is = absurd cc
-  as_many line (v ∷ vs) (x ∷ args) is = ap suc (as_many line vs args (and_parts (is_of x v.kind) (agree (kinds_of vs) args) is).1)
+  as_many : (vs : List SlotHead) (args : List Value) → agree (kinds_of vs) args ≡ true → length (map (called_argument h) args) ≡ length vs
+  as_many [] [] is = refl
+  as_many [] (x ∷ args) is = absurd cc
+  as_many (v ∷ vs) [] is = absurd cc
+  as_many (v ∷ vs) (x ∷ args) is = ap suc (as_many vs args (and_parts (is_of x v.kind) (agree (kinds_of vs) args) is).1)
 
-  call_fits : (line : ℕ) (s : SchedId) (m : ModuleId) (args : List Value) → CallHolds h s m args → Each (ArgumentNamed h) args
-      → CallFits (name_at line (called_scheduler h s)) (name_at line (called_module h m)) (map (argument_at line) (map (called_argument h) args))
-  call_fits line s m args holds named =
+  call_fits : (s : SchedId) (m : ModuleId) (args : List Value) → CallHolds h s m args → Each (ArgumentNamed h) args
+      → CallFits (called_scheduler h s) (called_module h m) (map (called_argument h) args)
+  call_fits s m args holds named =
       let signature = signature_there (slice_get h.modules m.0) args holds.takes in
       let takes : TakesArguments (Some signature.0) args = subst (λ (o : Option Signature). TakesArguments o args) signature.1 holds.takes in
-      let many : length (map (argument_at line) (map (called_argument h) args)) ≡ length signature.0.parameters = as_many line signature.0.parameters args takes in
+      let many : length (map (called_argument h) args) ≡ length signature.0.parameters = as_many signature.0.parameters args takes in
       let few : length signature.0.parameters ≤ MAX_PARAMETERS = (each_get (SignatureHolds h) h.modules m.0 signature.0 keeps.within.modules signature.1).few_parameters in
       record {
         there = scheduler_fits s holds.scheduler;
         runs = module_fits m (slice_get_within h.modules m.0 signature.0 signature.1);
-        each = arguments_fit line args holds.arguments named;
+        each = arguments_fit args holds.arguments named;
         few = omega (arith, many, few);
       }
 
-  order_fits : (line : ℕ) (x : ClientOrder) → OrderHolds h x → OrderNamed h x → OrderFits (order_at line (called_order h x))
-  order_fits line (order.Create s m args) holds named = call_fits line s m args holds named
-  order_fits line (order.Control control t s) holds named = (thread_fits t holds.0.0 named, scheduler_fits s holds.1)
-  order_fits line (order.Broadcast event value) holds named = (event_fits event holds.0, holds.1)
+  order_fits : (x : ClientOrder) → OrderHolds h x → OrderNamed h x → OrderFits (called_order h x)
+  order_fits (order.Create s m args) holds named = call_fits s m args holds named
+  order_fits (order.Control control t s) holds named = (thread_fits t holds.0.0 named, scheduler_fits s holds.1)
+  order_fits (order.Broadcast event value) holds named = (event_fits event holds.0, holds.1)
 
-  orders_fit : (line : ℕ) (xs : List ClientOrder) → Each (OrderHolds h) xs → Each (OrderNamed h) xs → Each OrderFits (orders_from line (map (called_order h) xs))
-  orders_fit line [] hold named = tt
-  orders_fit line (x ∷ xs) hold named = (order_fits line x hold.0 named.0, orders_fit (line + 1) xs hold.1 named.1)
+  pub orders_fit : (xs : List ClientOrder) → Each (OrderHolds h) xs → Each (OrderNamed h) xs → Each OrderFits (map (called_order h) xs)
+  orders_fit [] hold named = tt
+  orders_fit (x ∷ xs) hold named = (order_fits x hold.0 named.0, orders_fit xs hold.1 named.1)
 
-  orders_length : (line : ℕ) (xs : List ClientOrder) → length (orders_from line (map (called_order h) xs)) ≡ length xs
-  orders_length line [] = refl
-  orders_length line (x ∷ xs) = ap suc (orders_length (line + 1) xs)
-
-  name_if_fits : (line : ℕ) (name : Option (List ℕ)) → IfThere IsName name → IfThere NameFits (option_map (name_at line) (option_map called name))
-  name_if_fits line None is = tt
-  name_if_fits line (Some name) is = is
+  name_if_fits : (name : Option (List ℕ)) → IfThere IsName name → IfThere NameFits (option_map called name)
+  name_if_fits None is = tt
+  name_if_fits (Some name) is = is
 
   -- ---- declarations
 
-  pub declaration_fits : (line : ℕ) (p : Part) → PartKeeps h p → DeclarationFits (lined_declaration line (part_item h p).declaration)
-  declaration_fits line (SchedulerPart name) keep = keep
-  declaration_fits line (EventPart x) keep = (keep.name, scheduler_fits x.scheduler keep.scheduler)
-  declaration_fits line (SharedPart x) keep = (keep.name, scheduler_fits x.scheduler keep.scheduler, keep.value)
-  declaration_fits line (ModulePart m lines) keep = record {
-    name = keep.0.name;
-    parameters = slots_fit line m.parameters keep.0.parameters;
-    few_parameters = subst (λ (n : ℕ). n ≤ MAX_PARAMETERS) (sym (slots_length line m.parameters)) keep.0.few_parameters;
-    begin = place_fits line m.begin keep.0.begin;
-    end = end_fits line m.begin m.end keep.0.begin keep.0.end (same_place m.begin m.end) refl;
-    each_local = locals_fit (line + 1) m.locals keep.0.locals;
-    few_locals = subst (λ (n : ℕ). n ≤ MAX_LOCALS) (sym (locals_length (line + 1) m.locals)) keep.0.few_locals;
-    statements = tt;
-    few_statements = omega arith;
+  pub head_fits : (m : Signature) → SignatureHolds h m → HeadFits (called_head h m)
+  head_fits m holds = record {
+    name = holds.name;
+    parameters = slots_fit m.parameters holds.parameters;
+    few_parameters = subst (λ (n : ℕ). n ≤ MAX_PARAMETERS) (sym (length-map m.parameters called_variable)) holds.few_parameters;
+    begin = place_fits m.begin holds.begin;
+    end = end_fits m.begin m.end holds.begin holds.end (same_place m.begin m.end) refl;
   }
-  declaration_fits line (StartPart t) keep = (call_fits line t.scheduler t.module t.arguments keep.holds.call keep.named, name_if_fits line t.name keep.holds.name)
-  declaration_fits line (ClientPart c) keep =
-      (keep.holds.name, orders_fit (line + 1) c.orders keep.holds.orders keep.named, subst (λ (n : ℕ). n ≤ MAX_ORDERS) (sym (orders_length (line + 1) c.orders)) keep.holds.few_orders)
+
+  pub start_fits : (t : Start) → StartKeeps h t → DeclarationFits (start_declaration h t)
+  start_fits t keep = (call_fits t.scheduler t.module t.arguments keep.holds.call keep.named, name_if_fits t.name keep.holds.name)
+
+  -- with the offsets at which they stand
+  pub declaration_fits : (at : ℕ) (p : Part) → PartKeeps h p → DeclarationFits (part_item h at p).declaration
+  declaration_fits at (SchedulerPart name) keep = keep
+  declaration_fits at (EventPart x) keep = (keep.name, scheduler_fits x.scheduler keep.scheduler)
+  declaration_fits at (SharedPart x) keep = (keep.name, scheduler_fits x.scheduler keep.scheduler, keep.value)
+  declaration_fits at (ModulePart m lines) keep =
+      let head = line_at_fits at (rows.Head (called_head h m)) (head_fits m keep.0) in
+      let locals : List Named = map called_variable m.locals in
+      let many = locals_length (after_head h at m) locals ∙ length-map m.locals called_variable in
+      record {
+        name = head.name;
+        parameters = head.parameters;
+        few_parameters = head.few_parameters;
+        begin = head.begin;
+        end = head.end;
+        each_local = locals_fit (after_head h at m) locals (slots_fit m.locals keep.0.locals);
+        few_locals = subst (λ (n : ℕ). n ≤ MAX_LOCALS) (sym many) keep.0.few_locals;
+        statements = tt;
+        few_statements = omega arith;
+      }
+  declaration_fits at (StartPart t) keep = (line_at_fits at (rows.Item (start_declaration h t)) (tt, start_fits t keep)).1
+  declaration_fits at (ClientPart c) keep =
+      let orders : List src.Order = map (called_order h) c.orders in
+      let many = orders_length (after_name at c.name) orders ∙ length-map c.orders (called_order h) in
+      (keep.holds.name, orders_stand_fit (after_name at c.name) orders (orders_fit c.orders keep.holds.orders keep.named), subst (λ (n : ℕ). n ≤ MAX_ORDERS) (sym many) keep.holds.few_orders)

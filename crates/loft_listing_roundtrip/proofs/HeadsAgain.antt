@@ -123,11 +123,11 @@ module _ (ds : List Declared) (h : Heads) (says : Says ds h) where
   client_again c holds named = (λ i. record { name = c.name; orders = map_same2 (remade_order ds h) (OrderHolds h) (OrderNamed h) order_again c.orders holds.orders named i })
 
 -- what the draft of parts declares
-pub heads_again : (ds : List Declared) (ps : List Part) → Says ds (heads_in ps) → HeadsKeep (heads_in ps) → ThreadsNamed (heads_in ps) → (line : ℕ)
-    → heads_of ds (source_of (said (heads_in ps) line ps)) ≡ heads_in ps
-heads_again ds ps says keeps named line =
+pub heads_again : (ds : List Declared) (ps : List Part) → Says ds (heads_in ps) → HeadsKeep (heads_in ps) → ThreadsNamed (heads_in ps) → (at : ℕ)
+    → heads_of ds (source_of (said (heads_in ps) at ps)) ≡ heads_in ps
+heads_again ds ps says keeps named at =
     let h : Heads = heads_in ps in
-    heads_remade ds h line ps
+    heads_remade ds h at ps
     ∙ (λ i. record {
       schedulers = h.schedulers;
       events = map_same (remade_event ds h) (EventHolds h) (event_again ds h says) h.events keeps.within.events i;

@@ -75,23 +75,23 @@ module _ (ds : List Declared) (h : Heads) where
       record { head = remade_module ds h (0 + m) is.head; there = made_of 0 (modules_in ps) m is.head is.there; slot = is.slot }
   after ps (Within m) sort number name is = absurd is
 
--- what is declared by parts, from this line on
+-- what is declared by parts, from this offset on
 abbrev pub declared_in : ℕ → List Part → List Declared
-declared_in line ps = declared (source_of (said (heads_in ps) line ps))
+declared_in at ps = declared (source_of (said (heads_in ps) at ps))
 
 -- the number of each declaration stands for the head with its name
-pub each_has_head : (line : ℕ) (ps : List Part) → Each (HasHead (heads_in ps)) (declared_in line ps)
-each_has_head line ps =
-    let p : Source = source_of (said (heads_in ps) line ps) in
+pub each_has_head : (at : ℕ) (ps : List Part) → Each (HasHead (heads_in ps)) (declared_in at ps)
+each_has_head at ps =
+    let p : Source = source_of (said (heads_in ps) at ps) in
     let ds : List Declared = declared p in
     each_map (HasHead (heads_of ds p)) (HasHead (heads_in ps)) ds
-    (λ d is. before ds (heads_in ps) ps d.scope d.sort d.number d.name.text (subst (λ (x : Heads). HasHead x d) (heads_remade ds (heads_in ps) line ps) is))
+    (λ d is. before ds (heads_in ps) ps d.scope d.sort d.number d.name.text (subst (λ (x : Heads). HasHead x d) (heads_remade ds (heads_in ps) at ps) is))
     (each_declared_has p)
 
 -- each head stands for a declaration with its name
-pub head_is_declared : (line : ℕ) (ps : List Part) (scope : Scope) (sort : Sort) (number : ℕ) (name : List ℕ) → IsHeadIn (heads_in ps) scope sort number name → IsDeclared (declared_in line ps) scope sort number name
-head_is_declared line ps scope sort number name is =
-    let p : Source = source_of (said (heads_in ps) line ps) in
+pub head_is_declared : (at : ℕ) (ps : List Part) (scope : Scope) (sort : Sort) (number : ℕ) (name : List ℕ) → IsHeadIn (heads_in ps) scope sort number name → IsDeclared (declared_in at ps) scope sort number name
+head_is_declared at ps scope sort number name is =
+    let p : Source = source_of (said (heads_in ps) at ps) in
     let ds : List Declared = declared p in
     heads_are_declared p scope sort number name
-    (subst (λ (x : Heads). IsHeadIn x scope sort number name) (sym (heads_remade ds (heads_in ps) line ps)) (after ds (heads_in ps) ps scope sort number name is))
+    (subst (λ (x : Heads). IsHeadIn x scope sort number name) (sym (heads_remade ds (heads_in ps) at ps)) (after ds (heads_in ps) ps scope sort number name is))

@@ -19,8 +19,8 @@ pub mod ExpressionsFit
 pub mod OperationsFit
 pub mod OperationsBare
 pub mod LinesFit
-pub mod LinesSame
 pub mod Lining
+pub mod LinesSame
 pub mod SourceSaid
 pub mod Roundtrip
 pub mod NamesBack

@@ -26,7 +26,7 @@ use Rattle.loft_listing_draft.specs.Drafts.{Draft, DraftItem, DraftOperation, so
 use Rattle.loft_listing_line.specs.RowsFit.{ListingLineFits}
 use Rattle.loft_listing.specs.Called.{called, called_variable, event_declaration, scheduler_declaration, shared_declaration, start_declaration}
 use Rattle.loft_listing.specs.Lines.{client_lines, item_lines, lines_if, module_lines, operation_lines, operations_of}
-use Rattle.loft_listing_names.specs.Wrong.{first_operation, modules_wrong, operations_wrong}
+use Rattle.loft_listing_names.specs.Wrong.{modules_wrong, operations_wrong}
 use Rattle.loft_listing_reader.specs.Numbered.{modules_from, numbered_line}
 use Rattle.loft_listing_roundtrip.proofs.NamesBack.{module_back, scheduler_back}
 use Rattle.loft_listing_roundtrip.proofs.OperationsBack.{operations_read}
@@ -81,7 +81,7 @@ module _ (h : Heads) (modules : List (List Line)) (ds : List Declared) where
   module _ (each : Each (HasHead h) ds) where
     module_read : (k : DeclarationCounts) (head : src.ModuleHead) (locals : List Named) (body : src.Statements) (os : List DraftOperation) (is : Draft) → AreLeft h modules ds k (item (Module head locals body) os ∷ is)
         → DeclarationAgrees ds k.modules (Module head locals body) → DeclarationFits (Module head locals body) → Each ListingLineFits (drafts.declaration_lines (Module head locals body) os)
-        → operations_wrong ds (Within k.modules) (first_operation (Module head locals body)) os ≡ []
+        → operations_wrong ds (Within k.modules) (drafts.operations_in (Module head locals body) os) ≡ []
         → item_lines h modules (item_of k (Module head locals body)) ≡ map bare_line (drafts.declaration_lines (Module head locals body) os)
     module_read k head locals body os is l agrees fits fit none =
         let signature : Signature = signature_of ds k.modules head locals in
@@ -89,7 +89,7 @@ module _ (h : Heads) (modules : List (List Line)) (ds : List Declared) where
         let lines : List Line = map (numbered_line ds (Within k.modules)) os in
         let has : slice_get modules k.modules ≡ Some lines = follows_head _ _ _ _ l.lines in
         let inside = each_right ListingLineFits (map rows.Local locals) (drafts.operation_lines 0 os ++ rows.End ∷ []) fit.1 in
-        let operations = operations_read ds h each k.modules signature there 0 (first_operation (Module head locals body)) os (each_left ListingLineFits (drafts.operation_lines 0 os) (rows.End ∷ []) inside) none in
+        let operations = operations_read ds h each k.modules signature there 0 (drafts.after_locals head locals) os (each_left ListingLineFits (drafts.operation_lines 0 os) (rows.End ∷ []) inside) none in
         let rest : operation_lines h signature 0 lines ++ rows.End ∷ [] ≡ map bare_line (drafts.operation_lines 0 os ++ rows.End ∷ []) =
         ap (λ ls. ls ++ rows.End ∷ []) operations ∙ sym (map-append bare_line (drafts.operation_lines 0 os) (rows.End ∷ [])) in
         ap (lines_if (λ x. module_lines h x (operations_of modules k.modules))) there
@@ -98,7 +98,7 @@ module _ (h : Heads) (modules : List (List Line)) (ds : List Declared) where
         ∷ locals_lines locals (operation_lines h signature 0 lines ++ rows.End ∷ []) (drafts.operation_lines 0 os ++ rows.End ∷ []) rest i)
 
     item_read : (k : DeclarationCounts) (x : Declaration) (os : List DraftOperation) (is : Draft) → AreLeft h modules ds k (item x os ∷ is) → DeclarationAgrees ds k.modules x → DeclarationFits x
-        → Each ListingLineFits (drafts.declaration_lines x os) → operations_wrong ds (Within k.modules) (first_operation x) os ≡ []
+        → Each ListingLineFits (drafts.declaration_lines x os) → operations_wrong ds (Within k.modules) (drafts.operations_in x os) ≡ []
         → item_lines h modules (item_of k x) ≡ map bare_line (drafts.declaration_lines x os)
     item_read k (Scheduler name) os is l agrees fits fit none = ap (lines_if (λ x. rows.Item (scheduler_declaration x) ∷ [])) (follows_head _ _ _ _ l.schedulers)
     item_read k (Event name scheduler) os is l agrees fits fit none =
@@ -122,7 +122,7 @@ module _ (h : Heads) (modules : List (List Line)) (ds : List Declared) where
     lines_read k [] l agree fits fit none = refl
     lines_read k (i ∷ is) l agree fits fit none =
         let x : Declaration = i.declaration in
-        let wrong = operations_wrong ds (Within k.modules) (first_operation x) i.operations in
+        let wrong = operations_wrong ds (Within k.modules) (drafts.operations_of i) in
         let first = item_read k x i.operations is l agree.0 fits.0 (each_left ListingLineFits (drafts.item_lines i) (flat_map drafts.item_lines is) fit) (none_left wrong _ none) in
         let rest = lines_read (after k x) is (are_left k x i.operations is l) (subst (λ (n : ℕ). UsesAgree ds n (source_of is)) (same_next k x) agree.1) fits.1
         (each_right ListingLineFits (drafts.item_lines i) (flat_map drafts.item_lines is) fit)

@@ -108,15 +108,16 @@ module _ (ds : List Declared) (h : Heads) (each : Each (HasHead h) ds) (m : ℕ)
   place_read (InScheduler name) right = ap InScheduler (scheduler_read ds h each m signature is name right)
   place_read Unlinked right = refl
 
-  is_right : (b : Bool) (line : ℕ) (rest : List ℕ) → (if b then [] else line ∷ []) ++ rest ≡ [] → (b ≡ true) × (rest ≡ [])
-  is_right true line rest none = (refl, none)
-  is_right false line rest none = absurd cc
+  is_right : (b : Bool) (at : ℕ) (rest : List ℕ) → (if b then [] else at ∷ []) ++ rest ≡ [] → (b ≡ true) × (rest ≡ [])
+  is_right true at rest none = (refl, none)
+  is_right false at rest none = absurd cc
 
   -- the operations of a module, where their lines fit and none of them is wrong
-  pub operations_read : (number line : ℕ) (os : List DraftOperation) → Each ListingLineFits (drafts.operation_lines number os) → operations_wrong ds (Within m) line os ≡ []
+  pub operations_read : (number at : ℕ) (os : List DraftOperation) → Each ListingLineFits (drafts.operation_lines number os) → operations_wrong ds (Within m) (drafts.operations_at at number os) ≡ []
       → operation_lines h signature number (map (numbered_line ds (Within m)) os) ≡ map bare_line (drafts.operation_lines number os)
-  operations_read number line [] fit none = refl
-  operations_read number line (o ∷ os) fit none =
-      let right = is_right (operation_names ds (Within m) o) line (operations_wrong ds (Within m) (line + 1) os) none in
+  operations_read number at [] fit none = refl
+  operations_read number at (o ∷ os) fit none =
+      let next : ℕ = at + length (rows.line_text (drafts.operation_line number o)) in
+      let right = is_right (operation_names ds (Within m) o) at (operations_wrong ds (Within m) (drafts.operations_at next (number + 1) os)) none in
       let parts = and_parts (place_names ds (Within m) o.place) (instruction_names ds (Within m) o.instruction) right.0 in
-      (λ i. rows.Operation number (place_read o.place parts.0 i) o.depth (instruction_read o.instruction fit.0.3 parts.1 i) ∷ operations_read (number + 1) (line + 1) os fit.1 right.1 i)
+      (λ i. rows.Operation number (place_read o.place parts.0 i) o.depth (instruction_read o.instruction fit.0.3 parts.1 i) ∷ operations_read (number + 1) next os fit.1 right.1 i)

@@ -21,13 +21,13 @@ use Rattle.loft_scopes.specs.declared.scope.Scope.{Scope}
 use Rattle.loft_scopes.specs.declared.scope.Scope.TheVariants.{Everywhere, Within}
 use Rattle.loft_scopes.specs.declared.counts.DeclarationCounts.{DeclarationCounts}
 use Rattle.loft_numbers.specs.Numbers as numbers
-use Rattle.loft_numbers.specs.Numbers.{number_of, scheduler_of, event_of, module_of, place_of, end_of, name_text, slots_of, arguments_of, client_orders, heads_of}
+use Rattle.loft_numbers.specs.Numbers.{number_of, scheduler_of, event_of, module_of, place_of, end_of, name_text, slots_of, arguments_of, client_order, client_orders, heads_of}
 use Rattle.loft_listing_draft.specs.Drafts.{source_of}
-use Rattle.loft_listing_draft.specs.Lined.{place_at, name_at, variable_at, argument_at, locals_from, orders_from}
+use Rattle.loft_listing_draft.specs.Lined.{argument_at, name_at, order_at, place_at, variable_at}
 use Rattle.loft_listing.specs.Called.{called, called_scheduler, called_event, called_module, called_thread, called_place, called_end, called_variable, called_argument, called_order}
 use Rattle.loft_listing_roundtrip.proofs.Parts as parts
 use Rattle.loft_listing_roundtrip.proofs.Parts.{Part, SchedulerPart, EventPart, SharedPart, ModulePart, StartPart, ClientPart, items_from}
-use Rattle.loft_listing_roundtrip.proofs.Saying.{said, next_line}
+use Rattle.loft_listing_roundtrip.proofs.Saying.{after_head, after_local, after_name, after_order, after_part, locals_from, orders_from, said}
 
 -- what a listing declares, and what code declares, whose names it writes
 module _ (ds : List Declared) (h : Heads) where
@@ -87,99 +87,101 @@ module _ (ds : List Declared) (h : Heads) where
     items = items_from none_yet ps;
   }
 
-  -- ---- parts of declarations: lines aren't among the numbers
+  -- ---- parts of declarations: offsets aren't among the numbers
 
-  same_parameters : (line : ℕ) (vs : List SlotHead) → slots_of (map (variable_at line) (map called_variable vs)) ≡ vs
-  same_parameters line [] = refl
-  same_parameters line (v ∷ vs) = ap (λ ws. v ∷ ws) (same_parameters line vs)
+  same_parameters : (at : ℕ) (vs : List SlotHead) → slots_of (map (variable_at at) (map called_variable vs)) ≡ vs
+  same_parameters at [] = refl
+  same_parameters at (v ∷ vs) = ap (λ ws. v ∷ ws) (same_parameters at vs)
 
-  same_locals : (line : ℕ) (vs : List SlotHead) → slots_of (locals_from line (map called_variable vs)) ≡ vs
-  same_locals line [] = refl
-  same_locals line (v ∷ vs) = ap (λ ws. v ∷ ws) (same_locals (line + 1) vs)
+  same_locals : (at : ℕ) (vs : List SlotHead) → slots_of (locals_from at (map called_variable vs)) ≡ vs
+  same_locals at [] = refl
+  same_locals at (v ∷ vs) = ap (λ ws. v ∷ ws) (same_locals (after_local at (called_variable v)) vs)
 
-  same_place : (scope : Scope) (line : ℕ) (p : PlaceName) → place_of ds scope (place_at line p) ≡ place_of ds scope p
-  same_place scope line (InScheduler name) = refl
-  same_place scope line Unlinked = refl
+  same_place : (scope : Scope) (at : ℕ) (p : PlaceName) → place_of ds scope (place_at at p) ≡ place_of ds scope p
+  same_place scope at (InScheduler name) = refl
+  same_place scope at Unlinked = refl
 
-  same_end : (scope : Scope) (line : ℕ) (begin : PlaceName) (end : Option PlaceName) → end_of ds scope (place_at line begin) (option_map (place_at line) end) ≡ end_of ds scope begin end
-  same_end scope line begin None = same_place scope line begin
-  same_end scope line begin (Some end) = same_place scope line end
+  same_end : (scope : Scope) (at : ℕ) (begin : PlaceName) (end : Option PlaceName) → end_of ds scope (place_at at begin) (option_map (place_at at) end) ≡ end_of ds scope begin end
+  same_end scope at begin None = same_place scope at begin
+  same_end scope at begin (Some end) = same_place scope at end
 
-  same_arguments : (line : ℕ) (args : List Value) → arguments_of ds Everywhere (map (argument_at line) (map (called_argument h) args)) ≡ map remade_value args
-  same_arguments line [] = refl
-  same_arguments line (value.Int number ∷ args) = ap (λ xs. value.Int number ∷ xs) (same_arguments line args)
-  same_arguments line (value.Thread t ∷ args) = ap (λ xs. value.Thread (remade_thread t) ∷ xs) (same_arguments line args)
+  same_arguments : (at : ℕ) (args : List Value) → arguments_of ds Everywhere (map (argument_at at) (map (called_argument h) args)) ≡ map remade_value args
+  same_arguments at [] = refl
+  same_arguments at (value.Int number ∷ args) = ap (λ xs. value.Int number ∷ xs) (same_arguments at args)
+  same_arguments at (value.Thread t ∷ args) = ap (λ xs. value.Thread (remade_thread t) ∷ xs) (same_arguments at args)
 
-  same_orders : (line : ℕ) (xs : List ClientOrder) → client_orders ds Everywhere (orders_from line (map (called_order h) xs)) ≡ map remade_order xs
-  same_orders line [] = refl
-  same_orders line (order.Create s m arguments ∷ xs) =
-      (λ i. order.Create (scheduler_of ds Everywhere (called_scheduler h s)) (module_of ds Everywhere (called_module h m)) (same_arguments line arguments i) ∷ same_orders (line + 1) xs i)
-  same_orders line (order.Control control t s ∷ xs) = ap (λ os. remade_order (order.Control control t s) ∷ os) (same_orders (line + 1) xs)
-  same_orders line (order.Broadcast event value ∷ xs) = ap (λ os. remade_order (order.Broadcast event value) ∷ os) (same_orders (line + 1) xs)
+  same_order : (at : ℕ) (x : ClientOrder) → client_order ds Everywhere (order_at at (called_order h x)) ≡ remade_order x
+  same_order at (order.Create s m arguments) = ap (order.Create (scheduler_of ds Everywhere (called_scheduler h s)) (module_of ds Everywhere (called_module h m))) (same_arguments at arguments)
+  same_order at (order.Control control t s) = refl
+  same_order at (order.Broadcast event value) = refl
 
-  same_name : (line : ℕ) (name : Option (List ℕ)) → name_text (option_map (name_at line) (option_map called name)) ≡ name
-  same_name line None = refl
-  same_name line (Some name) = refl
+  same_orders : (at : ℕ) (xs : List ClientOrder) → client_orders ds Everywhere (orders_from at (map (called_order h) xs)) ≡ map remade_order xs
+  same_orders at [] = refl
+  same_orders at (x ∷ xs) = (λ i. same_order at x i ∷ same_orders (after_order at (called_order h x)) xs i)
+
+  same_name : (at : ℕ) (name : Option (List ℕ)) → name_text (option_map (name_at at) (option_map called name)) ≡ name
+  same_name at None = refl
+  same_name at (Some name) = refl
 
   -- ---- declarations
 
-  same_schedulers : (line : ℕ) (ps : List Part) → numbers.schedulers_in (source_of (said h line ps)) ≡ parts.schedulers_in ps
-  same_schedulers line [] = refl
-  same_schedulers line (SchedulerPart name ∷ ps) = ap (λ xs. name ∷ xs) (same_schedulers (next_line h line (SchedulerPart name)) ps)
-  same_schedulers line (p ∷ ps) = same_schedulers (next_line h line p) ps
+  same_schedulers : (at : ℕ) (ps : List Part) → numbers.schedulers_in (source_of (said h at ps)) ≡ parts.schedulers_in ps
+  same_schedulers at [] = refl
+  same_schedulers at (SchedulerPart name ∷ ps) = ap (λ xs. name ∷ xs) (same_schedulers (after_part h at (SchedulerPart name)) ps)
+  same_schedulers at (p ∷ ps) = same_schedulers (after_part h at p) ps
 
-  same_events : (line : ℕ) (ps : List Part) → numbers.events_in ds (source_of (said h line ps)) ≡ map remade_event (parts.events_in ps)
-  same_events line [] = refl
-  same_events line (EventPart x ∷ ps) = ap (λ xs. remade_event x ∷ xs) (same_events (next_line h line (EventPart x)) ps)
-  same_events line (p ∷ ps) = same_events (next_line h line p) ps
+  same_events : (at : ℕ) (ps : List Part) → numbers.events_in ds (source_of (said h at ps)) ≡ map remade_event (parts.events_in ps)
+  same_events at [] = refl
+  same_events at (EventPart x ∷ ps) = ap (λ xs. remade_event x ∷ xs) (same_events (after_part h at (EventPart x)) ps)
+  same_events at (p ∷ ps) = same_events (after_part h at p) ps
 
-  same_shared : (line : ℕ) (ps : List Part) → numbers.shared_in ds (source_of (said h line ps)) ≡ map remade_shared (parts.shared_in ps)
-  same_shared line [] = refl
-  same_shared line (SharedPart x ∷ ps) = ap (λ xs. remade_shared x ∷ xs) (same_shared (next_line h line (SharedPart x)) ps)
-  same_shared line (p ∷ ps) = same_shared (next_line h line p) ps
+  same_shared : (at : ℕ) (ps : List Part) → numbers.shared_in ds (source_of (said h at ps)) ≡ map remade_shared (parts.shared_in ps)
+  same_shared at [] = refl
+  same_shared at (SharedPart x ∷ ps) = ap (λ xs. remade_shared x ∷ xs) (same_shared (after_part h at (SharedPart x)) ps)
+  same_shared at (p ∷ ps) = same_shared (after_part h at p) ps
 
-  same_modules : (k line : ℕ) (ps : List Part) → numbers.signatures_in ds k (source_of (said h line ps)) ≡ remade_modules k (parts.modules_in ps)
-  same_modules k line [] = refl
-  same_modules k line (ModulePart m lines ∷ ps) = (λ i. record {
+  same_modules : (k at : ℕ) (ps : List Part) → numbers.signatures_in ds k (source_of (said h at ps)) ≡ remade_modules k (parts.modules_in ps)
+  same_modules k at [] = refl
+  same_modules k at (ModulePart m lines ∷ ps) = (λ i. record {
     name = m.name;
-    parameters = same_parameters line m.parameters i;
-    locals = same_locals (line + 1) m.locals i;
-    begin = same_place (Within k) line (called_place h m.begin) i;
-    end = same_end (Within k) line (called_place h m.begin) (called_end h m.begin m.end) i;
-  } ∷ same_modules (k + 1) (next_line h line (ModulePart m lines)) ps i)
-  same_modules k line (p ∷ ps) = same_modules k (next_line h line p) ps
+    parameters = same_parameters at m.parameters i;
+    locals = same_locals (after_head h at m) m.locals i;
+    begin = same_place (Within k) at (called_place h m.begin) i;
+    end = same_end (Within k) at (called_place h m.begin) (called_end h m.begin m.end) i;
+  } ∷ same_modules (k + 1) (after_part h at (ModulePart m lines)) ps i)
+  same_modules k at (p ∷ ps) = same_modules k (after_part h at p) ps
 
-  same_starts : (line : ℕ) (ps : List Part) → numbers.starts_in ds (source_of (said h line ps)) ≡ map remade_start (parts.starts_in ps)
-  same_starts line [] = refl
-  same_starts line (StartPart t ∷ ps) = (λ i. record {
+  same_starts : (at : ℕ) (ps : List Part) → numbers.starts_in ds (source_of (said h at ps)) ≡ map remade_start (parts.starts_in ps)
+  same_starts at [] = refl
+  same_starts at (StartPart t ∷ ps) = (λ i. record {
     scheduler = scheduler_of ds Everywhere (called_scheduler h t.scheduler);
     «module» = module_of ds Everywhere (called_module h t.module);
-    arguments = same_arguments line t.arguments i;
-    name = same_name line t.name i;
-  } ∷ same_starts (next_line h line (StartPart t)) ps i)
-  same_starts line (p ∷ ps) = same_starts (next_line h line p) ps
+    arguments = same_arguments at t.arguments i;
+    name = same_name at t.name i;
+  } ∷ same_starts (after_part h at (StartPart t)) ps i)
+  same_starts at (p ∷ ps) = same_starts (after_part h at p) ps
 
-  same_clients : (line : ℕ) (ps : List Part) → numbers.clients_in ds (source_of (said h line ps)) ≡ map remade_client (parts.clients_in ps)
-  same_clients line [] = refl
-  same_clients line (ClientPart c ∷ ps) = (λ i. record { name = c.name; orders = same_orders (line + 1) c.orders i } ∷ same_clients (next_line h line (ClientPart c)) ps i)
-  same_clients line (p ∷ ps) = same_clients (next_line h line p) ps
+  same_clients : (at : ℕ) (ps : List Part) → numbers.clients_in ds (source_of (said h at ps)) ≡ map remade_client (parts.clients_in ps)
+  same_clients at [] = refl
+  same_clients at (ClientPart c ∷ ps) = (λ i. record { name = c.name; orders = same_orders (after_name at c.name) c.orders i } ∷ same_clients (after_part h at (ClientPart c)) ps i)
+  same_clients at (p ∷ ps) = same_clients (after_part h at p) ps
 
-  same_items : (k : DeclarationCounts) (line : ℕ) (ps : List Part) → numbers.items_in k (source_of (said h line ps)) ≡ items_from k ps
-  same_items k line [] = refl
-  same_items k line (SchedulerPart name ∷ ps) = ap (λ xs. item.Scheduler (record { 0 = k.schedulers }) ∷ xs) (same_items (record k { schedulers = k.schedulers + 1 }) (next_line h line (SchedulerPart name)) ps)
-  same_items k line (EventPart x ∷ ps) = ap (λ xs. item.Event (record { 0 = k.events }) ∷ xs) (same_items (record k { events = k.events + 1 }) (next_line h line (EventPart x)) ps)
-  same_items k line (SharedPart x ∷ ps) = ap (λ xs. item.Shared (record { 0 = k.shared }) ∷ xs) (same_items (record k { shared = k.shared + 1 }) (next_line h line (SharedPart x)) ps)
-  same_items k line (ModulePart x lines ∷ ps) = ap (λ xs. item.Module (record { 0 = k.modules }) ∷ xs) (same_items (record k { modules = k.modules + 1 }) (next_line h line (ModulePart x lines)) ps)
-  same_items k line (StartPart x ∷ ps) = ap (λ xs. item.Start k.starts ∷ xs) (same_items (record k { starts = k.starts + 1 }) (next_line h line (StartPart x)) ps)
-  same_items k line (ClientPart x ∷ ps) = ap (λ xs. item.Client k.clients ∷ xs) (same_items (record k { clients = k.clients + 1 }) (next_line h line (ClientPart x)) ps)
+  same_items : (k : DeclarationCounts) (at : ℕ) (ps : List Part) → numbers.items_in k (source_of (said h at ps)) ≡ items_from k ps
+  same_items k at [] = refl
+  same_items k at (SchedulerPart name ∷ ps) = ap (λ xs. item.Scheduler (record { 0 = k.schedulers }) ∷ xs) (same_items (record k { schedulers = k.schedulers + 1 }) (after_part h at (SchedulerPart name)) ps)
+  same_items k at (EventPart x ∷ ps) = ap (λ xs. item.Event (record { 0 = k.events }) ∷ xs) (same_items (record k { events = k.events + 1 }) (after_part h at (EventPart x)) ps)
+  same_items k at (SharedPart x ∷ ps) = ap (λ xs. item.Shared (record { 0 = k.shared }) ∷ xs) (same_items (record k { shared = k.shared + 1 }) (after_part h at (SharedPart x)) ps)
+  same_items k at (ModulePart x lines ∷ ps) = ap (λ xs. item.Module (record { 0 = k.modules }) ∷ xs) (same_items (record k { modules = k.modules + 1 }) (after_part h at (ModulePart x lines)) ps)
+  same_items k at (StartPart x ∷ ps) = ap (λ xs. item.Start k.starts ∷ xs) (same_items (record k { starts = k.starts + 1 }) (after_part h at (StartPart x)) ps)
+  same_items k at (ClientPart x ∷ ps) = ap (λ xs. item.Client k.clients ∷ xs) (same_items (record k { clients = k.clients + 1 }) (after_part h at (ClientPart x)) ps)
 
-  pub heads_remade : (line : ℕ) (ps : List Part) → heads_of ds (source_of (said h line ps)) ≡ remade ps
-  heads_remade line ps = (λ i. record {
-    schedulers = same_schedulers line ps i;
-    events = same_events line ps i;
-    shared = same_shared line ps i;
-    modules = same_modules 0 line ps i;
-    starts = same_starts line ps i;
-    clients = same_clients line ps i;
-    items = same_items none_yet line ps i;
+  pub heads_remade : (at : ℕ) (ps : List Part) → heads_of ds (source_of (said h at ps)) ≡ remade ps
+  heads_remade at ps = (λ i. record {
+    schedulers = same_schedulers at ps i;
+    events = same_events at ps i;
+    shared = same_shared at ps i;
+    modules = same_modules 0 at ps i;
+    starts = same_starts at ps i;
+    clients = same_clients at ps i;
+    items = same_items none_yet at ps i;
   })

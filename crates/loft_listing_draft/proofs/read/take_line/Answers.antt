@@ -1,11 +1,10 @@
-use Rattle.std.proofs.Common.{◌++◌, refl, sym, ap, subst, ◌∙◌}
+use Rattle.std.proofs.Common.{refl, sym, subst}
 use Rattle.loft_listing_line.specs.Rows.{line_text}
 use Rattle.loft_listing_line.specs.RowView.{row_of}
 use Rattle.loft_listing_line.proofs.Feeds.{line_ends_at_feed}
 use Rattle.loft_listing_draft.specs.declared.take.Taken.{Taken}
 use Rattle.loft_listing_draft.specs.Held.{Takes}
-use Rattle.loft_listing_draft.specs.Taking.{lined_line}
-use Rattle.loft_listing_draft.proofs.Offsets.{line_at_text}
+use Rattle.loft_listing_draft.specs.Lined.{line_at}
 use Rattle.loft_listing_draft.proofs.TakenLines.{IsFirst, line_short, row_goes, row_stays, found_row, found_none, found_says}
 use Rattle.loft_listing_draft.proofs.read.take_line.Goals as goal
 
@@ -20,11 +19,6 @@ returns-in_default-2 c = (
       found_none c.in_ok-row.field-0 l c.in_default-2.is (c.in_ok-row.ensures.only l (record { fits = stands.fits; written = parts.0 }) (line_short c.args.text.now c.in-Some.written.now c.in-Some.after.now c.requires.short c.in-Some.ensures.cut.1))),
 )
 
-pub take-taken-requires-clause-written : goal.take-taken-requires-clause-written
-take-taken-requires-clause-written c =
-    let says = found_says c.in_ok-row.field-0 c.in-Some-2.row c.in-Some.written.now c.in-Some-2.is c.in_ok-row.ensures.read in
-    c.in-Some.ensures.cut.1 ∙ ap (λ t. t ++ c.in-Some.after.now) (says.written ∙ sym (line_at_text c.args.line (row_of c.in-Some-2.row) says.fits))
-
 pub returns-in-Ok-More : goal.returns-in-Ok-More
 returns-in-Ok-More c =
     let row = c.in-Some-2.row in
@@ -37,8 +31,8 @@ returns-in-Ok-More c =
       says = found_says c.in_ok-row.field-0 row written c.in-Some-2.is c.in_ok-row.ensures.read;
       only = λ l is. found_row c.in_ok-row.field-0 row l c.in-Some-2.is (c.in_ok-row.ensures.only l is (line_short c.args.text.now c.in-Some.written.now c.in-Some.after.now c.requires.short c.in-Some.ensures.cut.1));
     } in
-    let P : Taken → Type 0 = λ t. Takes c.args.sofar c.args.text.now (lined_line c.args.line (row_of row)) t after in
-    (lined_line c.args.line (row_of row), row_goes c.args.sofar c.in-Ok-More.more c.args.line c.args.text.now written after row first (subst P c.in-Ok-More.field-0-is (subst P (sym c.in-Ok-More.ensures.same) (c.take-taken.ensures.taken c.in-Ok-More.ensures.whole))))
+    let P : Taken → Type 0 = λ t. Takes c.args.sofar c.args.at (line_at c.args.at (row_of row)) t in
+    (line_at c.args.at (row_of row), row_goes c.args.sofar c.in-Ok-More.more c.args.at c.args.text.now written after row first (subst P c.in-Ok-More.field-0-is (subst P (sym c.in-Ok-More.ensures.same) (c.take-taken.ensures.taken c.in-Ok-More.ensures.whole))))
 
 pub returns-in-Ok-Stop : goal.returns-in-Ok-Stop
 returns-in-Ok-Stop c =
@@ -52,6 +46,6 @@ returns-in-Ok-Stop c =
       says = found_says c.in_ok-row.field-0 row written c.in-Some-2.is c.in_ok-row.ensures.read;
       only = λ l is. found_row c.in_ok-row.field-0 row l c.in-Some-2.is (c.in_ok-row.ensures.only l is (line_short c.args.text.now c.in-Some.written.now c.in-Some.after.now c.requires.short c.in-Some.ensures.cut.1));
     } in
-    let P : Taken → Type 0 = λ t. Takes c.args.sofar c.args.text.now (lined_line c.args.line (row_of row)) t after in
+    let P : Taken → Type 0 = λ t. Takes c.args.sofar c.args.at (line_at c.args.at (row_of row)) t in
     let stays = subst P c.in-Ok-Stop.field-0-is (subst P (sym c.in-Ok-Stop.ensures.same) (c.take-taken.ensures.taken c.in-Ok-Stop.ensures.whole)) in
-    (stays.0, row_stays c.args.sofar c.args.line c.args.text.now written after row first stays.1)
+    (stays.0, row_stays c.args.sofar c.args.at c.args.text.now written after row first stays.1)

@@ -5,7 +5,7 @@ use Rattle.loft_listing_names.specs.Least.{least_of}
 use Rattle.loft_listing_names.specs.Wrong.{declaration_misplaced}
 use Rattle.loft_listing_names.proofs.misplaced.note_items.Given as goal
 
--- the lines of those that are left come after
+-- the offsets of those that are left come after
 abbrev pub invariant-loop-item : goal.invariant-loop-item
 invariant-loop-item l =
     least_of l.least (flat_map (declaration_misplaced l.table (map (λ h. head_of h.now) l.heads)) (source_of (drop l.item-index l.items)))

@@ -5,7 +5,7 @@ use Rattle.loft_listing_names.specs.Least.{least_of}
 use Rattle.loft_listing_names.specs.Wrong.{order_misplaced}
 use Rattle.loft_listing_names.proofs.misplaced.note_orders.Given as goal
 
--- the lines of those that are left come after
+-- the offsets of those that are left come after
 abbrev pub invariant-loop-order : goal.invariant-loop-order
 invariant-loop-order l =
     least_of l.least (flat_map (order_misplaced l.table (map (λ h. head_of h.now) l.heads)) (map order_of (drop l.order-index l.orders)))

@@ -1,5 +1,5 @@
 use Rattle.std.proofs.Common.{subst}
-use Rattle.loft_listing_reader.specs.Comes.{IsLeastOf}
+use Rattle.loft_listing_reader.specs.AllWrong.{IsLeastOf}
 use Rattle.loft_listing_reader.proofs.Leasts.{least_both}
 use Rattle.loft_listing_reader.proofs.earlier.earlier.Goals as goal
 

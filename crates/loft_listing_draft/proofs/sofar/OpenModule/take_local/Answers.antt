@@ -12,13 +12,12 @@ pub returns-then-len-lt-MAX_LOCALS-clause-taken :
     goal.returns-then-len-lt-MAX_LOCALS-clause-taken
 returns-then-len-lt-MAX_LOCALS-clause-taken c w =
     let o = c.args.self in
-    let spot = c.args.spot in
     let before = o.locals.items in
-    let v = variable_at spot.line (named_of c.args.local.now) in
-    let n : OpenModule = record { head = o.head; locals = c.push_to.new.all; number = 0; from = spot.after } in
+    let v = variable_at c.args.at (named_of c.args.local.now) in
+    let n : OpenModule = record { head = o.head; locals = c.push_to.new.all; operations = o.operations } in
     let put : map named_of c.push_to.new.all.items ≡ map named_of before ++ v ∷ [] =
     ap (map named_of) (c.push_to.ensures.more w) ∙ map-append named_of before (c.variable_at-local.result ∷ [])
     ∙ ap (λ x. map named_of before ++ x ∷ []) (c.variable_at-local.ensures.copy (c.push_to.ensures.before w)) in
     let few : length before < MAX_LOCALS = omega arith in
-    take_more (with_module c.args.done o) (with_module c.args.done n) spot.text.now (Local v) c.more.result spot.after.now c.more.ensures
-    (local_goes c.args.done o n spot.text.now spot.after.now v (omega arith) few refl put refl refl)
+    take_more (with_module c.args.done o) (with_module c.args.done n) c.args.at (Local v) c.more.result c.more.ensures
+    (local_goes c.args.done o n c.args.at v (grind (arith, c.is_empty.ensures, c.if-is_empty.true)) few refl put refl)
