@@ -19,7 +19,7 @@ use Rattle.loft_step.specs.Lines.{HasNoStop, IsLastStop, LiesIn, StopsAreNumbere
 
 -- ---- numbers
 
-same_number : (o : Option ℕ) (k : ℕ) → is_number o k ≡ true → o ≡ Some k
+pub same_number : (o : Option ℕ) (k : ℕ) → is_number o k ≡ true → o ≡ Some k
 same_number None k is = absurd cc
 same_number (Some here) k is = ap (λ (n : ℕ). Some n) (eqb-true here k is)
 
@@ -84,6 +84,16 @@ absent_from (x ∷ xs) base k none =
 -- no operation is left
 pub nowhere : (lines : List Line) (k low high : ℕ) → high ≤ low → LiesIn lines k low high → stop_from 0 lines k ≡ None
 nowhere lines k low high over lies = absent_from lines 0 k (λ p l at stop. let there = lies p l at stop in omega (arith, over, there.0, there.1))
+
+-- the operation that is there isn't stop k
+pub lies_on : (lines : List Line) (k op high : ℕ) (here : Line) → slice_get lines op ≡ Some here → is_number (stop_of here.operation) k ≡ false → LiesIn lines k op high → LiesIn lines k (op + 1) high
+lies_on lines k op high here at other lies p l there stop = elim (cases_lt op p) [
+  | inl lt ↦ (omega (arith, lt), (lies p l there stop).1)
+  | inr le ↦ absurd (
+      let same : p ≡ op = omega (arith, le, (lies p l there stop).0) in
+      let found : is_number (stop_in lines op) k ≡ true = is_same (stop_in lines op) k (subst (λ (q : ℕ). stop_in lines q ≡ Some k) same (stop_there lines p l (Some k) there stop)) in
+      let e : true ≡ false = sym found ∙ (ap (λ (o : Option ℕ). is_number o k) (stop_there lines op here (stop_of here.operation) at refl) ∙ other) in cc)
+]
 
 -- the operation that is there isn't a stop
 pub none_there : (lines : List Line) (p : ℕ) (here : Line) → slice_get lines p ≡ Some here → stop_of here.operation ≡ None → (l : Line) → slice_get lines p ≡ Some l → stop_of l.operation ≡ None

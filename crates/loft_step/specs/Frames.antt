@@ -1,5 +1,5 @@
 -- Frames that run by code, and what becomes of their thread.
-use Rattle.std.specs.Prelude.{◌≡◌, ◌≢◌, ℕ, ◌+◌, ◌<◌, List, ◌∷◌, Option, Some, None, map, reverse}
+use Rattle.std.specs.Prelude.{◌≡◌, ◌≢◌, ℕ, ◌+◌, ◌<◌, Bool, true, false, List, ◌∷◌, Option, Some, None, map, reverse}
 use Rattle.loft_tree.specs.declared.heads.Heads.{Heads}
 use Rattle.loft_code.specs.Operations.{Operation, Line, Automata, stop_of}
 use Rattle.loft_orders.specs.declared.thread.Frame.{Frame}
@@ -46,6 +46,11 @@ advance (move.End end) c left on r rs b = ends end b left
 abbrev pub advance_if : Option Move → Control Point → ℕ → (Beside → List (Active Point) → Outcome) → Active Point → List (Active Point) → Beside → Outcome
 advance_if None c left on r rs b = on b (r ∷ rs)
 advance_if (Some m) c left on r rs b = advance m c left on r rs b
+
+-- the move that is made, unless the frame just goes on
+abbrev pub move_unless : Bool → Move → Option Move
+move_unless true m = None
+move_unless false m = Some m
 
 -- what an effect makes of its thread
 abbrev pub moved_by : Effect → Option Move

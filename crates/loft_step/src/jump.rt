@@ -5,7 +5,7 @@ ghost use Rattle.std.specs.Option.{option_map};
 ghost use Rattle.loft_tree.specs.Resolved.{target_of as variable_of};
 ghost use Rattle.loft_code.specs.Operations.{stop_of as stop_of_operation};
 ghost use Rattle.loft_code.specs.View.{automata_of, line_of, lines_of, operation_of};
-ghost use Rattle.loft_sense.specs.Code.{lines_at, jump_of, landing as landing_of, stop_from, pause_of_operation, pause_at, pause_in};
+ghost use Rattle.loft_sense.specs.Code.{lines_at, jump_of, landing as landing_of, is_number, stop_from, pause_of_operation, pause_at, pause_in};
 ghost use Rattle.loft_sense.specs.Statements.{target_of};
 ghost use Rattle.loft_step.specs.Lines.{ends_at, line_in, op_after, HasNoStop, IsLastStop, LiesIn, StopsAreNumbered};
 
@@ -48,24 +48,28 @@ fn jump_of(op: &Op) -> Option<u64>
     }
 }
 
-/// The number of the operation that is reached from this one over jumps: at most as many as there are operations.
-pub fn landing(lines: &[CodeLine], from: usize) -> usize
-    ensures { result ≡ landing_of (map line_of lines.now) from }
+/// The number of the operation that is reached from this one over jumps: at most as many as there are operations. And the
+/// operation with that number, if there is one.
+#[inline(always)]
+pub fn landing(lines: &[CodeLine], from: usize) -> (usize, Option<&CodeLine>)
+    ensures number { result.0 ≡ landing_of (map line_of lines.now) from }
+    ensures line { line_in result.1 ≡ slice_get (map line_of lines.now) result.0 }
 {
     let mut op = from;
     'jumping: for _jumps in 0..lines.len() {
         let Some(line) = lines.get(op) else {
-            return op;
+            return (op, None);
         };
         let Some(target) = jump_of(&line.op) else {
-            return op;
+            return (op, Some(line));
         };
         op = target as usize;
     }
-    op
+    (op, lines.get(op))
 }
 
 /// Whether it is there, and an `end`.
+#[inline(always)]
 pub fn ends_at(line: Option<&CodeLine>) -> bool
     ensures { result ≡ ends_at (line_in line.entry) }
 {
@@ -164,15 +168,36 @@ fn find_between(lines: &[CodeLine], k: u64, low: usize, high: usize) -> Option<u
     }
 }
 
-/// The number of the first operation that is stop k. Stops are numbered in the order of the operations, so they are searched
-/// from the first one on in parts that grow, and then by halves. At most twice as many operations are looked at as
+/// Whether the operation is stop k.
+fn is_stop(op: &Op, k: u64) -> bool
+    ensures { result ≡ is_number (stop_of_operation (operation_of op.now)) k }
+{
+    match stop_of(op) {
+        Some(stop) => stop == k,
+        None => false,
+    }
+}
+
+/// How many of the first operations are looked at one by one.
+const FIRST: usize = 8;
+
+/// The number of the first operation that is stop k. Stops are numbered in the order of the operations, so past the first few
+/// they are searched in parts that grow, and then by halves. At most twice as many operations are looked at as
 /// stand up to the stop.
 fn find_stop(lines: &[CodeLine], k: u32) -> Option<usize>
     requires { StopsAreNumbered (map line_of lines.now) }
     ensures first { result ≡ stop_from 0 (map line_of lines.now) k }
     ensures within { IfSome result (λ number. number < length lines.now) }
 {
-    find_between(lines, u64::from(k), 0, lines.len())
+    let k = u64::from(k);
+    let mut op = 0;
+    'first: while op < lines.len() && op < FIRST {
+        if is_stop(&lines[op].op, k) {
+            return Some(op);
+        }
+        op += 1;
+    }
+    find_between(lines, k, op, lines.len())
 }
 
 /// The variable that a stop sets, where it is a `get`.

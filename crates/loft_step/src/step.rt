@@ -48,17 +48,26 @@ fn turn(counts: &mut Counts, inside: usize, outside: usize) -> Result<usize, NoM
 }
 
 impl Running {
-    ghost use Rattle.loft_step.specs.Frames.{Makes, moved_by};
+    ghost use Rattle.loft_step.specs.Frames.{Makes, move_unless, moved_by};
 
-    /// What an effect makes of its thread.
-    fn move_of(effect: Effect) -> Option<Move>
-        ensures { result ≡ moved_by effect }
+    /// What an effect makes of its thread. Answers whether the frame just goes on, and leaves the other move where it doesn't.
+    fn goes_on(effect: Effect, other: &mut Move) -> bool
+        ensures { move_unless result other.new ≡ moved_by effect }
     {
         match effect {
-            Effect::GoesOn => None,
-            Effect::Waits(wait) => Some(Move::Hold(wait)),
-            Effect::Leaves(to) => Some(Move::Leave(to)),
-            Effect::Dies(end) => Some(Move::End(end)),
+            Effect::GoesOn => true,
+            Effect::Waits(wait) => {
+                *other = Move::Hold(wait);
+                false
+            }
+            Effect::Leaves(to) => {
+                *other = Move::Leave(to);
+                false
+            }
+            Effect::Dies(end) => {
+                *other = Move::End(end);
+                false
+            }
         }
     }
 
@@ -70,14 +79,17 @@ impl Running {
         beside: &mut Beside,
         number: usize,
         action: &Action,
-    ) -> Result<Option<Move>, NoMemory>
+        other: &mut Move,
+    ) -> Result<bool, NoMemory>
         requires { number + 1 < 2 ^ 64 }
-        ensures { IfOk result (λ move. Makes heads.now (Do (action_of action.now)) number
-            self.old beside.old move self.new beside.new) }
+        ensures { IfOk result (λ goes. Makes heads.now (Do (action_of action.now)) number
+            self.old beside.old (move_unless goes other.new) self.new beside.new) }
     {
         self.op = number + 1;
-        let effect = self.scope.act(alloc, heads, beside, action)?;
-        Ok(Self::move_of(effect))
+        match self.scope.act(alloc, heads, beside, action)? {
+            Effect::GoesOn => Ok(true),
+            effect => Ok(Self::goes_on(effect, other)),
+        }
     }
 
     /// A stop but for `run`.
@@ -89,16 +101,17 @@ impl Running {
         number: usize,
         stop: u64,
         pause: &Pause,
-    ) -> Result<Option<Move>, NoMemory>
+        other: &mut Move,
+    ) -> Result<bool, NoMemory>
         requires number { number + 1 < 2 ^ 64 }
         requires stop { stop < 2 ^ 32 }
-        ensures { IfOk result (λ move. Makes heads.now (Hold stop (pause_of pause.now)) number
-            self.old beside.old move self.new beside.new) }
+        ensures { IfOk result (λ goes. Makes heads.now (Hold stop (pause_of pause.now)) number
+            self.old beside.old (move_unless goes other.new) self.new beside.new) }
     {
         self.op = number + 1;
         self.scope.at.stop = stop as u32;
         let effect = self.scope.hold(alloc, heads, beside, pause)?;
-        Ok(Self::move_of(effect))
+        Ok(Self::goes_on(effect, other))
     }
 
     /// A `run`.
@@ -111,18 +124,20 @@ impl Running {
         stop: u64,
         module: ModuleId,
         arguments: &[NamedExpr],
-    ) -> Result<Option<Move>, NoMemory>
+        other: &mut Move,
+    ) -> Result<bool, NoMemory>
         requires number { number + 1 < 2 ^ 64 }
         requires stop { stop < 2 ^ 32 }
-        ensures { IfOk result (λ move. Makes heads.now (Call stop «module» (exps_of (map term_of arguments.now))) number
-            self.old beside.old move self.new beside.new) }
+        ensures { IfOk result (λ goes. Makes heads.now (Call stop «module» (exps_of (map term_of arguments.now))) number
+            self.old beside.old (move_unless goes other.new) self.new beside.new) }
     {
         self.op = number + 1;
         self.scope.at.stop = stop as u32;
         match self.scope.values(alloc, heads, beside, arguments)? {
-            Ok(values) => Ok(Some(Move::Enter(module, values))),
-            Err(_) => Ok(Some(Move::End(End::Div(self.scope.at)))),
+            Ok(values) => *other = Move::Enter(module, values),
+            Err(_) => *other = Move::End(End::Div(self.scope.at)),
         }
+        Ok(false)
     }
 
     /// A `branch`.
@@ -133,20 +148,22 @@ impl Running {
         number: usize,
         target: u64,
         test: &NamedExpr,
-    ) -> Option<Move>
+        other: &mut Move,
+    ) -> bool
         requires { number + 1 < 2 ^ 64 }
         ensures { Makes heads.now (Branch target (exp_of (term_of test.now))) number
-            self.old beside.old result self.new beside.new }
+            self.old beside.old (move_unless result other.new) self.new beside.new }
     {
         let Ok(value) = self.scope.value(heads, beside, test) else {
-            return Some(Move::End(End::Div(self.scope.at)));
+            *other = Move::End(End::Div(self.scope.at));
+            return false;
         };
         self.op = if is_true(number_of(value)) {
             number + 1
         } else {
             target as usize
         };
-        None
+        true
     }
 
     /// A `count`.
@@ -156,20 +173,23 @@ impl Running {
         beside: &mut Beside,
         number: usize,
         count: &NamedExpr,
-    ) -> Result<Option<Move>, NoMemory>
+        other: &mut Move,
+    ) -> Result<bool, NoMemory>
         requires { number + 1 < 2 ^ 64 }
-        ensures { IfOk result (λ move. Makes heads.now (Count (exp_of (term_of count.now))) number
-            self.old beside.old move self.new beside.new) }
+        ensures { IfOk result (λ goes. Makes heads.now (Count (exp_of (term_of count.now))) number
+            self.old beside.old (move_unless goes other.new) self.new beside.new) }
     {
         let Ok(value) = self.scope.value(heads, beside, count) else {
-            return Ok(Some(Move::End(End::Div(self.scope.at))));
+            *other = Move::End(End::Div(self.scope.at));
+            return Ok(false);
         };
         self.counts.push(number_of(value))?;
         self.op = number + 1;
-        Ok(None)
+        Ok(true)
     }
 
-    /// The operation with this number. One that leads nowhere drops the frame.
+    /// The operation with this number. One that leads nowhere drops the frame. Answers whether the frame just goes on, and leaves
+    /// the other move where it doesn't.
     pub fn step(
         &mut self,
         alloc: Global,
@@ -177,15 +197,18 @@ impl Running {
         beside: &mut Beside,
         number: usize,
         op: &Op,
-    ) -> Result<Option<Move>, NoMemory>
+        other: &mut Move,
+    ) -> Result<bool, NoMemory>
         requires number { number + 1 < 2 ^ 64 }
         requires stop { (k : ℕ) → stop_of (operation_of op.now) ≡ Some k → k < 2 ^ 32 }
-        ensures { IfOk result (λ move. Makes heads.now (operation_of op.now) number
-            self.old beside.old move self.new beside.new) }
+        ensures { IfOk result (λ goes. Makes heads.now (operation_of op.now) number
+            self.old beside.old (move_unless goes other.new) self.new beside.new) }
     {
         match op {
-            Op::Do(action) => self.act(alloc, heads, beside, number, action),
-            Op::Hold { stop, pause } => self.hold(alloc, heads, beside, number, *stop, pause),
+            Op::Do(action) => self.act(alloc, heads, beside, number, action, other),
+            Op::Hold { stop, pause } => {
+                self.hold(alloc, heads, beside, number, *stop, pause, other)
+            }
             Op::Run {
                 stop,
                 module,
@@ -198,18 +221,24 @@ impl Running {
                 *stop,
                 *module,
                 arguments.as_slice(),
+                other,
             ),
-            Op::Branch { target, test } => Ok(self.branch(heads, beside, number, *target, test)),
+            Op::Branch { target, test } => {
+                Ok(self.branch(heads, beside, number, *target, test, other))
+            }
             Op::Enter => {
                 self.op = number + 1;
-                Ok(None)
+                Ok(true)
             }
-            Op::Count(count) => self.count(heads, beside, number, count),
+            Op::Count(count) => self.count(heads, beside, number, count, other),
             Op::Turn { target } => {
                 self.op = turn(&mut self.counts, number + 1, *target as usize)?;
-                Ok(None)
+                Ok(true)
             }
-            Op::Jump { .. } | Op::End => Ok(Some(Move::Return)),
+            Op::Jump { .. } | Op::End => {
+                *other = Move::Return;
+                Ok(false)
+            }
         }
     }
 }

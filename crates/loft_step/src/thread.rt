@@ -1,14 +1,15 @@
 //! A thread runs by its code (docs/SEMANTICS.md, "Run").
 
-ghost use Rattle.std.specs.Prelude.{◌≡◌, [], ◌∷◌, ◌-◌, ◌+◌, ◌<◌, ◌≤◌, true, false, length, IfOk, OnOk};
+ghost use Rattle.std.specs.Prelude.{◌≡◌, [], ◌∷◌, ◌-◌, ◌+◌, ◌<◌, ◌≤◌, true, false, length, IfOk, OnOk, IfSome, IsNone};
 ghost use Rattle.loft_code.specs.Operations.{Automata};
 ghost use Rattle.loft_code.specs.View.{automata_of};
+ghost use Rattle.loft_orders.specs.declared.order.End.TheVariants.{Done};
 ghost use Rattle.loft_orders.specs.declared.thread.Wait.TheVariants.{New as WaitNew};
 ghost use Rattle.loft_sense.specs.Machine.{Code as ByCode};
 ghost use Rattle.loft_sense.specs.Passes.{run_of};
 ghost use Rattle.loft_sense.specs.Around.{Beside as BesideOf};
 ghost use Rattle.loft_sense.specs.Code.{code as control_of};
-ghost use Rattle.loft_sense.specs.Run.{thread_of, begun_frame, ends, going, go_on, no_step, Held, Left};
+ghost use Rattle.loft_sense.specs.Run.{thread_of, begun_frame, ends, going, go_on, no_step, Held, Left, Ended};
 ghost use Rattle.loft_effect.specs.declared.effect.Effect.TheVariants.{GoesOn};
 ghost use Rattle.loft_effect.specs.View.{around_of, beside_of, pace_of, steps_left};
 ghost use Rattle.loft_effect.specs.Outcomes.{outcome_of, outcome_with};
@@ -20,7 +21,7 @@ use crate::midst::{Stack, Turn};
 use crate::running::{Running, settle_all};
 use crate::step::Move;
 use crate::walk::count;
-use loft_base::{ModuleId, NoMemory, Sequence, ThreadId, Values};
+use loft_base::{ModuleId, NoMemory, ThreadId, Values};
 use loft_code::Code;
 use loft_count::Steps;
 use loft_effect::{Around, Beside, Effect, Outcome, take_around};
@@ -81,13 +82,13 @@ fn leave(beside: &Beside, top: Running, outer: Frames, to: To) -> Result<Outcome
 }
 
 /// The thread ends.
-fn end(beside: &mut Beside, end: End) -> Result<Outcome, NoMemory>
-    ensures ended { IfOk result (λ outcome. outcome_with outcome beside.new.around
+fn end(beside: &mut Beside, end: End) -> Result<(), NoMemory>
+    ensures ended { OnOk result (Ended end (around_of beside.new.around) (steps_left beside.new.around)
         ≡ ends end (beside_of beside.old) (steps_left beside.old.around)) }
     ensures pace { OnOk result (pace_of beside.new.around ≡ pace_of beside.old.around) }
 {
     beside.end(end)?;
-    Ok(Outcome::Ended(end))
+    Ok(())
 }
 
 /// The innermost frame is dropped, and its caller goes on. Answers whether there is one.
@@ -195,24 +196,52 @@ pub fn run<L: Ledger>(
 ) -> Result<Turn, NoMemory>
     ensures gone { IfOk result (λ turn. let c = automata_of code.now in
         turn_with c turn beside.new ≡ going (control_of c) (steps_left beside.old.around) (beside_of beside.old) (active stack.top ∷ actives c stack.outer)) }
-    ensures pauses { IfOk result (λ turn. IfGoes turn (pauses ≡ true)) }
     ensures fewer { IfOk result (λ turn. IfGoes turn (steps_left beside.new.around < steps_left beside.old.around)) }
-    ensures bound { OnOk result (beside.new.around.bound ≡ beside.old.around.bound) }
-    ensures grows { OnOk result (beside.old.around.steps ≤ beside.new.around.steps) }
-    ensures counted { OnOk result (steps.new + beside.old.around.steps ≡ steps.old + beside.new.around.steps) }
-    ensures within { steps.new + beside.old.around.steps ≤ steps.old + beside.old.around.bound }
 {
     let Stack { mut top, mut outer } = stack;
     match walk_frames(alloc, code, &mut top, &mut outer, beside, pauses, steps)? {
         Effect::GoesOn => Ok(Turn::Goes(Stack { top, outer })),
         Effect::Waits(wait) => Ok(Turn::Stops(hold(beside, top, outer, wait)?)),
         Effect::Leaves(to) => Ok(Turn::Stops(leave(beside, top, outer, to)?)),
-        Effect::Dies(cause) => Ok(Turn::Stops(end(beside, cause)?)),
+        Effect::Dies(cause) => {
+            end(beside, cause)?;
+            Ok(Turn::Stops(Outcome::Ended(cause)))
+        }
     }
 }
 
-/// A thread with these frames, outermost first, begins to go on from where it stood.
+/// The innermost of these frames, outermost first, goes on from where it stood, in a step that is counted. There may be none.
 #[inline(always)]
+fn rouse<L: Ledger>(
+    code: &Code,
+    frames: &mut Frames,
+    wait: &Wait,
+    beside: &mut Beside,
+    steps: &mut Steps<L>,
+) -> Option<Running>
+    requires { beside.old.around.steps < beside.old.around.bound }
+    ensures kept { AreKept frames.new }
+    ensures some { IfSome result (λ top. let c = automata_of code.now in
+        going (control_of c) (steps_left beside.new.around) (beside_of beside.new) (active top ∷ actives c frames.new)
+        ≡ go_on (control_of c) (steps_left beside.old.around) wait.now (beside_of beside.old) (actives c frames.old)) }
+    ensures none { IsNone result → let c = automata_of code.now in
+        ends Done (beside_of beside.new) (steps_left beside.new.around)
+        ≡ go_on (control_of c) (steps_left beside.old.around) wait.now (beside_of beside.old) (actives c frames.old) }
+    ensures bound { beside.new.around.bound ≡ beside.old.around.bound }
+    ensures grows { beside.new.around.steps ≡ beside.old.around.steps + 1 }
+    ensures counted { steps.new ≡ steps.old + 1 }
+{
+    count(&mut beside.around, steps);
+    settle_all(frames.as_mut_slice());
+    let Some(frame) = frames.pop() else {
+        return None;
+    };
+    let (mut top, target) = Running::wake(code, frame);
+    top.scope.answer(code.heads(), beside, wait, target);
+    Some(top)
+}
+
+/// A thread with these frames, outermost first, begins to go on from where it stood.
 pub fn begin<L: Ledger>(
     code: &Code,
     mut frames: Frames,
@@ -220,49 +249,78 @@ pub fn begin<L: Ledger>(
     beside: &mut Beside,
     steps: &mut Steps<L>,
 ) -> Result<Turn, NoMemory>
-    ensures gone { IfOk result (λ turn. let c = automata_of code.now in
+    ensures { IfOk result (λ turn. let c = automata_of code.now in
         turn_with c turn beside.new ≡ go_on (control_of c) (steps_left beside.old.around) wait.now (beside_of beside.old) (actives c frames)) }
+{
+    if beside.around.steps == beside.around.bound {
+        let cause = over(frames.as_slice());
+        end(beside, cause)?;
+        return Ok(Turn::Stops(Outcome::Ended(cause)));
+    }
+    match rouse(code, &mut frames, wait, beside, steps) {
+        Some(top) => Ok(Turn::Goes(Stack { top, outer: frames })),
+        None => {
+            end(beside, End::Done)?;
+            Ok(Turn::Stops(Outcome::Ended(End::Done)))
+        }
+    }
+}
+
+/// The thread stands from now on, with this innermost frame over those that it keeps.
+#[inline(always)]
+fn stand_there(t: &mut Thread, beside: &Beside, top: Running, wait: Wait) -> Result<(), NoMemory>
+    requires { AreKept t.old.frames }
+    ensures { OnOk result ((c : Automata)
+        → t.new ≡ thread_of (control_of c) wait (active top ∷ actives c t.old.frames) (beside_of beside.now)) }
+{
+    t.frames.push(top.keep())?;
+    t.id = beside.id;
+    t.code = beside.code;
+    t.mask = beside.mask;
+    t.wait = wait;
+    Ok(())
+}
+
+/// A thread goes on from where it stood, until it stops.
+#[inline(always)]
+fn whole<L: Ledger>(
+    alloc: Global,
+    code: &Code,
+    t: &mut Thread,
+    beside: &mut Beside,
+    steps: &mut Steps<L>,
+) -> Result<Stop, NoMemory>
+    ensures gone { IfOk result (λ stop. let c = automata_of code.now in
+        outcome_of stop t.new (around_of beside.new.around) (steps_left beside.new.around)
+        ≡ go_on (control_of c) (steps_left beside.old.around) t.old.wait (beside_of beside.old) (actives c t.old.frames)) }
     ensures bound { OnOk result (beside.new.around.bound ≡ beside.old.around.bound) }
     ensures grows { OnOk result (beside.old.around.steps ≤ beside.new.around.steps) }
     ensures counted { OnOk result (steps.new + beside.old.around.steps ≡ steps.old + beside.new.around.steps) }
     ensures within { steps.new + beside.old.around.steps ≤ steps.old + beside.old.around.bound }
 {
     if beside.around.steps == beside.around.bound {
-        let cause = over(frames.as_slice());
-        return Ok(Turn::Stops(end(beside, cause)?));
+        let cause = over(t.frames.as_slice());
+        end(beside, cause)?;
+        return Ok(Stop::Ends(cause));
     }
-    count(&mut beside.around, steps);
-    settle_all(frames.as_mut_slice());
-    let Some(frame) = frames.pop() else {
-        return Ok(Turn::Stops(end(beside, End::Done)?));
+    let Some(mut top) = rouse(code, &mut t.frames, &t.wait, beside, steps) else {
+        end(beside, End::Done)?;
+        return Ok(Stop::Ends(End::Done));
     };
-    let (mut top, target) = Running::wake(code, frame);
-    top.scope.answer(code.heads(), beside, wait, target);
-    Ok(Turn::Goes(Stack { top, outer: frames }))
-}
-
-/// A thread goes on from where it stood, until it stops.
-fn whole<L: Ledger>(
-    alloc: Global,
-    code: &Code,
-    frames: Frames,
-    wait: &Wait,
-    beside: &mut Beside,
-    steps: &mut Steps<L>,
-) -> Result<Outcome, NoMemory>
-    ensures gone { IfOk result (λ outcome. let c = automata_of code.now in
-        outcome_with outcome beside.new.around ≡ go_on (control_of c) (steps_left beside.old.around) wait.now (beside_of beside.old) (actives c frames)) }
-    ensures bound { OnOk result (beside.new.around.bound ≡ beside.old.around.bound) }
-    ensures grows { OnOk result (beside.old.around.steps ≤ beside.new.around.steps) }
-    ensures counted { OnOk result (steps.new + beside.old.around.steps ≡ steps.old + beside.new.around.steps) }
-    ensures within { steps.new + beside.old.around.steps ≤ steps.old + beside.old.around.bound }
-{
-    match begin(code, frames, wait, beside, steps)? {
-        Turn::Stops(outcome) => Ok(outcome),
-        Turn::Goes(stack) => match run(alloc, code, stack, beside, false, steps)? {
-            Turn::Stops(outcome) => Ok(outcome),
-            Turn::Goes(_) => unreachable!(),
-        },
+    match walk_frames(alloc, code, &mut top, &mut t.frames, beside, false, steps)? {
+        Effect::GoesOn => unreachable!(),
+        Effect::Waits(wait) => {
+            stand_there(t, beside, top, wait)?;
+            Ok(Stop::Holds)
+        }
+        Effect::Leaves(to) => {
+            stand_there(t, beside, top, Wait::New)?;
+            Ok(Stop::Leaves(to))
+        }
+        Effect::Dies(cause) => {
+            end(beside, cause)?;
+            Ok(Stop::Ends(cause))
+        }
     }
 }
 
@@ -282,14 +340,13 @@ pub fn go<L: Ledger>(
     ensures counted { OnOk result (steps.new ≡ steps.old + (around.new.steps - around.old.steps)) }
     ensures within { steps.new ≤ steps.old + (around.old.bound - around.old.steps) }
 {
-    let frames = mem::replace(&mut t.frames, Sequence::new(alloc));
     let mut beside = Beside {
         id: t.id,
         code: t.code,
         mask: t.mask,
         around: take_around(alloc, around)?,
     };
-    let outcome = whole(alloc, c, frames, &t.wait, &mut beside, steps)?;
+    let stop = whole(alloc, c, t, &mut beside, steps)?;
     *around = beside.around;
-    Ok(outcome.put(t))
+    Ok(stop)
 }

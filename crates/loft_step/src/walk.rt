@@ -50,9 +50,9 @@ impl Running {
     {
         let heads = code.heads();
         let lines = lines_of(code, self.scope.at.module);
+        let mut other = Move::Return;
         'stepping: loop {
-            let number = landing(lines, self.op);
-            let line = lines.get(number);
+            let (number, line) = landing(lines, self.op);
             if ends_at(line) {
                 return Ok(Move::Return);
             }
@@ -63,7 +63,7 @@ impl Running {
             let Some(line) = line else {
                 return Ok(Move::Return);
             };
-            if let Some(other) = self.step(alloc, heads, beside, number, &line.op)? {
+            if !self.step(alloc, heads, beside, number, &line.op, &mut other)? {
                 return Ok(other);
             }
             if pauses && !beside.around.acts.is_empty() {

@@ -11,6 +11,6 @@ returns g c =
     let code : FitsSigned w64 c.args.thread.code = search rules in
     let mask : FitsSigned w64 c.args.thread.mask = search rules in
     c.after_turn.ensures.outcome (automata_of c.args.c.now)
-    ∙ (c.in_ok-turn.ensures.gone
+    ∙ (c.in_ok-turn.ensures
     ∙ goes (automata_of c.args.c.now) c.args.thread c.args.around c.args.around _ _ c.args.thread.frames refl
     (to_z-of_z w64 c.args.thread.code code) (to_z-of_z w64 c.args.thread.mask mask) refl)

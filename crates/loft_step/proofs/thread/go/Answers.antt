@@ -1,4 +1,4 @@
-use Rattle.std.proofs.Common.{◌∙◌, rules}
+use Rattle.std.proofs.Common.{◌∙◌, refl, rules}
 use Rattle.std.specs.Int.{w64}
 use Rattle.std.specs.Prelude.{FitsSigned}
 use Rattle.std.proofs.lemmas.Int.{to_z-of_z}
@@ -10,7 +10,6 @@ pub returns-clause-outcome : goal.returns-clause-outcome
 returns-clause-outcome g c =
     let code : FitsSigned w64 c.args.t.now.code = search rules in
     let mask : FitsSigned w64 c.args.t.now.mask = search rules in
-    c.put.ensures c.whole.new.beside.around
-    ∙ (c.in_ok-outcome.ensures.gone
-    ∙ goes (automata_of c.args.c.now) c.args.t.now c.args.around.now c.in_ok-take_around.field-0 _ _ c.replace-frames.result c.in_ok-take_around.ensures
-    (to_z-of_z w64 c.args.t.now.code code) (to_z-of_z w64 c.args.t.now.mask mask) c.replace-frames.ensures.value)
+    c.in_ok-stop.ensures.gone
+    ∙ goes (automata_of c.args.c.now) c.args.t.now c.args.around.now c.in_ok-take_around.field-0 _ _ c.args.t.now.frames c.in_ok-take_around.ensures
+    (to_z-of_z w64 c.args.t.now.code code) (to_z-of_z w64 c.args.t.now.mask mask) refl
