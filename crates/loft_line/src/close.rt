@@ -16,9 +16,6 @@ use loft_base::{NoMemory, Sequence, TryClone, try_clone_all};
 use loft_orders::{Order, Sent, Sents, SharedThread, Stop, Thread, Threads, To, Wait};
 use std::alloc::Global;
 
-/// For at most so many threads there is room before one is copied. Of many that ran, few may stay.
-const ROOM: usize = 16;
-
 /// A copy of a thread, with another wait where there is one.
 fn copy_with(alloc: Global, thread: &Thread, wait: Option<Wait>) -> Result<Thread, NoMemory>
     ensures { IfOk result (λ t. t ≡ thread_with_of wait thread.now) }
@@ -173,7 +170,7 @@ impl Line {
         ensures quiet { OnOk result (IsQuiet self.new) }
     {
         self.waits.close();
-        let room = Vec::with_capacity(alloc, self.ran.count_hint().min(ROOM))?;
+        let room = Vec::with_capacity(alloc, self.ran.count_hint())?;
         let mut stands = Sequence::from_vec(room);
         self.close_marked(alloc, &mut stands, sent)?;
         Ok(stands)

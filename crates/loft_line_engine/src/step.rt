@@ -236,6 +236,7 @@ fn after_batch<I: CountedInterpreter, L: Ledger>(
     board.reset();
     let acts = fitted(acts);
     let sent = fitted(sent);
+    let stands = fitted(stands);
     let note = InstantNote {
         number: tally.number + 1,
         marks,

@@ -31,7 +31,7 @@ returns-clause-note g c =
     let s = c.args.setting.now.scheduler in
     let m = machine_before s c.args.shared c.args.made c.args.tally in
     let a = applied_of c.args.batch in
-    rw (c.fitted-acts.ensures, c.fitted-sent.ensures) (note_so x m a (walk_of (runners_in c.run.new.line) c.in_ok-around.around false) (walk_from x c.args.setting.now.limits.budget m a)
+    rw (c.fitted-acts.ensures, c.fitted-sent.ensures, c.fitted-stands.ensures) (note_so x m a (walk_of (runners_in c.run.new.line) c.in_ok-around.around false) (walk_from x c.args.setting.now.limits.budget m a)
     (c.in_ok-around.ensures.passes ∙ ap (λ (b : ℕ). passes x (map (runner_of b) a.linked) (around_of m a)) c.requires.budget)
     c.close.new.sent (a.sent ++ sent_by (Sched s) c.in_ok-around.around.acts) c.in_ok-stands.stands c.in_ok-stands.changed
     refl
