@@ -1,5 +1,6 @@
 #!/usr/bin/env python3
-"""Tells of names in the braces of an import that stand nowhere else in their file.
+"""Tells of names in the braces of an import that stand nowhere else in their file, and of libraries that
+crates.txt lists for a crate which never names them.
 
 `rt tidy` drops these from .antt files and leaves those of .rt files. A `pub use` hands its names on,
 so it isn't asked. A trait is used by its methods, so Rust's imports of a trait aren't asked either."""
@@ -57,6 +58,24 @@ def unused(text, traits):
                 yield line, name
 
 
+def libraries():
+    """Each crate of crates.txt, with the libraries that it lists."""
+    for line in (TOP / "crates.txt").read_text(encoding="utf-8").splitlines():
+        crate, colon, listed = line.partition("#")[0].partition(":")
+        if colon:
+            yield crate.split()[0], listed.split()
+
+
+def unnamed(texts):
+    """Each crate, and a library that it lists and never names."""
+    for crate, listed in libraries():
+        folder = TOP / "crates" / crate
+        own = "\n".join(text for file, text in texts.items() if folder in file.parents)
+        for library in listed:
+            if not is_used(library, own):
+                yield crate, library
+
+
 def main():
     texts = {file: file.read_text(encoding="utf-8") for file in sources()}
     declared = traits(text for file, text in texts.items() if file.suffix == ".rt")
@@ -65,7 +84,10 @@ def main():
         for line, name in unused(text, declared):
             print(f"{file.relative_to(TOP)}:{line}: {name} is imported and not used")
             found += 1
-    print(f"imports that aren't used: {found}")
+    for crate, library in unnamed(texts):
+        print(f"crates.txt: {crate} lists {library} and never names it")
+        found += 1
+    print(f"imports and libraries that aren't used: {found}")
     return 1 if found else 0
 
 
