@@ -26,7 +26,7 @@ use Rattle.loft_listing_draft.specs.declared.take.Taken.{Taken}
 use Rattle.loft_listing_draft.specs.declared.take.Taken.TheVariants as taken
 use Rattle.loft_listing_draft.specs.Drafts.{Draft, DraftItem, DraftOperation, after_locals, lines_text, operation_line, operation_lines, operations_at, operations_in, operations_of, source_of}
 use Rattle.loft_listing_draft.specs.Held.{AreCounts, HoldsClosed, HoldsModule, HoldsOperations, MayClose, Holds, Takes, StandsAt, GoesOn}
-use Rattle.loft_listing_draft.specs.InMemory.{OperationFits, held_operation}
+use Rattle.loft_listing_draft.specs.InMemory.{HeldFits, held_operation}
 use Rattle.loft_listing_draft.specs.Lined.{item_at, line_at}
 use Rattle.loft_listing_draft.specs.Taking.{Begun, InModule, InClient, SoFar, HasRoom, MayFollow, MayStand, going_on, with_line, module_item, simple_item}
 use Rattle.loft_listing_draft.proofs.Offsets.{line_at_fits, line_at_text, line_twice, same_lined}
@@ -183,7 +183,7 @@ operations_text_end os o k is =
     ap lines_text (operations_end 0 os o ∙ ap (λ n. operation_lines 0 os ++ operation_line n o ∷ []) (zero-add (length os) ∙ sym is)) ∙ lines_text_end (operation_lines 0 os) (operation_line k o)
 
 pub operation_held : (held more : List OperationLine) (first at : ℕ) (os : List DraftOperation) (k : ℕ) (x : OperationLine) → HoldsOperations held first at os
-    → more ≡ held ++ x ∷ [] → x.at ≡ at → OperationFits x → k ≡ length held
+    → more ≡ held ++ x ∷ [] → x.at ≡ at → HeldFits x → k ≡ length held
     → HoldsOperations more first (at + length (line_text (operation_line k (held_operation x).operation))) (os ++ (held_operation x).operation ∷ [])
 operation_held held more first at os k x holds is here fits next =
     let op = (held_operation x).operation in
@@ -193,12 +193,12 @@ operation_held held more first at os k x holds is here fits next =
     record {
       said = ap (map held_operation) is ∙ map-append held_operation held (x ∷ []) ∙ ap (λ ys. ys ++ held_operation x ∷ []) holds.said
           ∙ ap (λ n. operations_at first 0 os ++ record { at = n; operation = op } ∷ []) (sym place) ∙ sym (operations_at_end first 0 os op);
-      fit = subst (Each OperationFits) (sym is) (each_append OperationFits held (x ∷ []) holds.fit (fits, tt));
+      fit = subst (Each HeldFits) (sym is) (each_append HeldFits held (x ∷ []) holds.fit (fits, tt));
       here = omega (arith, holds.here, ap length lines, length-append (lines_text (operation_lines 0 os)) (line_text (operation_line k op)));
     }
 
 pub operation_goes : (m : Closed) (o n : OpenModule) (at k : ℕ) (x : OperationLine) → k ≡ length o.operations.items → length o.operations.items < MAX_OPERATIONS
-    → n.head ≡ o.head → n.locals ≡ o.locals → n.operations.items ≡ o.operations.items ++ x ∷ [] → x.at ≡ at → OperationFits x
+    → n.head ≡ o.head → n.locals ≡ o.locals → n.operations.items ≡ o.operations.items ++ x ∷ [] → x.at ≡ at → HeldFits x
     → (s : SoFar) → Holds (with_module m o) at s
     → MayStand s (operation_line k (held_operation x).operation)
     × Holds (with_module m n) (at + length (line_text (operation_line k (held_operation x).operation))) (with_line s (operation_line k (held_operation x).operation))
@@ -234,7 +234,7 @@ operation_stays m o at k x never s holds may =
 -- where the module is closed
 pub module_closes : (m n : Closed) (o : OpenModule) (at later : ℕ)
     → ((e : Draft) (i : DraftItem) → HoldsClosed m e → HasRoom (source_of e) i.declaration → i.declaration ≡ Module (head_of o.head) (map named_of o.locals.items) Done
-    → map held_operation o.operations.items ≡ operations_of i → Each OperationFits o.operations.items → HoldsClosed n (e ++ i ∷ []))
+    → map held_operation o.operations.items ≡ operations_of i → Each HeldFits o.operations.items → HoldsClosed n (e ++ i ∷ []))
     → (s : SoFar) → Holds (with_module m o) at s → MayStand s End × Holds (with_nothing n) later (with_line s End)
 module_closes m n o at later grows s holds =
     let (os, is, held) = holds.begun in

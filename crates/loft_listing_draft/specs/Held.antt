@@ -21,7 +21,7 @@ use Rattle.loft_listing_draft.specs.declared.take.Taken.TheVariants as taken
 use Rattle.loft_listing_draft.specs.declared.read.Next.{Next}
 use Rattle.loft_listing_draft.specs.declared.read.Next.TheVariants as next
 use Rattle.loft_listing_draft.specs.Drafts.{Draft, DraftOperation, after_locals, lines_text, operation_lines, operations_at, source_of}
-use Rattle.loft_listing_draft.specs.InMemory.{IsInMemory, OperationFits, held_operation}
+use Rattle.loft_listing_draft.specs.InMemory.{IsInMemory, HeldFits, held_operation}
 use Rattle.loft_listing_draft.specs.Lined.{line_at}
 use Rattle.loft_listing_draft.specs.Taking.{Begun, Nothing, InModule, InClient, SoFar, MayStand, with_line}
 
@@ -46,7 +46,7 @@ pub record HoldsClosed (m : Closed) (d : Draft) : Type 0 where
 -- operations of which the first stands at one offset, before a line that stands at the other
 pub record HoldsOperations (held : List OperationLine) (first at : ℕ) (os : List DraftOperation) : Type 0 where
   pub said : map held_operation held ≡ operations_at first 0 os
-  pub fit : Each OperationFits held
+  pub fit : Each HeldFits held
   pub here : at ≡ first + length (lines_text (operation_lines 0 os))
 
 abbrev pub HoldsModule : OpenModule → ℕ → List DraftOperation → Type 0

@@ -20,14 +20,14 @@ draft_of o = record { place = place_name_of o.place; depth = o.depth; instructio
 abbrev pub bare_operation : DraftOperation → DraftOperation
 bare_operation o = record { place = bare_place o.place; depth = o.depth; instruction = bare_instruction o.instruction }
 
--- offsets in the operation mean nothing
+-- the operation of a line; offsets in it mean nothing
 abbrev pub held_operation : OperationLine → OperationAt
 held_operation o = record { at = o.at; operation = bare_operation (draft_of o.operation) }
 
-abbrev pub OperationFits : OperationLine → Type 0
-OperationFits o = InstructionFits (deed_of o.operation.deed)
+abbrev pub HeldFits : OperationLine → Type 0
+HeldFits o = InstructionFits (deed_of o.operation.deed)
 
 pub record IsInMemory (m : DraftInMemory) (d : Draft) : Type 0 where
   pub items : view.source_of m.items.items ≡ source_of d
   pub operations : map (λ os. map held_operation os.items) m.operations.items ≡ map operations_of d
-  pub fit : Each (λ os. Each OperationFits os.items) m.operations.items
+  pub fit : Each (λ os. Each HeldFits os.items) m.operations.items

@@ -5,7 +5,7 @@ ghost use Rattle.loft_tree.specs.Fits.{Each};
 ghost use Rattle.loft_tree.specs.View.{declaration_of};
 ghost use Rattle.loft_listing_draft.specs.Drafts.{Draft as PlainDraft, DraftItem, operations_of, source_of};
 ghost use Rattle.loft_listing_draft.specs.Held.{HoldsClosed};
-ghost use Rattle.loft_listing_draft.specs.InMemory.{OperationFits, held_operation};
+ghost use Rattle.loft_listing_draft.specs.InMemory.{HeldFits, held_operation};
 ghost use Rattle.loft_listing_draft.specs.Taking.{HasRoom};
 
 use crate::counts::Counts;
@@ -43,7 +43,7 @@ impl Closed {
             → HoldsClosed self d → HasRoom (source_of d) (declaration_of item)
             → i.declaration ≡ declaration_of item
             → map held_operation operations.items ≡ operations_of i
-            → Each OperationFits operations.items → HoldsClosed result (d ++ i ∷ []) }
+            → Each HeldFits operations.items → HoldsClosed result (d ++ i ∷ []) }
     {
         let counts = self.counts.after(&item);
         let Draft {

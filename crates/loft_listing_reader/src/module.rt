@@ -6,7 +6,7 @@ ghost use Rattle.loft_tree.specs.View.{declaration_of};
 ghost use Rattle.loft_scopes.specs.Modules.{next_module};
 ghost use Rattle.loft_code.specs.View.{lines_of};
 ghost use Rattle.loft_listing_draft.specs.Drafts.{Draft as PlainDraft, DraftItem, operations_of};
-ghost use Rattle.loft_listing_draft.specs.InMemory.{draft_of, held_operation, IsInMemory, OperationFits};
+ghost use Rattle.loft_listing_draft.specs.InMemory.{draft_of, held_operation, IsInMemory, HeldFits};
 ghost use Rattle.loft_listing_reader.specs.AllWrong.{IsDraft};
 ghost use Rattle.loft_listing_reader.specs.Numbered.{module_lines, modules_from, numbered_line};
 
@@ -25,7 +25,7 @@ fn module_code(
     scope: Scope,
     operations: &[OperationLine],
 ) -> Result<ModuleCode, NoMemory>
-    requires { Each OperationFits operations.now }
+    requires { Each HeldFits operations.now }
     ensures { IfOk result (λ code. lines_of code
         ≡ map (λ o. numbered_line table.now scope (draft_of o.operation)) operations.now) }
 {
@@ -44,7 +44,7 @@ fn put_item(
     operations: &[OperationLine],
     code: &mut Vec<ModuleCode>,
 ) -> Result<(), NoMemory>
-    requires fit { Each OperationFits operations.now }
+    requires fit { Each HeldFits operations.now }
     requires few { length code.old.items < 2 ^ 32 }
     ensures item { (i : DraftItem) → declaration_of item.now ≡ i.declaration
         → map held_operation operations.now ≡ operations_of i

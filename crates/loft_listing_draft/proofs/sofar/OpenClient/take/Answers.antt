@@ -7,7 +7,7 @@ use Rattle.loft_listing_line.specs.declared.row.Row.{Row}
 use Rattle.loft_listing_line.specs.RowView.{row_of}
 use Rattle.loft_listing_draft.specs.Drafts.{source_of}
 use Rattle.loft_listing_draft.specs.Held.{Takes}
-use Rattle.loft_listing_draft.specs.InMemory.{OperationFits, held_operation}
+use Rattle.loft_listing_draft.specs.InMemory.{HeldFits, held_operation}
 use Rattle.loft_listing_draft.specs.Lined.{line_at}
 use Rattle.loft_listing_draft.specs.Taking.{HasRoom, simple_item}
 use Rattle.loft_listing_draft.proofs.TakenLines.{client_closes, take_more, with_client, with_nothing}
@@ -22,4 +22,4 @@ returns-in-Close-clause-taken c w =
     subst P (sym c.in-Close.is) (take_more (with_client c.args.done o) (with_nothing c.with.result) c.args.at Close c.more.result c.more.ensures
     (client_closes c.args.done c.with.result o c.args.at (c.args.at + length (line_text Close))
     (λ e holds room. c.with.ensures.more w e (simple_item d) holds (subst (HasRoom (source_of e)) (sym item) room) (sym item)
-    (ap (map held_operation) c.new.ensures.items) (subst (Each OperationFits) (sym c.new.ensures.items) tt))))
+    (ap (map held_operation) c.new.ensures.items) (subst (Each HeldFits) (sym c.new.ensures.items) tt))))

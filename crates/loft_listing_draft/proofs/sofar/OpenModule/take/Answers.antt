@@ -5,7 +5,7 @@ use Rattle.loft_listing_line.specs.declared.row.Row.{Row}
 use Rattle.loft_listing_line.specs.RowView.{row_of}
 use Rattle.loft_listing_draft.specs.Drafts.{source_of}
 use Rattle.loft_listing_draft.specs.Held.{Takes}
-use Rattle.loft_listing_draft.specs.InMemory.{OperationFits, held_operation}
+use Rattle.loft_listing_draft.specs.InMemory.{HeldFits, held_operation}
 use Rattle.loft_listing_draft.specs.Lined.{line_at}
 use Rattle.loft_listing_draft.specs.Taking.{HasRoom}
 use Rattle.loft_listing_draft.proofs.TakenLines.{module_closes, take_more, with_module, with_nothing}
@@ -20,4 +20,4 @@ returns-in-End-clause-taken c w =
     subst P (sym c.in-End.is) (take_more (with_module c.args.done o) (with_nothing c.with.result) c.args.at End c.more.result c.more.ensures
     (module_closes c.args.done c.with.result o c.args.at (c.args.at + length (line_text End))
     (λ e i holds room is held fit. c.with.ensures.more w e i holds (subst (HasRoom (source_of e)) (is ∙ sym item) room) (is ∙ sym item)
-    (ap (map held_operation) ops ∙ held) (subst (Each OperationFits) (sym ops) fit))))
+    (ap (map held_operation) ops ∙ held) (subst (Each HeldFits) (sym ops) fit))))
