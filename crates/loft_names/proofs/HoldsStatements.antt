@@ -6,13 +6,13 @@ use Rattle.loft_tree.specs.Source.{Ident, EventName, Expression, Statement, Assi
 use Rattle.loft_scopes.specs.declared.scope.Scope.{Scope}
 use Rattle.loft_scopes.specs.Scopes.{Declared}
 use Rattle.loft_scopes.specs.Faults.{use_faults, meant, unlike, begin_of, value_use, kind_of, expression_faults, wants, wants_if, event_faults, events_faults, target_faults, statement_faults, body_faults}
-use Rattle.loft_names.specs.NamesHold.{MeansEvent, IsOfKind, IsInt, HasKind, StatementAgrees, BodyAgrees}
+use Rattle.loft_names.specs.NamesHold.{MeansEvent, IsOfKind, IsInt, HasSomeKind, StatementAgrees, BodyAgrees}
 use Rattle.loft_names.proofs.HeadsMeaning.{none_left, none_right}
 use Rattle.loft_names.proofs.HeadsCalls.{kind_holds}
 use Rattle.loft_names.proofs.HoldsValues.{none_both, unlike_none, scheduler_means, scheduler_none, event_means, event_none, variable_means, variable_meant, target_means, target_none, expression_agrees, expression_none, wanted_agrees, wanted_none, call_agrees, call_none, creation_agrees, creation_none}
 
 module _ (ds : List Declared) (scope : Scope) where
-  has_kind : (e : Expression) → expression_faults ds scope e ≡ [] → HasKind ds scope e
+  has_kind : (e : Expression) → expression_faults ds scope e ≡ [] → HasSomeKind ds scope e
   has_kind e none = let x = expression_agrees ds scope e none in (x.0, x.2)
 
   if_wanted : (e : Option Expression) → wants_if ds scope Int e ≡ [] → IfThere (IsInt ds scope) e

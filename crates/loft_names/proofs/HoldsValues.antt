@@ -10,7 +10,7 @@ use Rattle.loft_tree.specs.Source.{Ident, EventName, Expression, Number, Variabl
 use Rattle.loft_scopes.specs.declared.scope.Scope.{Scope}
 use Rattle.loft_scopes.specs.Scopes.{Sort, AScheduler, AnEvent, AShared, AModule, AStart, AVariable, Declared, meaning}
 use Rattle.loft_scopes.specs.Faults.{Means, allowed, used, use_faults, meant, only_if, is_scheduler, is_event, is_start, parameters_of, kind_in, arity_faults, kinds_wanted, unlike, begin_of, value_use, kind_of, kind_faults, expression_faults, wants, scheduler_faults, event_faults, target_faults, arguments_faults, module_use, call_faults, creation_faults, start_use}
-use Rattle.loft_names.specs.NamesHold.{MeansA, MeansEvent, IsVariable, IsOfKind, HasKind, ArgumentsAgree, CallAgrees, CreationAgrees}
+use Rattle.loft_names.specs.NamesHold.{MeansA, MeansEvent, IsVariable, IsOfKind, HasSomeKind, ArgumentsAgree, CallAgrees, CreationAgrees}
 use Rattle.loft_names.proofs.HeadsMeaning.{none_left, none_right, means_one, meant_one, only_if_true}
 use Rattle.loft_names.proofs.HeadsCalls.{arity_holds, kind_holds}
 
@@ -152,7 +152,7 @@ module _ (ds : List Declared) (scope : Scope) where
       none_both _ _ (unlike_none Int (kind_of ds scope left) (begin_of left) (left_has Int agree.0)) (unlike_none Int (kind_of ds scope right) (begin_of right) (right_has Int agree.1))
 
   -- the operands of an operator have no faults of their own
-  left_of : (b : Bool) (left right : Expression) → OperandsAgree b (IsOfKind ds scope left) (IsOfKind ds scope right) → HasKind ds scope left × HasKind ds scope right
+  left_of : (b : Bool) (left right : Expression) → OperandsAgree b (IsOfKind ds scope left) (IsOfKind ds scope right) → HasSomeKind ds scope left × HasSomeKind ds scope right
   left_of true left right agree = ((agree.0, agree.1), (agree.0, agree.2))
   left_of false left right agree = ((Int, agree.0), (Int, agree.1))
 

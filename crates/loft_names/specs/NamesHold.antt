@@ -51,8 +51,8 @@ module _ (ds : List Declared) (scope : Scope) where
   IsInt e = IsOfKind e Int
 
   -- of some kind
-  abbrev pub HasKind : Expression → Type 0
-  HasKind e = (kind : Kind) × IsOfKind e kind
+  abbrev pub HasSomeKind : Expression → Type 0
+  HasSomeKind e = (kind : Kind) × IsOfKind e kind
 
   -- ---- calls
 
@@ -77,8 +77,8 @@ module _ (ds : List Declared) (scope : Scope) where
     StatementAgrees (Assign target value) = (kind : Kind) × IsVariable kind target × IsOfKind value kind
     StatementAgrees (AssignCreate target at creation) = IsVariable Thread target × CreationAgrees creation
     StatementAgrees (Create at creation) = CreationAgrees creation
-    StatementAgrees (PrintText at line value) = IfThere HasKind value
-    StatementAgrees (PrintValue at value) = HasKind value
+    StatementAgrees (PrintText at line value) = IfThere HasSomeKind value
+    StatementAgrees (PrintValue at value) = HasSomeKind value
     StatementAgrees (Cooperate at instants) = IfThere IsInt instants
     StatementAgrees (Generate at event value) = MeansEvent event × IfThere IsInt value
     StatementAgrees (Await at event limit) = MeansEvent event × IfThere IsInt limit

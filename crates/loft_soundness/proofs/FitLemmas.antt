@@ -24,7 +24,7 @@ use Rattle.loft_place.proofs.Declared.{module_goes}
 use Rattle.loft_sense.specs.Tree.{body_at}
 use Rattle.loft_sense.specs.Stands.{begin_of, begin_or_unlinked, end_or_unlinked, place_after, leads_step, leads}
 use Rattle.loft_soundness.proofs.ListLemmas.{within_some}
-use Rattle.loft_soundness.specs.WorkFits.{IsShared, IsEvent, HasKind, IsInt, IsValue, TargetHasKind, ArgumentsFit, CallFits, ActionFits, PauseFits, StepFits, BodyFits}
+use Rattle.loft_soundness.specs.WorkFits.{IsShared, IsEvent, HasKind, IsInt, HasSomeKind, TargetHasKind, ArgumentsFit, CallFits, ActionFits, PauseFits, StepFits, BodyFits}
 
 -- ---- needs and places
 
@@ -102,10 +102,10 @@ module _ (h : Heads) (slots : List Kind) (here : Place) where
   int_if n None is met = tt
   int_if n (Some e) is met = int_fits n e is met
 
-  value_fits : (n : ℕ) (e : NamedExpression) → named.IsValue h slots n e → AreMet (term_needs h here e) → IsValue h slots here (exp_of e)
+  value_fits : (n : ℕ) (e : NamedExpression) → named.IsValue h slots n e → AreMet (term_needs h here e) → HasSomeKind h slots here (exp_of e)
   value_fits n e is met = (is.0, exp_fits e is.0 is.1.has met)
 
-  value_if : (n : ℕ) (e : Option NamedExpression) → IfThere (named.IsValue h slots n) e → AreMet (value_needs h here e) → IfThere (IsValue h slots here) (exp_if e)
+  value_if : (n : ℕ) (e : Option NamedExpression) → IfThere (named.IsValue h slots n) e → AreMet (value_needs h here e) → IfThere (HasSomeKind h slots here) (exp_if e)
   value_if n None is met = tt
   value_if n (Some e) is met = value_fits n e is met
 

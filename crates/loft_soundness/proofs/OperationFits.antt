@@ -25,7 +25,7 @@ use Rattle.loft_code.specs.Names.{has_place, has_module, has_scheduler, exp_has,
 use Rattle.loft_code.specs.Places.{is_linked, is_at, same_place, event_at, shared_at, begins_at, event_is_here, exp_is_here, value_is_here, exps_are_here, target_is_here, made_is_here, events_are_here, operation_is_here, linked_only, is_allowed}
 use Rattle.loft_code.specs.Kinds.{same_kind, kind_or_int, operands_agree, kind_of, agrees, has_kind, int_if, agrees_if, arguments_agree, call_agrees, target_kind, thread_if, operation_agrees}
 use Rattle.loft_sense.specs.Stands.{begin_of, begin_or_unlinked}
-use Rattle.loft_soundness.specs.WorkFits.{IsShared, IsEvent, HasKind, IsInt, IsValue, TargetHasKind, ArgumentsFit, CallFits, ActionFits, PauseFits, RunFits}
+use Rattle.loft_soundness.specs.WorkFits.{IsShared, IsEvent, HasKind, IsInt, HasSomeKind, TargetHasKind, ArgumentsFit, CallFits, ActionFits, PauseFits, RunFits}
 
 -- ---- places and kinds
 
@@ -110,7 +110,7 @@ module _ (h : Heads) (slots : List Kind) (here : Place) where
   int_if_fits None has is agree = tt
   int_if_fits (Some e) has is agree = of_kind Int e has is agree
 
-  value_if_fits : (e : Option Exp) → value_has h slots e ≡ true → value_is_here h here e ≡ true → agrees_if slots e ≡ true → IfThere (IsValue h slots here) e
+  value_if_fits : (e : Option Exp) → value_has h slots e ≡ true → value_is_here h here e ≡ true → agrees_if slots e ≡ true → IfThere (HasSomeKind h slots here) e
   value_if_fits None has is agree = tt
   value_if_fits (Some e) has is agree = (kind_of slots e, exp_fits e has is agree)
 

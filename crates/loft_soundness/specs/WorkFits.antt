@@ -48,8 +48,9 @@ module _ (h : Heads) (slots : List Kind) where
     abbrev pub IsInt : Exp → Type 0
     IsInt e = HasKind e Int
 
-    abbrev pub IsValue : Exp → Type 0
-    IsValue e = (kind : Kind) × HasKind e kind
+    -- of some kind
+    abbrev pub HasSomeKind : Exp → Type 0
+    HasSomeKind e = (kind : Kind) × HasKind e kind
 
     -- a variable of this kind
     abbrev pub TargetHasKind : Kind → Target → Type 0
@@ -71,8 +72,8 @@ module _ (h : Heads) (slots : List Kind) where
     ActionFits (Assign target e) = (kind : Kind) × TargetHasKind kind target × HasKind e kind
     ActionFits (Make target s m arguments) =
         IsLinked × IfThere (TargetHasKind Thread) target × IsScheduler h s × (begin_of h m ≡ Sched s) × CallFits m arguments
-    ActionFits (PrintText line e) = IsLinked × IfThere IsValue e
-    ActionFits (PrintValue e) = IsLinked × IsValue e
+    ActionFits (PrintText line e) = IsLinked × IfThere HasSomeKind e
+    ActionFits (PrintValue e) = IsLinked × HasSomeKind e
     ActionFits (Generate event e) = IsEvent h here event × IfThere IsInt e
     ActionFits (ControlThread control e s) = HasKind e Thread × IsScheduler h s
     ActionFits (Broadcast event e) = (event.0 < length h.events) × IfThere IsInt e
