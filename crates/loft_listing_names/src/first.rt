@@ -27,7 +27,7 @@ pub fn first_wrong_name<'a>(
 ) -> Result<(Table<'a>, Option<u32>), NoMemory>
     requires { SourceFits (source_of items.now) }
     ensures table { IfOk result (λ names. names.0 ≡ declared (source_of items.now)) }
-    ensures line { IfOk result (λ names. let wrong = map place_of (faults (source_of items.now)) in
+    ensures least { IfOk result (λ names. let wrong = map place_of (faults (source_of items.now)) in
         MatchOption names.1 (wrong ≡ []) (λ n. IsLeast n wrong)) }
 {
     let (table, fault) = declared_names(alloc, items)?;
