@@ -9,7 +9,7 @@ use Rattle.loft_refusal.specs.declared.refusal.Stopped.TheVariants as stopped
 use Rattle.loft_base.specs.declared.options.RunOptions.{RunOptions}
 use Rattle.loft_arguments.specs.Command.{FileCommand, Run, Exec, Show, Check, Compile, Bound, Expand}
 use Rattle.loft_refusal.specs.Input.{Input, ASource, AListing, AnExpansion}
-use Rattle.loft_commands.specs.Written.{Appends, IsPrefix, HasNoRoom}
+use Rattle.loft_commands.specs.Written.{AppendsSome, IsPrefix, HasNoRoom}
 use Rattle.loft_commands.specs.declared.code_run.RunError.{RunError}
 use Rattle.loft_commands.specs.declared.code_run.RunError.TheVariants as run
 use Rattle.loft_refusal.specs.Stops.{stop_of_write}
@@ -139,7 +139,7 @@ ok_is_no_stop result is (inr e) = absurd cc
 
 -- the answer was written
 pub done_does : {c : FileCommand} {x : Input} {result : Result (Unit {0}) Stopped} {old new : Option (List ℕ)} {room left : ℕ} {lines still : Bool}
-    → result ≡ Ok tt → Takes c x → Appends old new (IsAnswerFor c x) → (IsTrue lines → IsTrue still) → Does c x result old new room left lines still
+    → result ≡ Ok tt → Takes c x → AppendsSome old new (IsAnswerFor c x) → (IsTrue lines → IsTrue still) → Does c x result old new room left lines still
 done_does {result = result} is takes whole by_lines = record {
   takes = λ ok. takes;
   written = λ ok. whole;
@@ -154,7 +154,7 @@ done_does {result = result} is takes whole by_lines = record {
 
 -- what was written of the answer breaks off
 pub failed_does : {c : FileCommand} {x : Input} {result : Result (Unit {0}) Stopped} {old new : Option (List ℕ)} {room left : ℕ} {lines still : Bool}
-    → result ≡ Err stopped.SinkFault ⊎ result ≡ Err stopped.NoMemory → Appends old new (IsPrefix (IsAnswerFor c x))
+    → result ≡ Err stopped.SinkFault ⊎ result ≡ Err stopped.NoMemory → AppendsSome old new (IsPrefix (IsAnswerFor c x))
     → (result ≡ Err stopped.SinkFault → HasNoRoom room (IsAnswerFor c x)) → (IsTrue lines → IsTrue still) → Does c x result old new room left lines still
 failed_does (inl is) part no_room by_lines = record {
   takes = λ ok. absurd cc;

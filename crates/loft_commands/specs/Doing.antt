@@ -5,7 +5,7 @@ use Rattle.loft_refusal.specs.declared.refusal.Refusal.{Refusal}
 use Rattle.loft_refusal.specs.declared.refusal.Stopped.{Stopped}
 use Rattle.loft_refusal.specs.declared.refusal.Stopped.TheVariants as stopped
 use Rattle.loft_arguments.specs.Command.{FileCommand}
-use Rattle.loft_commands.specs.Written.{Appends, IsPrefix, HasNoRoom}
+use Rattle.loft_commands.specs.Written.{AppendsSome, IsPrefix, HasNoRoom}
 use Rattle.loft_refusal.specs.Refusals.{IsTextOf, IsRefusedFor, IsCause}
 use Rattle.loft_commands.specs.Asks.{Asks, Takes}
 use Rattle.loft_commands.specs.Promise.{IsAnswerFor, IsFileAnswer}
@@ -14,11 +14,11 @@ use Rattle.loft_commands.specs.Promise.{IsAnswerFor, IsFileAnswer}
 -- it, and `left` after it; whether each piece that it took was a line is known as `lines` before it, and as `still` after it.
 pub record Does (c : FileCommand) (x : Input) (result : Result (Unit {0}) Stopped) (old new : Option (List ℕ)) (room left : ℕ) (lines still : Bool) : Type 0 where
   pub takes : result ≡ Ok tt → Takes c x
-  pub written : result ≡ Ok tt → Appends old new (IsAnswerFor c x)
+  pub written : result ≡ Ok tt → AppendsSome old new (IsAnswerFor c x)
   pub refused : (r : Refusal) → result ≡ Err (stopped.Refused r) → Asks c r × IsRefusedFor x r
   pub silent : (r : Refusal) → result ≡ Err (stopped.Refused r) → new ≡ old
   pub no_file : result ≢ Err stopped.FileFault
-  pub cut : result ≡ Err stopped.SinkFault ⊎ result ≡ Err stopped.NoMemory → Appends old new (IsPrefix (IsAnswerFor c x))
+  pub cut : result ≡ Err stopped.SinkFault ⊎ result ≡ Err stopped.NoMemory → AppendsSome old new (IsPrefix (IsAnswerFor c x))
   pub no_room : result ≡ Err stopped.SinkFault → HasNoRoom room (IsAnswerFor c x)
   pub same_room : (r : Refusal) → result ≡ Err (stopped.Refused r) → left ≡ room
   pub by_lines : IsTrue lines → IsTrue still
@@ -30,11 +30,11 @@ DoesTo written room by_lines old new result c x = Does c x result (written old) 
 -- The same for the contents of its file, where these are known.
 pub record Attempts (c : FileCommand) (known : Option (List ℕ)) (result : Result (Unit {0}) Stopped) (old new : Option (List ℕ)) (room left : ℕ) (lines still : Bool) : Type 0 where
   pub takes : (contents : List ℕ) → known ≡ Some contents → result ≡ Ok tt → (x : Input) × IsTextOf contents x × Takes c x
-  pub written : (contents : List ℕ) → known ≡ Some contents → result ≡ Ok tt → Appends old new (IsFileAnswer c contents)
+  pub written : (contents : List ℕ) → known ≡ Some contents → result ≡ Ok tt → AppendsSome old new (IsFileAnswer c contents)
   pub refused : (contents : List ℕ) (r : Refusal) → known ≡ Some contents → result ≡ Err (stopped.Refused r) → Asks c r × IsCause contents r
   pub silent : (r : Refusal) → result ≡ Err (stopped.Refused r) → new ≡ old
   pub no_file : result ≡ Err stopped.FileFault → new ≡ old
-  pub cut : (contents : List ℕ) → known ≡ Some contents → result ≡ Err stopped.SinkFault ⊎ result ≡ Err stopped.NoMemory → Appends old new (IsPrefix (IsFileAnswer c contents))
+  pub cut : (contents : List ℕ) → known ≡ Some contents → result ≡ Err stopped.SinkFault ⊎ result ≡ Err stopped.NoMemory → AppendsSome old new (IsPrefix (IsFileAnswer c contents))
   pub no_room : (contents : List ℕ) → known ≡ Some contents → result ≡ Err stopped.SinkFault → HasNoRoom room (IsFileAnswer c contents)
   pub same_room : (r : Refusal) → result ≡ Err (stopped.Refused r) → left ≡ room
   pub file_room : result ≡ Err stopped.FileFault → left ≡ room

@@ -2,8 +2,8 @@
 use Rattle.std.specs.Prelude.{◌≡◌, ℕ, ◌<◌, ◌⊎◌, List, [], ◌∷◌, ◌++◌, length, Option, Some}
 
 -- what a sink tells grew by a text of which P holds
-abbrev pub Appends : Option (List ℕ) → Option (List ℕ) → (List ℕ → Type 0) → Type 0
-Appends old new P = (written : List ℕ) → old ≡ Some written → (text : List ℕ) × (new ≡ Some (written ++ text)) × P text
+abbrev pub AppendsSome : Option (List ℕ) → Option (List ℕ) → (List ℕ → Type 0) → Type 0
+AppendsSome old new P = (written : List ℕ) → old ≡ Some written → (text : List ℕ) × (new ≡ Some (written ++ text)) × P text
 
 -- the text is this line
 abbrev pub IsLineOf : List ℕ → List ℕ → Type 0

@@ -5,7 +5,7 @@ ghost use Rattle.loft_base.specs.Outside.{Rose};
 ghost use Rattle.loft_code.specs.View.{automata_of};
 ghost use Rattle.loft_sense.specs.Machine.{Code as ByCode};
 ghost use Rattle.loft_base.specs.Options.{AreInRange};
-ghost use Rattle.loft_commands.specs.Written.{Appends, IsPrefix, HasNoRoom};
+ghost use Rattle.loft_commands.specs.Written.{AppendsSome, IsPrefix, HasNoRoom};
 ghost use Rattle.loft_commands.specs.Promise.{IsReport};
 ghost use Rattle.loft_commands.specs.Options.{options_of};
 
@@ -81,9 +81,9 @@ pub fn run_code<R: Threads + Wait + Sync, S: Sink, G: Gate>(
     gate: &G,
 ) -> Result<(), RunError>
     requires range { AreInRange (options_of l workers) }
-    ensures report { OnOk result (Appends (S.written sink.old) (S.written sink.new)
+    ensures report { OnOk result (AppendsSome (S.written sink.old) (S.written sink.new)
         (IsReport (ByCode (automata_of c.now)) (options_of l workers))) }
-    ensures failed { OnErr result (Appends (S.written sink.old) (S.written sink.new)
+    ensures failed { OnErr result (AppendsSome (S.written sink.old) (S.written sink.new)
         (IsPrefix (IsReport (ByCode (automata_of c.now)) (options_of l workers)))) }
     ensures sink { IsErrOf result RunError.Sink → Rose (S.faults sink.old) (S.faults sink.new) }
     ensures never_falls { S.faults sink.old ≤ S.faults sink.new }

@@ -11,7 +11,7 @@ ghost use Rattle.loft_translation.specs.Compiled.{compiled};
 ghost use Rattle.loft_listing.specs.Listing.{listing_text};
 ghost use Rattle.loft_arguments.specs.Command.{Run, Exec, Show, Check, Compile, Bound, Expand};
 ghost use Rattle.loft_base.specs.Options.{AreInRange};
-ghost use Rattle.loft_commands.specs.Written.{Appends, IsPrefix, HasNoRoom};
+ghost use Rattle.loft_commands.specs.Written.{AppendsSome, IsPrefix, HasNoRoom};
 ghost use Rattle.loft_refusal.specs.Input.{ASource, AListing, AnExpansion};
 ghost use Rattle.loft_commands.specs.Promise.{IsReport};
 ghost use Rattle.loft_commands.specs.Doing.{DoesTo};
@@ -41,9 +41,9 @@ fn run_program<R: Threads + Wait + Sync, S: Sink, G: Gate>(
     gate: &G,
 ) -> Result<(), RunError>
     requires range { AreInRange options.now }
-    ensures report { OnOk result (Appends (S.written sink.old) (S.written sink.new)
+    ensures report { OnOk result (AppendsSome (S.written sink.old) (S.written sink.new)
         (IsReport (Tree (resolved_of (program_of placed.now))) options.now)) }
-    ensures failed { OnErr result (Appends (S.written sink.old) (S.written sink.new)
+    ensures failed { OnErr result (AppendsSome (S.written sink.old) (S.written sink.new)
         (IsPrefix (IsReport (Tree (resolved_of (program_of placed.now))) options.now))) }
     ensures sink { IsErrOf result RunError.Sink → Rose (S.faults sink.old) (S.faults sink.new) }
     ensures never_falls { S.faults sink.old ≤ S.faults sink.new }

@@ -9,7 +9,7 @@ ghost use Rattle.loft_tree.specs.Source.{Source};
 ghost use Rattle.loft_arguments.specs.Command.{Command, OfFile, Run, command, files_of};
 ghost use Rattle.loft_arguments.specs.Words.{words_of};
 ghost use Rattle.loft_refusal.specs.Refusals.{IsSourceOf, Well};
-ghost use Rattle.loft_commands.specs.Written.{Appends};
+ghost use Rattle.loft_commands.specs.Written.{AppendsSome};
 ghost use Rattle.loft_top.specs.Reads.{contents_of as contents_of_each};
 ghost use Rattle.loft_top.specs.Answer.{IsAnswer, AreTaken};
 ghost use Rattle.loft_in_memory.specs.NoFault.{MeetsNoFault, EndsWell};
@@ -45,7 +45,7 @@ pub fn main_in_memory<R: Threads + Wait + Sync, G: Gate>(
     // An answer is appended to what the sink had.
     ensures done { (c : Command) (contents : List (List ℕ)) → command (words_of words.now) ≡ Some c
         → contents_of_each (contents_of files.old) (files_of c) ≡ Some contents → result ≡ Status.Done
-        → Appends (Some (bytes_of sink.old)) (Some (bytes_of sink.new)) (IsAnswer c contents) }
+        → AppendsSome (Some (bytes_of sink.old)) (Some (bytes_of sink.new)) (IsAnswer c contents) }
     // Each piece that the sink took is a line.
     ensures by_lines { IsTrue (by_lines_of sink.old) → IsTrue (by_lines_of sink.new) }
 {

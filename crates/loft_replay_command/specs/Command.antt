@@ -1,7 +1,7 @@
 -- What the command `replay` promises, where its source and its report are known (docs/COMMANDS.md, "replay").
 use Rattle.std.specs.Prelude.{◌≡◌, ℕ, ◌⊎◌, Bool, List, Option, Some, Result, Ok, Err, IsTrue}
 use Rattle.loft_base.specs.Outside.{appended, GrowsByPrefix}
-use Rattle.loft_commands.specs.Written.{Appends, IsPrefix, HasNoRoom}
+use Rattle.loft_commands.specs.Written.{AppendsSome, IsPrefix, HasNoRoom}
 use Rattle.loft_replay_command.specs.declared.refusal.LogRefusal.{LogRefusal}
 use Rattle.loft_replay_command.specs.declared.refusal.ReplayStop.{ReplayStop}
 use Rattle.loft_replay_command.specs.declared.refusal.ReplayStop.TheVariants as stop
@@ -43,7 +43,7 @@ IsSilent stop.NoMemory = ⊥
 -- more bytes before it, and `left` after it; whether each piece that it took was a line is known as `lines` before it, and as `still` after it.
 pub record Replays (only : Option (List ℕ)) (source report : Option (List ℕ)) (result : Result (Unit {0}) ReplayStop) (old new : Option (List ℕ)) (room left : ℕ) (lines still : Bool) : Type 0 where
   -- what was written, or refused, is what the command comes to
-  pub done : (s r : List ℕ) → source ≡ Some s → report ≡ Some r → result ≡ Ok tt → Appends old new (λ text. ReplayComesTo only s r (Ok text))
+  pub done : (s r : List ℕ) → source ≡ Some s → report ≡ Some r → result ≡ Ok tt → AppendsSome old new (λ text. ReplayComesTo only s r (Ok text))
   pub source_refused : (s : List ℕ) (e : ReplayStop) → source ≡ Some s → result ≡ Err e → IsOfSource e → IsSourceStop only s e
   pub report_refused : (s r : List ℕ) (l : LogRefusal) → source ≡ Some s → report ≡ Some r → result ≡ Err (stop.Log l) → ReplayComesTo only s r (Err (stop.Log l))
   -- and the other way round; a source is refused whatever is known of the report
@@ -51,7 +51,7 @@ pub record Replays (only : Option (List ℕ)) (source report : Option (List ℕ)
   pub source_ends : (s : List ℕ) (e : ReplayStop) → source ≡ Some s → IsSourceStop only s e → EndsBy old new (Err e) result
   -- what was written before another stop
   pub silent : (e : ReplayStop) → result ≡ Err e → IsSilent e → new ≡ old
-  pub cut : (s r : List ℕ) → source ≡ Some s → report ≡ Some r → result ≡ Err stop.SinkFault ⊎ result ≡ Err stop.NoMemory → Appends old new (IsPrefix (λ text. ReplayComesTo only s r (Ok text)))
+  pub cut : (s r : List ℕ) → source ≡ Some s → report ≡ Some r → result ≡ Err stop.SinkFault ⊎ result ≡ Err stop.NoMemory → AppendsSome old new (IsPrefix (λ text. ReplayComesTo only s r (Ok text)))
   -- the sink fails only where a text has more bytes than it was known to take
   pub no_room : (s r : List ℕ) → source ≡ Some s → report ≡ Some r → result ≡ Err stop.SinkFault → HasNoRoom room (λ text. ReplayComesTo only s r (Ok text))
   pub same_room : (e : ReplayStop) → result ≡ Err e → IsSilent e → left ≡ room

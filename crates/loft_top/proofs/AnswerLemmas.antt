@@ -7,7 +7,7 @@ use Rattle.loft_top.specs.declared.status.Status.TheVariants as status
 use Rattle.loft_refusal.specs.declared.refusal.Refusal.{Refusal}
 use Rattle.loft_refusal.specs.declared.refusal.Stopped.TheVariants as stopped
 use Rattle.loft_arguments.specs.Command.{FileCommand, Command, OfFile}
-use Rattle.loft_commands.specs.Written.{Appends, IsLineOf, IsPrefix, HasNoRoom}
+use Rattle.loft_commands.specs.Written.{AppendsSome, IsLineOf, IsPrefix, HasNoRoom}
 use Rattle.loft_refusal.specs.Refusals.{line_of}
 use Rattle.loft_commands.specs.Promise.{IsFileAnswer}
 use Rattle.loft_top.specs.Status.{IsRefusedStatus, IsLogRefused, IsAccepted}
@@ -33,7 +33,7 @@ of_one P (Some file) holds contents k =
 pub done_answers : {c : FileCommand} {known old new : Option (List ℕ)} {room left : ℕ} {lines still : Bool} (before after : ℕ) → Decided → Attempts c known (Ok tt) old new room left lines still
     → Answers (OfFile c) (one known) status.Done old new before after room lines still
 done_answers {c = c} {known = known} {old = old} {new = new} before after d a = record {
-  done = λ contents k e. of_one (λ all. Appends old new (IsAnswer (OfFile c) all)) known (λ file t. a.written file t refl) contents k;
+  done = λ contents k e. of_one (λ all. AppendsSome old new (IsAnswer (OfFile c) all)) known (λ file t. a.written file t refl) contents k;
   source = λ contents k e. absurd cc;
   log = λ contents k e. absurd cc;
   refused = λ contents line k r. of_one (λ all. Refuses (OfFile c) all line → IsRefusedStatus status.Done) known
@@ -50,7 +50,7 @@ done_answers {c = c} {known = known} {old = old} {new = new} before after d a = 
 
 -- the sink fails, or the program is out of memory
 pub cut_answers : (c : Command) (known : Option (List (List ℕ))) (end : Status) (old new : Option (List ℕ)) (before after room : ℕ) (lines still : Bool) → end ≡ status.SinkFault ⊎ end ≡ status.NoMemory
-    → ((contents : List (List ℕ)) → known ≡ Some contents → Appends old new (IsPrefix (IsText c contents before after)))
+    → ((contents : List (List ℕ)) → known ≡ Some contents → AppendsSome old new (IsPrefix (IsText c contents before after)))
     → ((contents : List (List ℕ)) → known ≡ Some contents → end ≡ status.SinkFault → HasNoRoom room (IsText c contents before after))
     → (IsTrue lines → IsTrue still) → Answers c known end old new before after room lines still
 cut_answers c known end old new before after room lines still is part no_room by_lines = record {
@@ -70,11 +70,11 @@ cut_answers c known end old new before after room lines still is part no_room by
 
 -- what the command wrote breaks off
 pub broken_answers : (c : FileCommand) (known : Option (List ℕ)) (end : Status) (old new : Option (List ℕ)) (before after room : ℕ) (lines still : Bool) → end ≡ status.SinkFault ⊎ end ≡ status.NoMemory
-    → ((contents : List ℕ) → known ≡ Some contents → Appends old new (IsPrefix (IsFileAnswer c contents)))
+    → ((contents : List ℕ) → known ≡ Some contents → AppendsSome old new (IsPrefix (IsFileAnswer c contents)))
     → ((contents : List ℕ) → known ≡ Some contents → end ≡ status.SinkFault → HasNoRoom room (IsFileAnswer c contents))
     → (IsTrue lines → IsTrue still) → Answers (OfFile c) (one known) end old new before after room lines still
 broken_answers c known end old new before after room lines still is part no_room by_lines = cut_answers (OfFile c) (one known) end old new before after room lines still is
-    (of_one (λ all. Appends old new (IsPrefix (IsText (OfFile c) all before after))) known
+    (of_one (λ all. AppendsSome old new (IsPrefix (IsText (OfFile c) all before after))) known
     (λ file t. part_of (IsFileAnswer c file) (IsText (OfFile c) (file ∷ []) before after) (λ text holds. inl holds) (part file t)))
     (of_one (λ all. end ≡ status.SinkFault → HasNoRoom room (IsText (OfFile c) all before after)) known
     (λ file t e. room_of (IsFileAnswer c file) (IsText (OfFile c) (file ∷ []) before after) (λ text holds. inl holds) (no_room file t e)))
@@ -123,7 +123,7 @@ refused_answers {c = c} {known = known} {old = old} {mid = mid} {r = r} end new 
     let quiet : mid ≡ old = a.silent r refl in
     record {
       done = λ contents k f. absurd cc;
-      source = λ contents k f. of_one (λ all. Appends old new (IsRefusal (OfFile c) all)) known
+      source = λ contents k f. of_one (λ all. AppendsSome old new (IsRefusal (OfFile c) all)) known
           (λ file t. appends {P = IsRefusal (OfFile c) (file ∷ [])} (line_of r ++ 10 ∷ [])
           (subst (λ (o : Option (List ℕ)). new ≡ appended o (line_of r ++ 10 ∷ [])) quiet (told.written e))
           (line_of r, (r, (a.refused file r t refl).0, (a.refused file r t refl).1, refl), refl)) contents k;
@@ -142,7 +142,7 @@ refused_answers {c = c} {known = known} {old = old} {mid = mid} {r = r} end new 
 refused_answers {c = c} {known = known} {old = old} {mid = mid} {r = r} {room = room} {lines = lines} end new before after f g last d a told (inr stops) =
     let line = line_of r ++ 10 ∷ [] in
     cut_answers (OfFile c) (one known) end old new before after room lines last stops
-    (of_one (λ all. Appends old new (IsPrefix (IsText (OfFile c) all before after))) known
+    (of_one (λ all. AppendsSome old new (IsPrefix (IsText (OfFile c) all before after))) known
     (λ file t. begun (IsText (OfFile c) (file ∷ []) before after) line
     (subst (λ (o : Option (List ℕ)). GrowsByPrefix o new line) (a.silent r refl) (told.cut stops))
     (inr (inl (line_of r, (r, (a.refused file r t refl).0, (a.refused file r t refl).1, refl), refl)))))

@@ -4,7 +4,7 @@ use Rattle.std.specs.Prelude.{option_and_then}
 use Rattle.std.specs.Option.{option_map}
 use Rattle.loft_base.specs.Outside.{appended, GrowsByPrefix}
 use Rattle.loft_arguments.specs.Command.{Command, Replay}
-use Rattle.loft_commands.specs.Written.{Appends, IsPrefix, HasNoRoom}
+use Rattle.loft_commands.specs.Written.{AppendsSome, IsPrefix, HasNoRoom}
 use Rattle.loft_replay_command.specs.Refusals.{log_line}
 use Rattle.loft_replay_command.specs.Replay.{IsSourceStop, ReplayComesTo}
 use Rattle.loft_replay_command.specs.Command.{EndsBy, IsOfSource, IsSilent, Replays}
@@ -71,7 +71,7 @@ module _ (a b : List ℕ) (only source report : Option (List ℕ)) (before after
   pub replay_done : {old new : Option (List ℕ)} {room left : ℕ} {lines still : Bool} → Replays only source report (Ok tt) old new room left lines still
       → Answers c (two source report) status.Done old new before after room lines still
   replay_done {old = old} {new = new} w = record {
-    done = λ contents k e. of_two (λ all. Appends old new (IsAnswer c all)) source report (λ s r t u. w.done s r t u refl) contents k;
+    done = λ contents k e. of_two (λ all. AppendsSome old new (IsAnswer c all)) source report (λ s r t u. w.done s r t u refl) contents k;
     source = λ contents k e. absurd cc;
     log = λ contents k e. absurd cc;
     refused = λ contents line k x. of_two (λ all. Refuses c all line → IsRefusedStatus status.Done) source report (λ s r t u. λ (e, refused, is). w.source_ends s e t refused) contents k x;
@@ -88,11 +88,11 @@ module _ (a b : List ℕ) (only source report : Option (List ℕ)) (before after
 
   -- what the command wrote breaks off
   pub replay_broken : (end : Status) (old new : Option (List ℕ)) (room : ℕ) (lines still : Bool) → end ≡ status.SinkFault ⊎ end ≡ status.NoMemory
-      → ((s r : List ℕ) → source ≡ Some s → report ≡ Some r → Appends old new (IsPrefix (λ text. ReplayComesTo only s r (Ok text))))
+      → ((s r : List ℕ) → source ≡ Some s → report ≡ Some r → AppendsSome old new (IsPrefix (λ text. ReplayComesTo only s r (Ok text))))
       → ((s r : List ℕ) → source ≡ Some s → report ≡ Some r → end ≡ status.SinkFault → HasNoRoom room (λ text. ReplayComesTo only s r (Ok text)))
       → (IsTrue lines → IsTrue still) → Answers c (two source report) end old new before after room lines still
   replay_broken end old new room lines still is part no_room by_lines = cut_answers c (two source report) end old new before after room lines still is
-      (of_two (λ all. Appends old new (IsPrefix (IsText c all before after))) source report
+      (of_two (λ all. AppendsSome old new (IsPrefix (IsText c all before after))) source report
       (λ s r t u. part_of (λ text. ReplayComesTo only s r (Ok text)) (IsText c (s ∷ r ∷ []) before after) (λ text holds. inl holds) (part s r t u)))
       (of_two (λ all. end ≡ status.SinkFault → HasNoRoom room (IsText c all before after)) source report
       (λ s r t u e. room_of (λ text. ReplayComesTo only s r (Ok text)) (IsText c (s ∷ r ∷ []) before after) (λ text holds. inl holds) (no_room s r t u e)))
@@ -108,7 +108,7 @@ module _ (a b : List ℕ) (only source report : Option (List ℕ)) (before after
       let quiet : mid ≡ old = w.silent e refl (source_is_silent e of) in
       record {
         done = λ contents k f. absurd cc;
-        source = λ contents k f. of_two (λ all. Appends old new (IsRefusal c all)) source report
+        source = λ contents k f. of_two (λ all. AppendsSome old new (IsRefusal c all)) source report
             (λ s r t u. appends {P = IsRefusal c (s ∷ r ∷ [])} (source_stop_line e ++ 10 ∷ [])
             (subst (λ (o : Option (List ℕ)). new ≡ appended o (source_stop_line e ++ 10 ∷ [])) quiet (told.written is))
             (source_stop_line e, (e, w.source_refused s e t refl of, refl), refl)) contents k;
@@ -128,7 +128,7 @@ module _ (a b : List ℕ) (only source report : Option (List ℕ)) (before after
   source_answers {old = old} {mid = mid} {room = room} {lines = lines} e end new f g last of w told (inr stops) =
       let line = source_stop_line e ++ 10 ∷ [] in
       cut_answers c (two source report) end old new before after room lines last stops
-      (of_two (λ all. Appends old new (IsPrefix (IsText c all before after))) source report
+      (of_two (λ all. AppendsSome old new (IsPrefix (IsText c all before after))) source report
       (λ s r t u. begun (IsText c (s ∷ r ∷ []) before after) line
       (subst (λ (o : Option (List ℕ)). GrowsByPrefix o new line) (w.silent e refl (source_is_silent e of)) (told.cut stops))
       (inr (inl (source_stop_line e, (e, w.source_refused s e t refl of, refl), refl)))))
@@ -148,7 +148,7 @@ module _ (a b : List ℕ) (only source report : Option (List ℕ)) (before after
       record {
         done = λ contents k f. absurd cc;
         source = λ contents k f. absurd cc;
-        log = λ contents k f. of_two (λ all. Appends old new (IsLogRefusal c all)) source report
+        log = λ contents k f. of_two (λ all. AppendsSome old new (IsLogRefusal c all)) source report
             (λ s r t u. appends {P = IsLogRefusal c (s ∷ r ∷ [])} (log_line l ++ 10 ∷ [])
             (subst (λ (o : Option (List ℕ)). new ≡ appended o (log_line l ++ 10 ∷ [])) quiet (told.written is))
             (log_line l, (l, w.report_refused s r l t u refl, refl), refl)) contents k;
@@ -167,7 +167,7 @@ module _ (a b : List ℕ) (only source report : Option (List ℕ)) (before after
   log_answers {old = old} {mid = mid} {room = room} {lines = lines} l end new f g last w told (inr stops) =
       let line = log_line l ++ 10 ∷ [] in
       cut_answers c (two source report) end old new before after room lines last stops
-      (of_two (λ all. Appends old new (IsPrefix (IsText c all before after))) source report
+      (of_two (λ all. AppendsSome old new (IsPrefix (IsText c all before after))) source report
       (λ s r t u. begun (IsText c (s ∷ r ∷ []) before after) line
       (subst (λ (o : Option (List ℕ)). GrowsByPrefix o new line) (w.silent (stop.Log l) refl tt) (told.cut stops))
       (inr (inr (inl (log_line l, (l, w.report_refused s r l t u refl, refl), refl))))))

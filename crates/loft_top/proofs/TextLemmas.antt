@@ -4,7 +4,7 @@ use Rattle.loft_base.specs.Outside.{Rose}
 use Rattle.loft_base.specs.declared.writing.WriteError.{WriteError}
 use Rattle.loft_base.specs.declared.writing.WriteError.TheVariants as write
 use Rattle.loft_arguments.specs.Command.{Command}
-use Rattle.loft_commands.specs.Written.{Appends, IsPrefix, HasNoRoom}
+use Rattle.loft_commands.specs.Written.{AppendsSome, IsPrefix, HasNoRoom}
 use Rattle.loft_gen_command.specs.Writes.{WritesOneOf}
 use Rattle.loft_top.specs.declared.status.Status.TheVariants as status
 use Rattle.loft_top.specs.Status.{status_of_write}
@@ -40,7 +40,7 @@ module _ (c : Command) (P : List ℕ → Type 0) (answers : (contents : List (Li
   whole_answers known old new f g p q before after i j (inr (is, same, counts, lines)) = absurd cc
 
   part_of_answer : (e : WriteError) (old new : Option (List ℕ)) (f g p q before after : ℕ) (i j : Bool) (contents : List (List ℕ)) → WritesOneOf P (Err e) old new f g p q i j
-      → Appends old new (IsPrefix (IsText c contents before after))
+      → AppendsSome old new (IsPrefix (IsText c contents before after))
   part_of_answer e old new f g p q before after i j contents (inl (text, holds, writes)) = begun (IsText c contents before after) text writes.failed (inl (answers contents text holds))
   part_of_answer e old new f g p q before after i j contents (inr (is, same, counts, lines)) = not_begun (IsText c contents before after) same
 

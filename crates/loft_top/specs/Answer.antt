@@ -6,7 +6,7 @@ use Rattle.loft_generated_run.specs.Summary.{IsSummary}
 use Rattle.loft_refusal.specs.Input.{Input}
 use Rattle.loft_refusal.specs.Refusals.{IsTextOf}
 use Rattle.loft_arguments.specs.Command.{Command, OfFile, Replay, Gen, GenRun}
-use Rattle.loft_commands.specs.Written.{Appends, IsLineOf, IsPrefix, HasNoRoom}
+use Rattle.loft_commands.specs.Written.{AppendsSome, IsLineOf, IsPrefix, HasNoRoom}
 use Rattle.loft_commands.specs.Asks.{RefusesFile, Takes}
 use Rattle.loft_commands.specs.Promise.{IsFileAnswer}
 use Rattle.loft_replay_command.specs.Replay.{ReplayComesTo}
@@ -68,14 +68,14 @@ IsText c contents before after text =
 -- count of the files' faults was `before`, and is `after`. The sink was known to take `room` more bytes; whether each piece that it took was a
 -- line is known as `lines` before it, and as `still` after it.
 pub record Answers (c : Command) (known : Option (List (List ℕ))) (end : Status) (old new : Option (List ℕ)) (before after room : ℕ) (lines still : Bool) : Type 0 where
-  pub done : (contents : List (List ℕ)) → known ≡ Some contents → end ≡ status.Done → Appends old new (IsAnswer c contents)
-  pub source : (contents : List (List ℕ)) → known ≡ Some contents → end ≡ status.Source → Appends old new (IsRefusal c contents)
-  pub log : (contents : List (List ℕ)) → known ≡ Some contents → end ≡ status.Log → Appends old new (IsLogRefusal c contents)
+  pub done : (contents : List (List ℕ)) → known ≡ Some contents → end ≡ status.Done → AppendsSome old new (IsAnswer c contents)
+  pub source : (contents : List (List ℕ)) → known ≡ Some contents → end ≡ status.Source → AppendsSome old new (IsRefusal c contents)
+  pub log : (contents : List (List ℕ)) → known ≡ Some contents → end ≡ status.Log → AppendsSome old new (IsLogRefusal c contents)
   pub refused : (contents : List (List ℕ)) (line : List ℕ) → known ≡ Some contents → Refuses c contents line → IsRefusedStatus end
   pub log_refused : (contents : List (List ℕ)) (line : List ℕ) → known ≡ Some contents → RefusesLog c contents line → IsLogRefused end
   pub accepted : (contents : List (List ℕ)) → known ≡ Some contents → AreTaken c contents → IsAccepted end
-  pub prefix : (contents : List (List ℕ)) → known ≡ Some contents → end ≡ status.SinkFault ⊎ end ≡ status.NoMemory → Appends old new (IsPrefix (IsText c contents before after))
-  pub file_line : end ≡ status.FileFault → Appends old new (IsLineOf (codes "files: fault"))
+  pub prefix : (contents : List (List ℕ)) → known ≡ Some contents → end ≡ status.SinkFault ⊎ end ≡ status.NoMemory → AppendsSome old new (IsPrefix (IsText c contents before after))
+  pub file_line : end ≡ status.FileFault → AppendsSome old new (IsLineOf (codes "files: fault"))
   pub never_usage : end ≢ status.Usage
   pub log_reads : end ≡ status.Log → ReadsReport c
   pub no_room : (contents : List (List ℕ)) → known ≡ Some contents → end ≡ status.SinkFault → HasNoRoom room (IsText c contents before after)

@@ -7,7 +7,7 @@ ghost use Rattle.loft_arguments.specs.Command.{Command as PlainCommand, OfFile, 
 ghost use Rattle.loft_arguments.specs.Ranges.{KeepsRanges, IsInRanges};
 ghost use Rattle.loft_arguments.specs.Words.{words_of};
 ghost use Rattle.loft_arguments.specs.CommandView.{command_of, file_command_of};
-ghost use Rattle.loft_commands.specs.Written.{Appends, IsLineOf, IsPrefix, HasNoRoom};
+ghost use Rattle.loft_commands.specs.Written.{AppendsSome, IsLineOf, IsPrefix, HasNoRoom};
 ghost use Rattle.loft_top.specs.Status.{IsRefusedStatus, IsLogRefused, IsAccepted};
 ghost use Rattle.loft_top.specs.Reads.{contents_of};
 ghost use Rattle.loft_top.specs.Answer.{IsAnswer, Refuses, RefusesLog, IsRefusal, IsLogRefusal, AreTaken, ReadsReport, IsText, Answers};
@@ -118,12 +118,12 @@ pub fn loft_main<R: Threads + Wait + Sync, F: Files, S: Sink, G: Gate>(
     // is replayed, the source of a number, or the summary of its run.
     ensures done { (c : PlainCommand) (contents : List (List ℕ)) → command (words_of words.now) ≡ Some c
         → contents_of (F.contents files.old) (files_of c) ≡ Some contents → result ≡ Status.Done
-        → Appends (S.written sink.old) (S.written sink.new) (IsAnswer c contents) }
+        → AppendsSome (S.written sink.old) (S.written sink.new) (IsAnswer c contents) }
     ensures done_runs { result ≡ Status.Done → IsSome (command (words_of words.now)) }
     // Usage comes exactly where the words are no command, unless the sink fails.
     ensures usage { result ≡ Status.Usage → command (words_of words.now) ≡ None }
     ensures usage_line { result ≡ Status.Usage
-        → Appends (S.written sink.old) (S.written sink.new) (IsLineOf (codes "loft: usage")) }
+        → AppendsSome (S.written sink.old) (S.written sink.new) (IsLineOf (codes "loft: usage")) }
     ensures no_command { command (words_of words.now) ≡ None
         → result ≡ Status.Usage ⊎ result ≡ Status.SinkFault }
     // Source comes exactly where a source, a listing or a text with locks is refused, unless a file or the sink fails or the
@@ -131,7 +131,7 @@ pub fn loft_main<R: Threads + Wait + Sync, F: Files, S: Sink, G: Gate>(
     ensures source_runs { result ≡ Status.Source → IsSome (command (words_of words.now)) }
     ensures source { (c : PlainCommand) (contents : List (List ℕ)) → command (words_of words.now) ≡ Some c
         → contents_of (F.contents files.old) (files_of c) ≡ Some contents → result ≡ Status.Source
-        → Appends (S.written sink.old) (S.written sink.new) (IsRefusal c contents) }
+        → AppendsSome (S.written sink.old) (S.written sink.new) (IsRefusal c contents) }
     ensures refused { (c : PlainCommand) (contents : List (List ℕ)) (line : List ℕ)
         → command (words_of words.now) ≡ Some c
         → contents_of (F.contents files.old) (files_of c) ≡ Some contents → Refuses c contents line
@@ -141,7 +141,7 @@ pub fn loft_main<R: Threads + Wait + Sync, F: Files, S: Sink, G: Gate>(
     ensures log_reads { (c : PlainCommand) → command (words_of words.now) ≡ Some c → result ≡ Status.Log → ReadsReport c }
     ensures log { (c : PlainCommand) (contents : List (List ℕ)) → command (words_of words.now) ≡ Some c
         → contents_of (F.contents files.old) (files_of c) ≡ Some contents → result ≡ Status.Log
-        → Appends (S.written sink.old) (S.written sink.new) (IsLogRefusal c contents) }
+        → AppendsSome (S.written sink.old) (S.written sink.new) (IsLogRefusal c contents) }
     ensures log_refused { (c : PlainCommand) (contents : List (List ℕ)) (line : List ℕ)
         → command (words_of words.now) ≡ Some c
         → contents_of (F.contents files.old) (files_of c) ≡ Some contents → RefusesLog c contents line
@@ -156,15 +156,15 @@ pub fn loft_main<R: Threads + Wait + Sync, F: Files, S: Sink, G: Gate>(
     ensures prefix { (c : PlainCommand) (contents : List (List ℕ)) → command (words_of words.now) ≡ Some c
         → contents_of (F.contents files.old) (files_of c) ≡ Some contents
         → result ≡ Status.SinkFault ⊎ result ≡ Status.NoMemory
-        → Appends (S.written sink.old) (S.written sink.new)
+        → AppendsSome (S.written sink.old) (S.written sink.new)
         (IsPrefix (IsText c contents (F.faults files.old) (F.faults files.new))) }
     ensures usage_prefix { command (words_of words.now) ≡ None → result ≡ Status.SinkFault
-        → Appends (S.written sink.old) (S.written sink.new) (IsPrefix (IsLineOf (codes "loft: usage"))) }
+        → AppendsSome (S.written sink.old) (S.written sink.new) (IsPrefix (IsLineOf (codes "loft: usage"))) }
 
     // A failure has its cause in this call.
     ensures file_fault { result ≡ Status.FileFault → Rose (F.faults files.old) (F.faults files.new) }
     ensures file_line { result ≡ Status.FileFault
-        → Appends (S.written sink.old) (S.written sink.new) (IsLineOf (codes "files: fault")) }
+        → AppendsSome (S.written sink.old) (S.written sink.new) (IsLineOf (codes "files: fault")) }
     ensures sink_fault { result ≡ Status.SinkFault → Rose (S.faults sink.old) (S.faults sink.new) }
 
     // The counts of faults never fall, and files that never fail for the names of the command make no fault.

@@ -2,7 +2,7 @@ use Rattle.std.proofs.Common.{◌≡◌, ◌++◌, ◌∷◌, [], inl, refl, sym
 use Rattle.std.specs.Prelude.{codes}
 use Rattle.loft_arguments.specs.Command.{files_of}
 use Rattle.loft_arguments.specs.CommandView.{command_of}
-use Rattle.loft_commands.specs.Written.{Appends, IsLineOf, IsPrefix, HasNoRoom}
+use Rattle.loft_commands.specs.Written.{AppendsSome, IsLineOf, IsPrefix, HasNoRoom}
 use Rattle.loft_top.specs.declared.status.Status.TheVariants as status
 use Rattle.loft_top.specs.Status.{IsRefusedStatus, IsLogRefused}
 use Rattle.loft_top.specs.Reads.{contents_of}
@@ -19,19 +19,19 @@ answer-requires-clause-ranges g c κs within = c.in-Some.ensures.in_range (comma
 pub returns-in-Some-clause-done : goal.returns-in-Some-clause-done
 returns-in-Some-clause-done g c = λ k contents is known done.
     of_found (λ k. contents_of (g.F.Files.contents c.args.files.now) (files_of k) ≡ Some contents
-    → Appends (g.S.Sink.written c.args.sink.now) (g.S.Sink.written c.answer.new.sink) (IsAnswer k contents))
+    → AppendsSome (g.S.Sink.written c.args.sink.now) (g.S.Sink.written c.answer.new.sink) (IsAnswer k contents))
     c.in-Some.ensures.meant is (λ t. c.answer.ensures.answers.done contents t done) known
 
 pub returns-in-Some-clause-source : goal.returns-in-Some-clause-source
 returns-in-Some-clause-source g c = λ k contents is known source.
     of_found (λ k. contents_of (g.F.Files.contents c.args.files.now) (files_of k) ≡ Some contents
-    → Appends (g.S.Sink.written c.args.sink.now) (g.S.Sink.written c.answer.new.sink) (IsRefusal k contents))
+    → AppendsSome (g.S.Sink.written c.args.sink.now) (g.S.Sink.written c.answer.new.sink) (IsRefusal k contents))
     c.in-Some.ensures.meant is (λ t. c.answer.ensures.answers.source contents t source) known
 
 pub returns-in-Some-clause-log : goal.returns-in-Some-clause-log
 returns-in-Some-clause-log g c = λ k contents is known log.
     of_found (λ k. contents_of (g.F.Files.contents c.args.files.now) (files_of k) ≡ Some contents
-    → Appends (g.S.Sink.written c.args.sink.now) (g.S.Sink.written c.answer.new.sink) (IsLogRefusal k contents))
+    → AppendsSome (g.S.Sink.written c.args.sink.now) (g.S.Sink.written c.answer.new.sink) (IsLogRefusal k contents))
     c.in-Some.ensures.meant is (λ t. c.answer.ensures.answers.log contents t log) known
 
 pub returns-in-Some-clause-log_refused : goal.returns-in-Some-clause-log_refused
@@ -51,7 +51,7 @@ returns-in-Some-clause-refused g c = λ k contents line is known refuses.
 pub returns-in-Some-clause-prefix : goal.returns-in-Some-clause-prefix
 returns-in-Some-clause-prefix g c = λ k contents is known cut.
     of_found (λ k. contents_of (g.F.Files.contents c.args.files.now) (files_of k) ≡ Some contents
-    → Appends (g.S.Sink.written c.args.sink.now) (g.S.Sink.written c.answer.new.sink)
+    → AppendsSome (g.S.Sink.written c.args.sink.now) (g.S.Sink.written c.answer.new.sink)
     (IsPrefix (IsText k contents (g.F.Files.faults c.args.files.now) (g.F.Files.faults c.answer.new.files))))
     c.in-Some.ensures.meant is (λ t. c.answer.ensures.answers.prefix contents t cut) known
 
