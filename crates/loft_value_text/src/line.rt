@@ -77,6 +77,7 @@ impl LineBuffer {
     }
 
     /// Appends bytes.
+    #[inline(always)]
     pub fn bytes(&mut self, bytes: &[u8])
         ensures { Adds self.old self.new bytes.now }
     {
@@ -97,6 +98,7 @@ impl LineBuffer {
     }
 
     /// Appends a byte.
+    #[inline(always)]
     pub fn byte(&mut self, byte: u8)
         ensures { Adds self.old self.new (byte ∷ []) }
     {
@@ -108,6 +110,7 @@ impl LineBuffer {
     }
 
     /// Appends a byte, and asks for more room where there is none.
+    #[inline(never)]
     fn push(&mut self, byte: u8)
         ensures { Adds self.old self.new (byte ∷ []) }
     {
@@ -118,6 +121,7 @@ impl LineBuffer {
     }
 
     /// Appends a text.
+    #[inline(always)]
     pub fn text(&mut self, text: &str)
         ensures { Adds self.old self.new text.now }
     {
@@ -125,6 +129,7 @@ impl LineBuffer {
     }
 
     /// Appends the digits of a number.
+    #[inline(always)]
     pub fn number(&mut self, number: u64)
         ensures { Adds self.old self.new (decimal number) }
     {
@@ -147,6 +152,7 @@ impl LineBuffer {
     }
 
     /// Appends the digits of a number, after a sign where it is negative.
+    #[inline(always)]
     pub fn signed(&mut self, number: i64)
         ensures { Adds self.old self.new (signed_decimal number) }
     {
@@ -158,6 +164,7 @@ impl LineBuffer {
 }
 
 /// The digit of a number below 10.
+#[inline(always)]
 fn digit(number: u64) -> u8
     requires { number < 10 }
     ensures { result ≡ 48 + number }
@@ -166,6 +173,7 @@ fn digit(number: u64) -> u8
 }
 
 /// Appends two digits, of which the first may be 0, where there is room for them.
+#[inline(always)]
 fn push_two_digits(text: &mut Vec<u8>, number: u64)
     requires number { number < 100 }
     requires room { vec_len text.old + 2 ≤ vec_capacity text.old }
@@ -207,22 +215,27 @@ impl TextWriter for LineBuffer {
 
     ghost is_whole = { λ line. line.is_whole };
 
+    #[inline(always)]
     fn bytes(&mut self, bytes: &[u8]) {
         LineBuffer::bytes(self, bytes);
     }
 
+    #[inline(always)]
     fn byte(&mut self, byte: u8) {
         LineBuffer::byte(self, byte);
     }
 
+    #[inline(always)]
     fn text(&mut self, text: &str) {
         LineBuffer::text(self, text);
     }
 
+    #[inline(always)]
     fn number(&mut self, number: u64) {
         LineBuffer::number(self, number);
     }
 
+    #[inline(always)]
     fn signed(&mut self, number: i64) {
         LineBuffer::signed(self, number);
     }
