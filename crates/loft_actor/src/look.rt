@@ -25,6 +25,8 @@ pub(crate) enum Found {
     Over,
     /// The scheduler of this index has a turn to make, and nobody else has anything to do.
     Lone(usize),
+    /// Several schedulers have a turn to make, and nobody else has anything to do.
+    Turns,
     /// Threads wait for the workers, and nobody else has anything to do.
     Jobs,
     /// Anything else.
@@ -143,9 +145,11 @@ fn found_in<E: Engine>(world: &World, b: &Baton, c: &Code, a: &Actors<E>) -> Fou
             Found::Several
         };
     };
-    match first_due(world, b, c, stations, first + 1) {
-        None if !has_jobs => Found::Lone(first),
-        _ => Found::Several,
+    let next = first_due(world, b, c, stations, first + 1);
+    match next {
+        _ if has_jobs => Found::Several,
+        None => Found::Lone(first),
+        Some(_) => Found::Turns,
     }
 }
 

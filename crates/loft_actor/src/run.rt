@@ -19,7 +19,7 @@ use crate::look::{Found, look};
 use loft_base::{Gate, Limits, NoMemory, Sequence};
 use loft_baton::{Baton, Pass, closed_histories_are_legal};
 use loft_code::Code;
-use loft_phase::{Actors, go_alone, phase, work_alone};
+use loft_phase::{Actors, go_alone, phase, turn_alone, work_alone};
 use loft_sense::Engine;
 use loft_world::{Notes, World};
 use std::alloc::Global;
@@ -29,8 +29,9 @@ use std::thread::Threads;
 /// The engines of a run, in the order of their schedulers.
 pub type Engines<E> = Sequence<E>;
 
-/// One phase, of all actors or of the one that has something to do; or a stage of the workers alone,
-/// where this look and the one before found that nobody else has anything to do.
+/// One phase, of all actors or of the one that has something to do; or a stage of the schedulers alone,
+/// where nobody else has anything to do; or one of the workers alone, where this look and the one
+/// before found that nobody else has.
 fn next_phase<R: Threads + Wait + Sync, E: Engine + Send, G: Gate>(
     rt: &R,
     alloc: Global,
@@ -56,6 +57,7 @@ fn next_phase<R: Threads + Wait + Sync, E: Engine + Send, G: Gate>(
     let _bounds = l;
     match (before, found) {
         (_, Found::Lone(k)) => go_alone(rt, alloc, b, c, a, k, g),
+        (_, Found::Turns) => turn_alone(rt, alloc, b, c, a, g),
         (Found::Jobs, Found::Jobs) => work_alone(rt, alloc, b, c, a, g),
         _ => phase(rt, alloc, b, c, a, g),
     }

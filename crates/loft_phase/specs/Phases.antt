@@ -37,3 +37,9 @@ pub record WorkedOn (b : TableId) (x : CodeProgram) (old new : Worker) : Type 0 
   pub kept : worker.IsKept b x new
   pub same : worker.IsSame old new
   pub ready : new.refused ≡ false → worker.IsReady b x new
+
+-- the same scheduler, with the entries that it has to make; where memory wasn't refused to it, none of its Takes is open
+pub record TurnedOn (b : TableId) (x : CodeProgram) (old new : station.StationView) : Type 0 where
+  pub kept : station.IsKept b x new
+  pub same : station.IsSame old new
+  pub ready : new.refused ≡ false → station.IsReady b x new

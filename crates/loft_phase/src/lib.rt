@@ -4,7 +4,9 @@
 mod alone;
 mod jobs;
 mod phases;
+mod turns;
 
 pub use alone::go_alone;
 pub use jobs::work_alone;
 pub use phases::{Actors, phase};
+pub use turns::turn_alone;

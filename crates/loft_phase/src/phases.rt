@@ -162,7 +162,7 @@ fn all_go_on<R: Threads + Wait + Sync, E: Engine + Send, G: Gate>(
 }
 
 /// Whether memory was refused to none of these schedulers.
-fn stations_went_on<E: Engine>(stations: &[Station<E>]) -> bool
+pub(crate) fn stations_went_on<E: Engine>(stations: &[Station<E>]) -> bool
     ensures { IsTrue result → All (λ v. v.refused ≡ false) stations.now }
 {
     stations.iter().all(|station| !station.is_refused())

@@ -1,6 +1,6 @@
 //! The steps of actors: each waits for the world, makes at most one entry, and gives the world back.
 
-ghost use Rattle.std.specs.Prelude.{◌≡◌, true, false, All, IfOk, IfSome, IfNone, OnOk, OnErr};
+ghost use Rattle.std.specs.Prelude.{◌≡◌, true, false, All, IsTrue, IfOk, IfSome, IfNone, OnOk, OnErr};
 ghost use Rattle.loft_code.specs.View.{automata_of};
 ghost use Rattle.loft_orders.specs.declared.entry.Actor.TheVariants.{Sched, Worker, Client};
 ghost use Rattle.loft_orders.specs.declared.entry.Entry.TheVariants as entry;
@@ -9,7 +9,7 @@ ghost use Rattle.loft_history.specs.History.{is_open, is_busy, sent_last};
 ghost use Rattle.loft_soundness.specs.Machines.{SentFits};
 ghost use Rattle.loft_soundness.specs.WellFormed.{IsWellFormed};
 ghost use Rattle.loft_tree.specs.NamedFits.{IsScheduler};
-ghost use Rattle.loft_world.specs.State.{IsToOne, IsForClients};
+ghost use Rattle.loft_world.specs.State.{IsToOne, IsForClients, IsQuiet};
 ghost use Rattle.loft_seat.specs.Seats.{entries_of, HasSame, HasMore, Takes, Idles, Picks, Finds};
 
 use crate::seat::Seat;
@@ -83,6 +83,21 @@ pub fn give<R: Wait>(
     seat.length = held.world().length();
     b.release(rt, held, &mut seat.pass);
     done
+}
+
+/// Whether nothing waits for anybody, as a scheduler finds it: no thread for a worker, and no order for
+/// a scheduler. It makes no entry.
+pub fn sees_quiet<R: Wait>(rt: &R, b: &Baton, c: &Code, seat: &mut Seat, s: SchedId) -> bool
+    requires seat { HasSame b.now c.now (Sched s) seat.old seat.old }
+    ensures kept { HasSame b.now c.now (Sched s) seat.old seat.new }
+    ensures quiet { IsTrue result → IsQuiet c.now.heads seat.new.pass.knows.seen }
+{
+    let (_code, _scheduler) = (c, s);
+    let mut held = b.hold(rt, &mut seat.pass);
+    let quiet = held.world().is_quiet();
+    seat.length = held.world().length();
+    b.release(rt, held, &mut seat.pass);
+    quiet
 }
 
 /// A worker picks the thread that has waited longest. None where no thread waits. Out of memory, no

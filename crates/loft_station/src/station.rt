@@ -1,6 +1,6 @@
 //! A scheduler that goes on by itself.
 
-ghost use Rattle.std.specs.Prelude.{◌≡◌, ◌∷◌, ◌++◌, [], List, Some, false, IfOk, IfNone, IfSome, OnErr, OnOk};
+ghost use Rattle.std.specs.Prelude.{◌≡◌, ◌∷◌, ◌++◌, [], List, Some, false, IsTrue, IfOk, IfNone, IfSome, OnErr, OnOk};
 ghost use Rattle.loft_code.specs.View.{automata_of};
 ghost use Rattle.loft_code.specs.declared.raw.CodeProgram.{CodeProgram};
 ghost use Rattle.loft_orders.specs.declared.entry.Actor.TheVariants.{Sched};
@@ -12,13 +12,14 @@ ghost use Rattle.loft_seat.specs.Seats.{entries_of, IsNewPass};
 ghost use Rattle.loft_station.specs.Stations.{IsKept, IsReady, HasTaken, IsSame, Turned};
 ghost use Rattle.loft_station.specs.Stations.{AddedTakeAtMost, HasMade, WentOn};
 ghost use Rattle.loft_tree.specs.NamedFits.{IsScheduler};
+ghost use Rattle.loft_world.specs.State.{IsQuiet};
 
 use crate::room::make_room;
 use loft_base::{Gate, NoMemory, SchedId, Sequence, Turn};
 use loft_baton::{Baton, Pass};
 use loft_code::Code;
 use loft_orders::{Actor, Orders};
-use loft_seat::{Seat, code_is_well_formed, give, take};
+use loft_seat::{Seat, code_is_well_formed, give, sees_quiet, take};
 use loft_sense::Engine;
 use loft_turn_parts::make_instant;
 use loft_world::{NoteList, World};
@@ -217,6 +218,18 @@ impl<E: Engine> Station<E> {
         make_room(alloc);
         let done = self.turns(rt, alloc, b, c, g);
         self.refused = done.is_err();
+    }
+
+    /// Whether nothing waits for anybody, as it finds it: no thread for a worker, and no order for a
+    /// scheduler. It may wait, and makes no entry.
+    pub fn finds_quiet<R: Wait>(&mut self, rt: &R, b: &Baton, c: &Code) -> bool
+        requires ready { IsReady b.now c.now self.old }
+        ensures ready { IsReady b.now c.now self.new }
+        ensures same { IsSame self.old self.new }
+        ensures entries { entries_of self.new.seat ≡ entries_of self.old.seat }
+        ensures quiet { IsTrue result → IsQuiet c.now.heads self.new.seat.pass.knows.seen }
+    {
+        sees_quiet(rt, b, c, &mut self.seat, self.s)
     }
 
     /// Whether memory was refused in its last phase.

@@ -2,12 +2,14 @@
 use Rattle.std.proofs.Common.{◌≡◌, ℕ, ◌+◌, ◌<◌, ◌≤◌, ◌==◌, suc, Bool, true, false, ◌&&◌, List, [], ◌∷◌, ◌++◌, drop, length, set, get_or, refl, sym, ap, ◌∙◌, subst, arith, Result, Ok, Err, eq-eqb, ne_eqb, length-set, get_or-set_same, get_or-set_other, zero-add, take}
 use Rattle.std.proofs.lemmas.List.{take_at, set-set, set-get_or}
 use Prim.Native.Nat.{zero}
-use Rattle.std.specs.Prelude.{if◌then◌else◌, OnOk, OnErr}
+use Rattle.std.specs.Prelude.{if◌then◌else◌, OnOk, OnErr, slice_index_or}
+use Rattle.std.specs.List.{All}
 use Rattle.std.proofs.lemmas.Bool.{cases_eq}
 use Rattle.std.proofs.lemmas.List.Sums.{fold_push}
 use mathlib.Core.Logic.{◌⊎◌, inl, inr}
 use Rattle.loft_base.specs.declared.ids.SchedId.{SchedId}
 use Rattle.loft_tree.specs.declared.heads.Heads.{Heads}
+use Rattle.loft_tree.specs.NamedFits.{IsScheduler}
 use Rattle.loft_orders.specs.declared.entry.Entry.{Entry}
 use Rattle.loft_orders.specs.declared.entry.Entry.TheVariants.{Take, Give, Pick, Post, Client}
 use Rattle.loft_orders.specs.declared.order.Order.{Order}
@@ -16,7 +18,7 @@ use Rattle.loft_orders.specs.declared.thread.Thread.{Thread}
 use Rattle.loft_sense.specs.Heads.{scheduler}
 use Rattle.loft_history.specs.History.{sends, orders_to, starts_of, waiting_after, waiting, jobs_sent, jobs_after, jobs, is_create, creates_after, creates, creates_step, jobs_step, waiting_step}
 use Rattle.loft_history.specs.Legal.{AtEach, TakesDue, IsFirst}
-use Rattle.loft_world.specs.State.{each_with, IsWorld, IsSending}
+use Rattle.loft_world.specs.State.{each_with, IsWorld, IsSending, IsQuiet}
 
 -- ---- entries in order
 
@@ -243,3 +245,19 @@ client_added h es fs waits lists threads jobs_now count counted c copy sent w is
     same_world h (es ++ Client c sent ∷ []) fs (each_with 0 (sent ∷ []) waits) lists (threads ++ jobs_sent (sent ∷ [])) jobs_now counted
     (a ∙ ap (λ (m : Sent). es ++ Client c m ∷ []) is) b g
     (sending h es waits threads count counted (Client c sent) (sent ∷ []) w tt refl counts)
+
+-- ---- what waits
+
+none_there : {A : Type 0} (xs : List A) → length xs ≡ 0 → xs ≡ []
+none_there [] none = refl
+none_there (x ∷ xs) none = absurd (omega (arith, none))
+
+-- nothing waits where no list has an element
+pub quiet : (h : Heads) (es : List Entry) (waits : List (List Order)) (threads : List Thread) (count : ℕ → ℕ) → IsWorld h es waits threads count
+    → length (jobs es) ≡ 0 → All (λ (orders : List Order). length orders ≡ 0) waits → IsQuiet h es
+quiet h es waits threads count world none empty = record { no_jobs = none_there (jobs es) none; no_orders = orders }
+  where
+    orders : (s : SchedId) → IsScheduler h s → waiting h s es ≡ []
+    orders s lt =
+        let within : s.0 < length waits = omega (arith, lt, world.orders.many) in
+        sym (world.orders.each s.0 [] lt) ∙ none_there (slice_index_or waits s.0 []) (empty s.0 [] within)

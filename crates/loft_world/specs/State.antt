@@ -2,6 +2,7 @@
 use Rattle.std.specs.Prelude.{◌≡◌, ℕ, ◌+◌, ◌<◌, List, [], ◌∷◌, ◌++◌, length, slice_index_or, unwrap_or}
 use Rattle.std.specs.Ordering.{nat_cmp}
 use Rattle.std.specs.BTreeMap.{BTreeMap, get}
+use Rattle.loft_base.specs.declared.ids.SchedId.{SchedId}
 use Rattle.loft_tree.specs.declared.heads.Heads.{Heads}
 use Rattle.loft_tree.specs.NamedFits.{IsScheduler}
 use Rattle.loft_orders.specs.declared.entry.Entry.{Entry}
@@ -38,6 +39,11 @@ abbrev pub IsForClients : Order → Type 0
 IsForClients (Arrive t) = ⊥
 IsForClients (Ended t end) = ⊥
 IsForClients order = Unit {0}
+
+-- nothing waits for anybody after this history: no thread for a worker, and no order for a scheduler
+pub record IsQuiet (h : Heads) (es : List Entry) : Type 0 where
+  pub no_jobs : jobs es ≡ []
+  pub no_orders : (s : SchedId) → IsScheduler h s → waiting h s es ≡ []
 
 -- ---- what lies beside the history
 

@@ -1,12 +1,13 @@
 //! The world: one history, and what waits beside it.
 
-ghost use Rattle.std.specs.Prelude.{◌≡◌, ◌+◌, ◌-◌, ◌≤◌, ◌<◌, [], ◌∷◌, ◌++◌, true, false, length, slice_get, Some, IfOk, OnOk, OnErr, MatchOption};
+ghost use Rattle.std.specs.Prelude.{◌≡◌, ◌+◌, ◌-◌, ◌≤◌, ◌<◌, [], ◌∷◌, ◌++◌, true, false, length, slice_get, Some, IsTrue, IfOk, OnOk, OnErr, MatchOption};
+ghost use Rattle.std.specs.List.{All};
 ghost use Rattle.loft_orders.specs.declared.entry.Entry.TheVariants as entry;
 ghost use Rattle.loft_sense.specs.Heads.{home};
 ghost use Rattle.loft_history.specs.History.{sends, waiting, jobs, creates, is_open, is_busy, is_create, jobs_sent};
 ghost use Rattle.loft_history.specs.Legal.{IsRouted};
 ghost use Rattle.loft_tree.specs.NamedFits.{IsScheduler};
-ghost use Rattle.loft_world.specs.State.{no_entries, with_entry, each_with, IsSending, IsToOne, IsForClients};
+ghost use Rattle.loft_world.specs.State.{no_entries, with_entry, each_with, IsSending, IsToOne, IsForClients, IsQuiet};
 
 use crate::counts::{Counts, add_one_if, count_in, make_room};
 use crate::orders::add_all;
@@ -57,6 +58,14 @@ fn is_create(order: &Order) -> bool
         | Order::Broadcast { .. }
         | Order::Ended { .. } => false,
     }
+}
+
+/// Whether nobody waits: so many threads wait for workers, and these orders for the schedulers.
+fn nobody_waits(jobs: usize, waits: &[Orders]) -> bool
+    ensures jobs { IsTrue result → jobs ≡ 0 }
+    ensures orders { IsTrue result → All (λ orders. length orders ≡ 0) waits.now }
+{
+    jobs == 0 && waits.iter().all(|orders| orders.is_empty())
 }
 
 impl World {
@@ -202,6 +211,13 @@ impl World {
         ensures { result ≡ length (jobs self.now.history) }
     {
         self.jobs.len()
+    }
+
+    /// Whether nothing waits for anybody: no thread for a worker, and no order for a scheduler.
+    pub fn is_quiet(&self) -> bool
+        ensures { IsTrue result → IsQuiet self.now.heads self.now.history }
+    {
+        nobody_waits(self.jobs(), self.waits.as_slice())
     }
 
     /// How many entries the history has. In it each batch is what waited for its scheduler, and
